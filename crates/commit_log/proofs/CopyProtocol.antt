@@ -1,10 +1,31 @@
 -- What a device reads and a crash leaves while some of its sectors alone are written, how far a copy of a map has come, and how it ends:
 -- its records are settled, and then its head is written.
-use Rattle.commit_log.proofs.Words.{common_steps, ⊎_elim, ℕ, ◌≤◌, ◌<◌, ◌≢◌, ◌≡◌, ◌+◌, ◌-◌, List, take, drop, refl, sym, ◌∙◌, ap, arith, inl, inr, [], ◌∷◌, set, slice_get, Some, subst, ◌*◌, ◌/◌, ◌++◌, length, min, replicate, append_assoc, length-append, take-take, drop-drop, append-nil, Ghosts, FollowsWrite, FollowsWrites, Settles, IsSettled, IsSameElsewhere, LeavesNoMore, LeavesOnly, ReadsNoMore, ReadsNoMoreOutside, TimeGoesOn, of_none, of_one_more, of_more, KeyWrite, KeyMap, payload_size, LeavesAsBefore, OnlyReads, log_sectors, open_record, ReadsFrom, LeavesZeros, IsCopyOrNoLog, IsCopyStep, LeavesSteps, puts, write_sets_of, current, head_sector, closed_gate, first_digest, open_gate, sectors_for, body_sectors, padded_body, record_body, record_digest, IsLogImage, span, last_digest, next_index, IsSameBefore, OnlyWrites}
+use Rattle.std.proofs.Common.{⊎_elim, ℕ, ◌≤◌, ◌<◌, ◌≢◌, ◌≡◌, ◌+◌, ◌-◌, List, take, drop, refl, sym, ◌∙◌, ap, arith}
+use Rattle.std.proofs.Common.{inl, inr, [], ◌∷◌, set, slice_get, Some, subst, ◌*◌, ◌/◌, ◌++◌, length, min, replicate}
+use Rattle.std.proofs.Common.{append_assoc, length-append}
+use Rattle.std.proofs.lemmas.Grind.{common_steps}
+use Rattle.std.proofs.lemmas.List.{take-take, drop-drop, append-nil}
+use Rattle.model.specs.Machine.{payload_size}
+use Rattle.model.specs.Map.{KeyWrite, KeyMap}
+use Rattle.sector.proofs.Crashes.{of_none, of_one_more, of_more}
 use Rattle.sector.proofs.Runs.{writes_on}
-use Rattle.commit_log.proofs.{Calls.Passes, Calls.Leaves, Calls.leaves_no_more, Encoding.payload_size_is, Encoding.body_sectors_is}
-use Rattle.commit_log.proofs.Records.{closed_gate_shut, slice_get_there, span-append, next_index-is, last_digest-push, length-log_sectors, log_made, first_of_log, set_first, log_if_head, zeros_are_no_log, same_first, log_sectors-push, reads_more, record_sectors}
+use Rattle.sector.specs.SectorModel.{FollowsWrite, FollowsWrites, Settles, IsSettled, IsSameElsewhere, LeavesNoMore}
+use Rattle.sector.specs.SectorModel.{LeavesOnly, ReadsNoMore, ReadsNoMoreOutside, TimeGoesOn}
+use Rattle.sector.specs.declared.device.Sectors.{Ghosts}
+use Rattle.commit_log.proofs.Calls.{Passes, Leaves, leaves_no_more}
+use Rattle.commit_log.proofs.Encoding.{payload_size_is, body_sectors_is}
 use Rattle.commit_log.proofs.Putting.{AreWriteSets, no_sets, sets_split, next_set}
+use Rattle.commit_log.proofs.Records.{closed_gate_shut, slice_get_there, span-append, next_index-is, last_digest-push}
+use Rattle.commit_log.proofs.Records.{length-log_sectors, log_made, first_of_log, set_first, log_if_head}
+use Rattle.commit_log.proofs.Records.{zeros_are_no_log, same_first, log_sectors-push, reads_more, record_sectors}
+use Rattle.commit_log.specs.Copying.{log_sectors, open_record, ReadsFrom, LeavesZeros, IsCopyOrNoLog, IsCopyStep}
+use Rattle.commit_log.specs.Copying.{LeavesSteps, puts, write_sets_of}
+use Rattle.commit_log.specs.Format.{current, head_sector}
+use Rattle.commit_log.specs.LogImage.{IsLogImage, span, last_digest, next_index}
+use Rattle.commit_log.specs.LogState.{IsSameBefore, OnlyWrites}
+use Rattle.commit_log.specs.Reading.{LeavesAsBefore, OnlyReads}
+use Rattle.commit_log.specs.RecordFormat.{closed_gate, first_digest, open_gate, sectors_for, body_sectors}
+use Rattle.commit_log.specs.RecordFormat.{padded_body, record_body, record_digest}
 
 as_before : (at n : ℕ) (base : List (List ℕ) → Type 0) (c : List (List ℕ)) → base c → FollowsWrites at n base c
 as_before at n base c left = (c, left, record { size = refl; before = refl; behind = refl })
@@ -13,7 +34,8 @@ as_before at n base c left = (c, left, record { size = refl; before = refl; behi
 drop_behind : (m n : ℕ) (c d : List (List ℕ)) → m ≤ n → drop m c ≡ drop m d → drop n c ≡ drop n d
 drop_behind m n c d le same =
     let whole : m + (n - m) ≡ n = omega arith in
-    ap (λ (k : ℕ). drop k c) (sym whole) ∙ sym (drop-drop (n - m) m c) ∙ ap (λ (l : List (List ℕ)). drop (n - m) l) same ∙ drop-drop (n - m) m d ∙ ap (λ (k : ℕ). drop k d) whole
+    ap (λ (k : ℕ). drop k c) (sym whole) ∙ sym (drop-drop (n - m) m c) ∙ ap (λ (l : List (List ℕ)). drop (n - m) l) same ∙ drop-drop (n - m) m d
+    ∙ ap (λ (k : ℕ). drop k d) whole
 
 runs_on : (at n i m : ℕ) (base old : List (List ℕ) → Type 0) → at ≤ i → i + m ≤ at + n → ((c : List (List ℕ)) → old c → FollowsWrites at n base c)
     → (c : List (List ℕ)) → FollowsWrites i m old c → FollowsWrites at n base c
@@ -27,13 +49,15 @@ module _ {D : Type 0} (S : Ghosts D) where
     nothing_yet = grind (arith, common_steps, as_before, of_none)
 
     -- one call of many writes
-    pub sectors_written : (new : D) → ReadsNoMoreOutside at n (S.may_read start) (S.may_read new) → LeavesNoMore (FollowsWrites at n (S.may_leave start)) (S.may_leave new)
+    pub sectors_written : (new : D) → ReadsNoMoreOutside at n (S.may_read start) (S.may_read new)
+        → LeavesNoMore (FollowsWrites at n (S.may_leave start)) (S.may_leave new)
         → TimeGoesOn S.moment S.left_since start new (FollowsWrites at n (S.may_leave start)) → OnlyWrites S at n start new
     sectors_written new others follows time = grind (arith, common_steps, of_one_more, nothing_yet)
 
   module _ (at n : ℕ) (start now next : D) (so_far : OnlyWrites S at n start now) where
     -- one sector more
-    pub one_write : (i : ℕ) → at ≤ i → i < at + n → ((j : ℕ) (s : List ℕ) → j ≢ i → S.may_read next j s → S.may_read now j s) → FollowsWrite i (S.may_leave now) (S.may_leave next) → Passes S now next → OnlyWrites S at n start next
+    pub one_write : (i : ℕ) → at ≤ i → i < at + n → ((j : ℕ) (s : List ℕ) → j ≢ i → S.may_read next j s → S.may_read now j s)
+        → FollowsWrite i (S.may_leave now) (S.may_leave next) → Passes S now next → OnlyWrites S at n start next
     one_write i le lt others follows time = grind (arith, common_steps, writes_on, of_one_more)
 
     -- many sectors more
@@ -43,11 +67,13 @@ module _ {D : Type 0} (S : Ghosts D) where
         grind (arith, common_steps, of_more)
 
     -- a call that writes nothing
-    pub no_write : ReadsNoMore (S.may_read now) (S.may_read next) → LeavesNoMore (S.may_leave now) (S.may_leave next) → Passes S now next → OnlyWrites S at n start next
+    pub no_write : ReadsNoMore (S.may_read now) (S.may_read next) → LeavesNoMore (S.may_leave now) (S.may_leave next) → Passes S now next
+        → OnlyWrites S at n start next
     no_write reads fewer time = grind (arith, common_steps, of_one_more)
 
   -- a sync that succeeded
-  pub settled_reads : (now next : D) (size : ℕ) → Settles size (S.may_read now) (S.may_read next) (S.may_leave now) (S.may_leave next) → ReadsNoMore (S.may_read now) (S.may_read next)
+  pub settled_reads : (now next : D) (size : ℕ) → Settles size (S.may_read now) (S.may_read next) (S.may_leave now) (S.may_leave next)
+      → ReadsNoMore (S.may_read now) (S.may_read next)
   settled_reads now next size settles j s read = settles.was_read j s (settles.settled.read j s read)
 
   -- calls that only read
@@ -68,7 +94,8 @@ module _ {D : Type 0} (S : Ghosts D) (lists : List (List KeyWrite)) where
     pub left : (c : List (List ℕ)) → S.may_leave now c → c ≡ image
     pub log : IsLogImage current lists (set image 0 (head_sector current))
 
-  pub ready : (now next : D) (size : ℕ) → 2 + span lists ≤ size → AreWriteSets lists → ReadsFrom (S.may_read now) 1 (log_sectors lists 0 first_digest) → ReadsFrom (S.may_read now) (1 + span lists) (closed_gate ∷ [])
+  pub ready : (now next : D) (size : ℕ) → 2 + span lists ≤ size → AreWriteSets lists → ReadsFrom (S.may_read now) 1 (log_sectors lists 0 first_digest)
+      → ReadsFrom (S.may_read now) (1 + span lists) (closed_gate ∷ [])
       → Settles size (S.may_read now) (S.may_read next) (S.may_leave now) (S.may_leave next) → Ready next
   ready now next size room proper records shut settles =
       let image : List (List ℕ) = settles.image in
@@ -79,26 +106,32 @@ module _ {D : Type 0} (S : Ghosts D) (lists : List (List KeyWrite)) where
         log = log_made lists image closed_gate proper (omega (arith, settles.settled.size_is))
             (λ k i lt at.
             let found = there i (omega arith) in
-            found.1 ∙ ap (λ (s : List ℕ). Some s) (records k found.0 (omega (arith, length-log_sectors lists 0 first_digest)) (subst (λ (n : ℕ). S.may_read now n found.0) at (settles.was_read i found.0 found.1))))
+            found.1 ∙ ap (λ (s : List ℕ). Some s)
+            (records k found.0 (omega (arith, length-log_sectors lists 0 first_digest))
+            (subst (λ (n : ℕ). S.may_read now n found.0) at (settles.was_read i found.0 found.1))))
             (λ i at.
             let found = there i (omega arith) in
             let place : i ≡ 1 + span lists + 0 = omega arith in
-            found.1 ∙ ap (λ (s : List ℕ). Some s) (shut 0 found.0 (omega arith) (subst (λ (n : ℕ). S.may_read now n found.0) place (settles.was_read i found.0 found.1))))
+            found.1 ∙ ap (λ (s : List ℕ). Some s)
+            (shut 0 found.0 (omega arith) (subst (λ (n : ℕ). S.may_read now n found.0) place (settles.was_read i found.0 found.1))))
             closed_gate_shut;
       }
 
   -- the head is being written
-  pub being_headed : (now next : D) → Ready now → FollowsWrite 0 (S.may_leave now) (S.may_leave next) → (c : List (List ℕ)) → S.may_leave next c → IsAllButFirst c
+  pub being_headed : (now next : D) → Ready now → FollowsWrite 0 (S.may_leave now) (S.may_leave next) → (c : List (List ℕ)) → S.may_leave next c
+      → IsAllButFirst c
   being_headed now next is follows c left = grind (arith, common_steps, set_first)
 
   -- the sync that settles the head
-  pub headed : (now next : D) (size : ℕ) → 1 ≤ size → ((c : List (List ℕ)) → S.may_leave now c → IsAllButFirst c) → ((s : List ℕ) → S.may_read now 0 s → s ≡ head_sector current)
+  pub headed : (now next : D) (size : ℕ) → 1 ≤ size → ((c : List (List ℕ)) → S.may_leave now c → IsAllButFirst c)
+      → ((s : List ℕ) → S.may_read now 0 s → s ≡ head_sector current)
       → Settles size (S.may_read now) (S.may_read next) (S.may_leave now) (S.may_leave next)
       → (image : List (List ℕ)) × IsSettled size (S.may_read next) (S.may_leave next) image × IsLogImage current lists image
   headed now next size some is written settles =
       let image : List (List ℕ) = settles.image in
       let found = slice_get_there image 0 (omega (arith, settles.settled.size_is)) in
-      let head : slice_get image 0 ≡ Some (head_sector current) = found.1 ∙ ap (λ (s : List ℕ). Some s) (written found.0 (settles.was_read 0 found.0 found.1)) in
+      let head : slice_get image 0 ≡ Some (head_sector current) =
+      found.1 ∙ ap (λ (s : List ℕ). Some s) (written found.0 (settles.was_read 0 found.0 found.1)) in
       (image, settles.settled, log_if_head lists image (all_but_first image (is image settles.was_left)) head)
 
   module _ (start : D) where
@@ -110,17 +143,20 @@ module _ {D : Type 0} (S : Ghosts D) (lists : List (List KeyWrite)) where
     same_before : (c : List (List ℕ)) → FollowsWrites 1 (1 + span lists) (S.may_leave start) c → IsSameBefore 1 (S.may_leave start) c
     same_before c from = (from.0, from.1, from.2.before)
 
-    pub records_written : (now : D) → ((d : D) (c : List (List ℕ)) → S.left_since d (S.moment d) c → S.may_leave d c) → OnlyWrites S 1 (1 + span lists) start now → Copying now
+    pub records_written : (now : D) → ((d : D) (c : List (List ℕ)) → S.left_since d (S.moment d) c → S.may_leave d c)
+        → OnlyWrites S 1 (1 + span lists) start now → Copying now
     records_written now only_now alone = grind (arith, common_steps, many_writes, nothing_yet, same_before)
 
     -- a sync
-    pub stays : (now next : D) → Copying now → ReadsNoMore (S.may_read now) (S.may_read next) → LeavesNoMore (S.may_leave now) (S.may_leave next) → Passes S now next → Copying next
+    pub stays : (now next : D) → Copying now → ReadsNoMore (S.may_read now) (S.may_read next) → LeavesNoMore (S.may_leave now) (S.may_leave next)
+        → Passes S now next → Copying next
     stays now next so_far reads fewer time = grind (arith, common_steps, no_write, leaves_no_more)
 
     pub head_written : (now next : D) → Ready now → Copying now → ((j : ℕ) (s : List ℕ) → j ≢ 0 → S.may_read next j s → S.may_read now j s)
         → FollowsWrite 0 (S.may_leave now) (S.may_leave next) → Passes S now next → Copying next
     head_written now next is so_far others follows time =
-        let step : (c : List (List ℕ)) → S.may_leave next c → IsCopyStep lists (S.may_leave start) c = λ c left. inr (being_headed now next is follows c left) in
+        let step : (c : List (List ℕ)) → S.may_leave next c → IsCopyStep lists (S.may_leave start) c =
+        λ c left. inr (being_headed now next is follows c left) in
         record {
           alone = one_write S 0 (2 + span lists) start now next so_far.alone 0 (omega arith) (omega arith) others follows time;
           steps = record { left = step; is = λ c h. h; time = of_one_more so_far.steps.time time step };
@@ -132,7 +168,8 @@ module _ {D : Type 0} (S : Ghosts D) (lists : List (List KeyWrite)) where
     pub still_first : (now : D) → LeavesAsBefore S start now → LeavesSteps S lists start now
     still_first now time = grind (arith, common_steps, ⊎_elim)
 
-    pub after_reads : (now next : D) → LeavesAsBefore S start now → LeavesNoMore (S.may_leave start) (S.may_leave now) → LeavesSteps S lists now next → LeavesSteps S lists start next
+    pub after_reads : (now next : D) → LeavesAsBefore S start now → LeavesNoMore (S.may_leave start) (S.may_leave now) → LeavesSteps S lists now next
+        → LeavesSteps S lists start next
     after_reads now next first fewer second = grind (arith, common_steps, of_more)
 
     -- where zeros were there, no log is there before the finished one
@@ -162,7 +199,8 @@ pub record Copied {D : Type 0} (S : Ghosts D) (start : D) (m : KeyMap) (now : D)
   pub reads : S.keeps_model → ReadsFrom (S.may_read now) 1 (log_sectors done 0 first_digest)
   pub within : S.keeps_model → OnlyWrites S 1 (1 + span (write_sets_of m)) start now
 
-pub none_copied : {D : Type 0} (S : Ghosts D) (start : D) (m pairs : KeyMap) → pairs ≡ m → (S.keeps_model → (d : D) (c : List (List ℕ)) → S.left_since d (S.moment d) c → S.may_leave d c)
+pub none_copied : {D : Type 0} (S : Ghosts D) (start : D) (m pairs : KeyMap) → pairs ≡ m
+    → (S.keeps_model → (d : D) (c : List (List ℕ)) → S.left_since d (S.moment d) c → S.may_leave d c)
     → Copied S start m start pairs 1 0 (replicate 32 0)
 unfolding first_digest
 none_copied S start m pairs same only_now = record {
@@ -179,29 +217,39 @@ length_le_span : (lists : List (List KeyWrite)) → length lists ≤ span lists
 length_le_span [] = omega arith
 length_le_span (x ∷ lists) = omega (arith, length_le_span lists)
 
-module _ {D : Type 0} (S : Ghosts D) (start : D) (m : KeyMap) (now : D) (pairs : KeyMap) (gate records : ℕ) (digest : List ℕ) (copied : Copied S start m now pairs gate records digest) where
+module _ {D : Type 0} (S : Ghosts D) (start : D) (m : KeyMap) (now : D) (pairs : KeyMap) (gate records : ℕ) (digest : List ℕ)
+    (copied : Copied S start m now pairs gate records digest) where
   pub in_range : (records < gate) × (gate ≤ 1 + span (write_sets_of m))
-  in_range = (omega (arith, copied.gate_is, copied.records_are, length_le_span copied.done), omega (arith, copied.gate_is, ap span copied.joined, span-append copied.done (write_sets_of pairs)))
+  in_range = (
+    omega (arith, copied.gate_is, copied.records_are, length_le_span copied.done),
+    omega (arith, copied.gate_is, ap span copied.joined, span-append copied.done (write_sets_of pairs)),
+  )
 
   -- the next record's end is in range
   pub next_gate_le : (n len : ℕ) → NextSet pairs n len → gate + (1 + sectors_for len) ≤ 1 + span (write_sets_of m)
   next_gate_le n len next = omega (arith, copied.gate_is, next.span_is, ap span copied.joined, span-append copied.done (write_sets_of pairs))
 
   -- its record is written within the log's sectors
-  pub record_within : (next : D) (n len size : ℕ) → NextSet pairs n len → size ≡ 512 * body_sectors (puts (take n pairs)) → OnlyWrites S 1 (1 + span (write_sets_of m)) start now
+  pub record_within : (next : D) (n len size : ℕ) → NextSet pairs n len → size ≡ 512 * body_sectors (puts (take n pairs))
+      → OnlyWrites S 1 (1 + span (write_sets_of m)) start now
       → OnlyWrites S gate (1 + size / 512) now next → OnlyWrites S 1 (1 + span (write_sets_of m)) start next
   record_within next n len size set long so_far more =
-      many_writes S 1 (1 + span (write_sets_of m)) start now next so_far gate (1 + size / 512) (omega (arith, copied.gate_is)) (omega (arith, long, set.sectors, next_gate_le n len set)) more
+      many_writes S 1 (1 + span (write_sets_of m)) start now next so_far gate (1
+      + size / 512) (omega (arith, copied.gate_is)) (omega (arith, long, set.sectors, next_gate_le n len set)) more
 
   -- so is the closed gate
-  pub last_gate : (next : D) → S.keeps_model → ((j : ℕ) (s : List ℕ) → j ≢ gate → S.may_read next j s → S.may_read now j s) → FollowsWrite gate (S.may_leave now) (S.may_leave next)
+  pub last_gate : (next : D) → S.keeps_model → ((j : ℕ) (s : List ℕ) → j ≢ gate → S.may_read next j s → S.may_read now j s)
+      → FollowsWrite gate (S.may_leave now) (S.may_leave next)
       → Passes S now next → OnlyWrites S 1 (1 + span (write_sets_of m)) start next
   last_gate next keeps others follows time =
-      one_write S 1 (1 + span (write_sets_of m)) start now next (copied.within keeps) gate (omega (arith, copied.gate_is)) (omega (arith, in_range.1)) others follows time
+      one_write S 1 (1 + span (write_sets_of m)) start now next (copied.within keeps) gate (omega (arith, copied.gate_is)) (omega (arith, in_range.1)) others
+      follows time
 
 -- one record more
-pub copied_more : {D : Type 0} (S : Ghosts D) (start : D) (m : KeyMap) (now next : D) (pairs after : KeyMap) (gate later records n len : ℕ) (digest body made : List ℕ) → Copied S start m now pairs gate records digest
-    → NextSet pairs n len → later ≡ gate + (1 + sectors_for len) → after ≡ drop n pairs → body ≡ padded_body digest records (puts (take n pairs)) → length body ≡ 512 * body_sectors (puts (take n pairs)) → made ≡ record_digest digest records (puts (take n pairs))
+pub copied_more : {D : Type 0} (S : Ghosts D) (start : D) (m : KeyMap) (now next : D) (pairs after : KeyMap) (gate later records n len : ℕ)
+    (digest body made : List ℕ) → Copied S start m now pairs gate records digest
+    → NextSet pairs n len → later ≡ gate + (1 + sectors_for len) → after ≡ drop n pairs → body ≡ padded_body digest records (puts (take n pairs))
+    → length body ≡ 512 * body_sectors (puts (take n pairs)) → made ≡ record_digest digest records (puts (take n pairs))
     → (S.keeps_model → ReadsFrom (S.may_read next) gate (open_record body))
     → (S.keeps_model → OnlyWrites S gate (1 + length body / 512) now next) → Copied S start m next after later (records + 1) made
 copied_more S start m now next pairs after gate later records n len digest body made copied set later_is after_is body_is size made_is reads added =
@@ -219,19 +267,23 @@ copied_more S start m now next pairs after gate later records n len digest body 
       digest_is = cc (last_digest-push done writes 0 first_digest, copied.digest_is, index);
       reads = λ keeps.
           subst (λ (l : List (List ℕ)). ReadsFrom (S.may_read next) 1 l) (sym (log_sectors-push done writes 0 first_digest))
-          (reads_more (S.may_read now) (S.may_read next) 1 (log_sectors done 0 first_digest) (open_gate ∷ record_body (last_digest done 0 first_digest) (next_index done 0) writes) (copied.reads keeps) (rw (place, ← sectors) (reads keeps))
+          (reads_more (S.may_read now) (S.may_read next) 1 (log_sectors done 0 first_digest) (open_gate
+          ∷ record_body (last_digest done 0 first_digest) (next_index done 0) writes) (copied.reads keeps) (rw (place, ← sectors) (reads keeps))
           (λ i s lt read. (added keeps).others i s (inl (omega (arith, place))) read));
       within = λ keeps. record_within S start m now pairs gate records digest copied next n len (length body) set size (copied.within keeps) (added keeps);
     }
 
-module _ {D : Type 0} (S : Ghosts D) (start : D) (m : KeyMap) (now : D) (pairs : KeyMap) (gate records : ℕ) (digest : List ℕ) (copied : Copied S start m now pairs gate records digest) where
+module _ {D : Type 0} (S : Ghosts D) (start : D) (m : KeyMap) (now : D) (pairs : KeyMap) (gate records : ℕ) (digest : List ℕ)
+    (copied : Copied S start m now pairs gate records digest) where
   -- no pair is left
   module _ (none : length pairs ≡ 0) where
     pub done_are_all : copied.done ≡ write_sets_of m
     done_are_all = cc (append-nil copied.done, no_sets pairs none, copied.joined)
 
-    pub all_read : (next : D) → S.keeps_model → ((i : ℕ) (s : List ℕ) → i ≢ gate → S.may_read next i s → S.may_read now i s) → ReadsFrom (S.may_read next) 1 (log_sectors (write_sets_of m) 0 first_digest)
+    pub all_read : (next : D) → S.keeps_model → ((i : ℕ) (s : List ℕ) → i ≢ gate → S.may_read next i s → S.may_read now i s)
+        → ReadsFrom (S.may_read next) 1 (log_sectors (write_sets_of m) 0 first_digest)
     all_read next keeps others = grind (arith, done_are_all, length-log_sectors)
 
-    pub shut_read : (next : D) (shut : List ℕ) → ((s : List ℕ) → S.may_read next gate s → s ≡ shut) → ReadsFrom (S.may_read next) (1 + span (write_sets_of m)) (shut ∷ [])
+    pub shut_read : (next : D) (shut : List ℕ) → ((s : List ℕ) → S.may_read next gate s → s ≡ shut)
+        → ReadsFrom (S.may_read next) (1 + span (write_sets_of m)) (shut ∷ [])
     shut_read next shut written k s lt read = grind (arith, common_steps, done_are_all)

@@ -6,4 +6,3 @@ pub mod Encoding
 pub mod Protocol
 pub mod Putting
 pub mod CopyProtocol
-pub mod Words

@@ -1,10 +1,22 @@
 -- The puts of a map's pairs, cut into write sets.
-use Rattle.commit_log.proofs.Words.{common_steps, flat_map-append, ◌≡◌, ℕ, zero, suc, ◌<◌, ◌≤◌, ◌+◌, ◌*◌, Bool, ◌&&◌, T, List, [], ◌∷◌, ◌++◌, length, take, drop, Some, All, min, refl, sym, ◌∙◌, ap, subst, arith, append_assoc, length-drop, append-nil, length-take, take_all, drop_all, take-append-drop, flat_map, Greater, IsValue, Bytes, KeyMap, KeyWrite, IsMap, IsInBounds, after_writes, payload_size, current, IsWithinLimits, IsWriteSet, entry_bytes, puts, first_sets, set_count, write_sets_of}
-use Rattle.std.specs.{Cmp.Lexicographic.slice_cmp, Cmp.Lexicographic.nat_list_cmp_total, Ordering.nat_cmp, Ordering.is_lt, Ordering.ordering_reverse}
+use Rattle.std.proofs.Common.{◌≡◌, ℕ, zero, suc, ◌<◌, ◌≤◌, ◌+◌, ◌*◌, Bool, ◌&&◌, T, List, [], ◌∷◌, ◌++◌, length, take}
+use Rattle.std.proofs.Common.{drop, Some, All, min, refl, sym, ◌∙◌, ap, subst, arith, append_assoc, length-drop}
+use Rattle.std.proofs.lemmas.Grind.{common_steps, flat_map-append}
+use Rattle.std.proofs.lemmas.List.{append-nil, length-take, take_all, drop_all, take-append-drop}
+use Rattle.std.specs.Cmp.Lexicographic.{slice_cmp, nat_list_cmp_total}
 use Rattle.std.specs.FinMap.Entries.{put, is_sorted, below_all}
+use Rattle.std.specs.List.{flat_map}
+use Rattle.std.specs.Ordering.{nat_cmp, is_lt, ordering_reverse}
+use Rattle.std.specs.declared.cmp.Ordering.TheVariants.{Greater}
 use Rattle.model.proofs.InOrder.{parts, less, below_right, sorted_take, sorted_drop}
-use Rattle.commit_log.specs.Recovery.{map_after}
+use Rattle.model.specs.Key.{IsValue}
+use Rattle.model.specs.Machine.{payload_size}
+use Rattle.model.specs.Map.{Bytes, KeyMap, KeyWrite, IsMap, IsInBounds, after_writes}
 use Rattle.commit_log.proofs.Encoding.{payload_size-push}
+use Rattle.commit_log.specs.Copying.{puts, first_sets, set_count, write_sets_of}
+use Rattle.commit_log.specs.Format.{current}
+use Rattle.commit_log.specs.RecordFormat.{IsWithinLimits, IsWriteSet, entry_bytes}
+use Rattle.commit_log.specs.Recovery.{map_after}
 
 -- one pair more
 pub pair_more : (m : KeyMap) (i : ℕ) (p : Bytes × Bytes) (rest : KeyMap) → drop i m ≡ p ∷ rest → (take (i + 1) m ≡ take i m ++ p ∷ []) × (drop (i + 1) m ≡ rest)
@@ -81,12 +93,21 @@ put_last (e ∷ m) p rest h =
 
 puts_give : (xs m rest : KeyMap) → IsMap (m ++ (xs ++ rest)) → after_writes m (puts xs) ≡ m ++ xs
 puts_give [] m rest h = sym (append-nil m)
-puts_give (p ∷ xs) m rest h = grind (arith, put_last m p (xs ++ rest) h, puts_give xs (m ++ p ∷ []) rest, append_assoc m (p ∷ []) (xs ++ rest), append_assoc m (p ∷ []) xs)
+puts_give (p ∷ xs) m rest h =
+    grind (arith, put_last m p (xs ++ rest) h, puts_give xs (m ++ p ∷ []) rest, append_assoc m (p ∷ []) (xs ++ rest), append_assoc m (p ∷ []) xs)
 
 sets_give : (n : ℕ) (m rest : KeyMap) → IsMap (m ++ rest) → length rest ≤ 64 * n → map_after m (first_sets n rest) ≡ m ++ rest
 sets_give zero m [] h le = sym (append-nil m)
 sets_give zero m (p ∷ rest) h le = absurd (omega arith)
-sets_give (suc n) m rest h le = grind (arith, take-append-drop 64 rest, puts_give (take 64 rest) m (drop 64 rest), sets_give n (m ++ take 64 rest) (drop 64 rest), append_assoc m (take 64 rest) (drop 64 rest), length-drop 64 rest)
+sets_give (suc n) m rest h le =
+    grind (
+      arith,
+      take-append-drop 64 rest,
+      puts_give (take 64 rest) m (drop 64 rest),
+      sets_give n (m ++ take 64 rest) (drop 64 rest),
+      append_assoc m (take 64 rest) (drop 64 rest),
+      length-drop 64 rest,
+    )
 
 -- the write sets of a map give it
 pub write_sets_give : (m : KeyMap) → IsMap m → map_after [] (write_sets_of m) ≡ m
@@ -122,8 +143,10 @@ set_is_proper m is bounds some = record {
 
 sets_are_proper : (n : ℕ) (m : KeyMap) → IsMap m → IsInBounds m → 64 * n < length m + 64 → AreWriteSets (first_sets n m)
 sets_are_proper zero m is bounds lt = tt
-sets_are_proper (suc n) m is bounds lt =
-    (set_is_proper m is bounds (omega arith), sets_are_proper n (drop 64 m) (sorted_drop (slice_cmp nat_cmp) 64 m is) (bounds_drop 64 m bounds) (omega (arith, length-drop 64 m)))
+sets_are_proper (suc n) m is bounds lt = (
+  set_is_proper m is bounds (omega arith),
+  sets_are_proper n (drop 64 m) (sorted_drop (slice_cmp nat_cmp) 64 m is) (bounds_drop 64 m bounds) (omega (arith, length-drop 64 m)),
+)
 
 pub write_sets_are_proper : (m : KeyMap) → IsMap m → IsInBounds m → AreWriteSets (write_sets_of m)
 unfolding write_sets_of

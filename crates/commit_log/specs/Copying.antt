@@ -1,9 +1,14 @@
 -- A copy of a map: the log whose records put the map's pairs, by rising key, 64 to a record.
-use Rattle.std.specs.Prelude.{◌≡◌, ◌⊎◌, ◌<◌, ℕ, zero, suc, ◌+◌, ◌/◌, List, [], ◌∷◌, ◌++◌, length, take, drop, replicate, slice_get, get_or, Some}
-use Rattle.sector.specs.{declared.device.Sectors.Ghosts, SectorModel.IsSameElsewhere, SectorModel.LeavesNoMore, SectorModel.LeavesOnly}
+use Rattle.std.specs.Prelude.{◌≡◌, ◌⊎◌, ◌<◌, ℕ, zero, suc, ◌+◌, ◌/◌, List, [], ◌∷◌, ◌++◌, length, take, drop}
+use Rattle.std.specs.Prelude.{replicate, slice_get, get_or, Some}
 use Rattle.model.specs.Map.{KeyMap, KeyWrite}
-use Rattle.commit_log.specs.{Format.current, Format.head_sector, LogImage.IsLogImage, LogImage.span, LogState.IsSameBefore, declared.faults.LogFault.LogFault}
+use Rattle.sector.specs.SectorModel.{IsSameElsewhere, LeavesNoMore, LeavesOnly}
+use Rattle.sector.specs.declared.device.Sectors.{Ghosts}
+use Rattle.commit_log.specs.Format.{current, head_sector}
+use Rattle.commit_log.specs.LogImage.{IsLogImage, span}
+use Rattle.commit_log.specs.LogState.{IsSameBefore}
 use Rattle.commit_log.specs.RecordFormat.{first_digest, open_gate, record_body, record_digest, sectors_in}
+use Rattle.commit_log.specs.declared.faults.LogFault.{LogFault}
 use Rattle.commit_log.specs.declared.faults.LogFault.TheVariants.{Full, Device, Memory, NotEmpty}
 
 -- a put of each pair
@@ -44,7 +49,8 @@ open_record body = open_gate ∷ sectors_in (length body / 512) body
 
 -- reads from this sector on give these sectors
 abbrev pub ReadsFrom : (ℕ → List ℕ → Type 0) → ℕ → List (List ℕ) → Type 0
-ReadsFrom may_read at sectors = (k : ℕ) (s : List ℕ) → k < length sectors → may_read (at + k) s → s ≡ get_or sectors k []
+ReadsFrom may_read at sectors = (k : ℕ) (s : List ℕ) → k < length sectors → may_read (at + k) s
+    → s ≡ get_or sectors k []
 
 -- a sector of zeros
 unfoldable pub zero_sector : List ℕ
@@ -62,9 +68,11 @@ LeavesZeros may_leave = LeavesNoMore IsBlank may_leave
 abbrev pub IsCopyOrNoLog : List (List KeyWrite) → List (List ℕ) → Type 0
 IsCopyOrNoLog lists c = IsLogImage current lists c ⊎ (slice_get c 0 ≡ Some (head_sector current) → ⊥)
 
--- The first sector is as a crash might have left it before, or the image is the finished log of these write sets but for its first sector.
+-- The first sector is as a crash might have left it before, or the image is the finished log of these write sets but
+-- for its first sector.
 abbrev pub IsCopyStep : List (List KeyWrite) → (List (List ℕ) → Type 0) → List (List ℕ) → Type 0
-IsCopyStep lists may_leave c = IsSameBefore 1 may_leave c ⊎ ((image : List (List ℕ)) × IsLogImage current lists image × IsSameElsewhere 0 image c)
+IsCopyStep lists may_leave c =
+    IsSameBefore 1 may_leave c ⊎ ((image : List (List ℕ)) × IsLogImage current lists image × IsSameElsewhere 0 image c)
 
 -- so is an image that a crash since old leaves
 abbrev pub LeavesSteps : {D : Type 0} → Ghosts D → List (List KeyWrite) → D → D → Type 0

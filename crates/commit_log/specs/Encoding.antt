@@ -1,8 +1,9 @@
 -- The body of a record while its entries are added.
-use Rattle.std.specs.Prelude.{◌≡◌, ℕ, List, ◌++◌, length, replicate}
 use Rattle.std.specs.List.{flat_map}
+use Rattle.std.specs.Prelude.{◌≡◌, ℕ, List, ◌++◌, length, replicate}
 use Rattle.byteorder.specs.Endian.{big_bytes}
-use Rattle.model.specs.{Map.KeyWrite, Machine.payload_size}
+use Rattle.model.specs.Machine.{payload_size}
+use Rattle.model.specs.Map.{KeyWrite}
 use Rattle.commit_log.specs.RecordFormat.{entry_bytes}
 
 -- its front: the length of its payload, its index, a place for its digest, and the number of its entries

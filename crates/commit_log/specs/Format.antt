@@ -1,7 +1,8 @@
 -- What the formats of the log differ in: the head, and the most bytes of a value. All else follows.
 use Rattle.std.specs.Prelude.{ℕ, List, [], ◌∷◌, ◌++◌, replicate}
 use Rattle.model.specs.Bounds.{value_max}
-use Rattle.commit_log.specs.{declared.formats.LogFormat.LogFormat, declared.formats.LogFormat.TheVariants.One, declared.formats.LogFormat.TheVariants.Two}
+use Rattle.commit_log.specs.declared.formats.LogFormat.{LogFormat}
+use Rattle.commit_log.specs.declared.formats.LogFormat.TheVariants.{One, Two}
 
 -- the format that is written
 abbrev pub current : LogFormat

@@ -10,5 +10,6 @@ pub mod LogFaults
 pub mod Reading
 pub mod Opening
 pub mod OpenedLog
+pub mod Appending
 pub mod Copying
 pub mod MapReading

@@ -1,7 +1,9 @@
 -- Which faults a call of the log may answer.
-use Rattle.commit_log.specs.{declared.faults.LogFault.LogFault, declared.faults.AppendFault.AppendFault}
-use Rattle.commit_log.specs.declared.faults.LogFault.TheVariants.{NotALog, Damaged, Full, Device, Stopped, Memory, OldFormat}
 use Rattle.commit_log.specs.declared.faults.AppendFault.TheVariants as append
+use Rattle.commit_log.specs.declared.faults.AppendFault.{AppendFault}
+use Rattle.commit_log.specs.declared.faults.LogFault.{LogFault}
+use Rattle.commit_log.specs.declared.faults.LogFault.TheVariants.{NotALog, Damaged, Full, Device, Stopped, Memory}
+use Rattle.commit_log.specs.declared.faults.LogFault.TheVariants.{OldFormat}
 
 -- the device failed, or memory was refused
 abbrev pub IsDeviceOrMemory : LogFault → Type 0

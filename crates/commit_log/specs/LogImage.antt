@@ -1,9 +1,11 @@
 -- What an image holds for a list of write sets. An image is the list of its sectors, each a list of bytes. Each
 -- relation is one for every format of the log.
-use Rattle.std.specs.Prelude.{◌≡◌, ◌⊎◌, ℕ, suc, ◌+◌, ◌<◌, ◌≤◌, true, false, List, [], ◌∷◌, length, take, drop, slice_get, Option, Some, MatchOption}
+use Rattle.std.specs.Prelude.{◌≡◌, ◌⊎◌, ℕ, suc, ◌+◌, ◌<◌, ◌≤◌, true, false, List, [], ◌∷◌, length, take, drop}
+use Rattle.std.specs.Prelude.{slice_get, Option, Some, MatchOption}
 use Rattle.model.specs.Map.{KeyWrite}
-use Rattle.commit_log.specs.{Format.head_sector, declared.formats.LogFormat.LogFormat}
+use Rattle.commit_log.specs.Format.{head_sector}
 use Rattle.commit_log.specs.RecordFormat.{IsWriteSet, is_open, body_sectors, record_body, record_digest, first_digest}
+use Rattle.commit_log.specs.declared.formats.LogFormat.{LogFormat}
 
 -- These sectors hold a record for each write set in turn, the first with this index and with this digest before it, and
 -- then a closed gate; what stands behind it is free.
@@ -20,7 +22,8 @@ IsLogImage f lists [] = ⊥
 IsLogImage f lists (head ∷ rest) = (head ≡ head_sector f) × HoldsRecords f lists 0 first_digest rest
 
 -- the record of these writes stands in these sectors, and a sector behind it
-pub record IsRecordAt (f : LogFormat) (index : ℕ) (before : List ℕ) (rest : List (List ℕ)) (writes : List KeyWrite) : Type 0 where
+pub record IsRecordAt (f : LogFormat) (index : ℕ) (before : List ℕ) (rest : List (List ℕ)) (writes : List KeyWrite) :
+    Type 0 where
   pub proper : IsWriteSet f writes
   pub room : body_sectors writes < length rest
   pub body : take (body_sectors writes) rest ≡ record_body before index writes
@@ -57,16 +60,19 @@ BeginsWith head image = MatchOption head ((f : LogFormat) → IsNoLog f image) (
 -- an image is so of one list of write sets at most
 abbrev pub IsOfOneList : (LogFormat → List (List KeyWrite) → List (List ℕ) → Type 0) → Type 0
 IsOfOneList Is =
-    (f : LogFormat) (image : List (List ℕ)) (lists others : List (List KeyWrite)) → Is f lists image → Is f others image → lists ≡ others
+    (f : LogFormat) (image : List (List ℕ)) (lists others : List (List KeyWrite)) → Is f lists image → Is f others image
+    → lists ≡ others
 
 -- a log isn't damaged, nor no log
 abbrev pub LogIsNoOther : Type 0
 LogIsNoOther =
-    (f : LogFormat) (image : List (List ℕ)) (lists others : List (List KeyWrite)) → IsLogImage f lists image → IsDamaged f others image ⊎ IsNoLog f image → ⊥
+    (f : LogFormat) (image : List (List ℕ)) (lists others : List (List KeyWrite)) → IsLogImage f lists image
+    → IsDamaged f others image ⊎ IsNoLog f image → ⊥
 
 -- what is damaged is a log
 abbrev pub DamagedIsLog : Type 0
-DamagedIsLog = (f : LogFormat) (image : List (List ℕ)) (lists : List (List KeyWrite)) → IsDamaged f lists image → IsNoLog f image → ⊥
+DamagedIsLog = (f : LogFormat) (image : List (List ℕ)) (lists : List (List KeyWrite)) → IsDamaged f lists image
+    → IsNoLog f image → ⊥
 
 -- how many sectors the records of these write sets take
 abbrev pub span : List (List KeyWrite) → ℕ

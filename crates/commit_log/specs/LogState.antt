@@ -1,11 +1,15 @@
 -- What a log stands for.
-use Rattle.std.specs.Prelude.{◌≡◌, ◌⊎◌, ◌≤◌, ℕ, ◌+◌, ◌-◌, ◌/◌, Bool, false, List, [], ◌∷◌, ◌++◌, length, take, slice_set, Result, OnOk}
-use Rattle.sector.specs.declared.device.Sectors.{Ghosts}
-use Rattle.sector.specs.SectorModel.{FollowsWrites, IsSettled, IsSameElsewhere, LeavesNoMore, LeavesOnly, ReadsNoMoreOutside}
+use Rattle.std.specs.Prelude.{◌≡◌, ◌⊎◌, ◌≤◌, ℕ, ◌+◌, ◌-◌, ◌/◌, Bool, false, List, [], ◌∷◌, ◌++◌, length, take}
+use Rattle.std.specs.Prelude.{slice_set, Result, OnOk}
 use Rattle.model.specs.Map.{KeyWrite}
-use Rattle.commit_log.specs.{Format.current, Staging.IsStaged, declared.log.Log.Log}
-use Rattle.commit_log.specs.RecordFormat.{IsWriteSet, body_sectors, padded_body, first_digest, closed_gate}
+use Rattle.sector.specs.SectorModel.{FollowsWrites, IsSettled, IsSameElsewhere, LeavesNoMore, LeavesOnly}
+use Rattle.sector.specs.SectorModel.{ReadsNoMoreOutside}
+use Rattle.sector.specs.declared.device.Sectors.{Ghosts}
+use Rattle.commit_log.specs.Format.{current}
 use Rattle.commit_log.specs.LogImage.{IsLogImage, span, last_digest, next_index}
+use Rattle.commit_log.specs.RecordFormat.{IsWriteSet, body_sectors, padded_body, first_digest, closed_gate}
+use Rattle.commit_log.specs.Staging.{IsStaged}
+use Rattle.commit_log.specs.declared.log.Log.{Log}
 
 -- how many records a log has, and how many sectors it uses, up to and with its closed gate
 abbrev pub record_count : {D : Type 0} {g : Ghosts D} → Log D g → ℕ
@@ -71,13 +75,16 @@ LeavesEither g old new lists writes = LeavesOnly g.moment g.left_since old new (
 
 -- a crash since an append began leaves the write sets that the log stood for, with these writes or without
 abbrev pub AppendLeaves : {D : Type 0} {g : Ghosts D} → Log D g → Log D g → List KeyWrite → Type 0
-AppendLeaves {g = g} old new writes = OfItsLists old (λ lists. LeavesEither g (device_of old) (device_of new) lists writes)
+AppendLeaves {g = g} old new writes =
+    OfItsLists old (λ lists. LeavesEither g (device_of old) (device_of new) lists writes)
 
 -- so does a crash behind it
 abbrev pub AppendLeft : {D : Type 0} {g : Ghosts D} → Log D g → Log D g → List KeyWrite → Type 0
-AppendLeft {g = g} old new writes = OfItsLists old (λ lists. LeavesNoMore (IsBeforeOrAfter lists writes) (g.may_leave (device_of new)))
+AppendLeft {g = g} old new writes =
+    OfItsLists old (λ lists. LeavesNoMore (IsBeforeOrAfter lists writes) (g.may_leave (device_of new)))
 
--- Only these n sectors are written: reads of the others give no more than before, and a crash at any moment leaves those as before.
+-- Only these n sectors are written: reads of the others give no more than before, and a crash at any moment leaves
+-- those as before.
 pub record OnlyWrites {D : Type 0} (g : Ghosts D) (at n : ℕ) (old new : D) : Type 0 where
   pub others : ReadsNoMoreOutside at n (g.may_read old) (g.may_read new)
   pub left : LeavesNoMore (FollowsWrites at n (g.may_leave old)) (g.may_leave new)
@@ -85,27 +92,33 @@ pub record OnlyWrites {D : Type 0} (g : Ghosts D) (at n : ℕ) (old new : D) : T
 
 -- only the record of these writes is written, from the gate where it begins to the closed gate behind it
 abbrev pub OnlyAppends : {D : Type 0} {g : Ghosts D} → Log D g → Log D g → List KeyWrite → Type 0
-OnlyAppends {g = g} old new writes = OnlyWrites g (used_sectors old - 1) (body_sectors writes + 2) (device_of old) (device_of new)
+OnlyAppends {g = g} old new writes =
+    OnlyWrites g (used_sectors old - 1) (body_sectors writes + 2) (device_of old) (device_of new)
 
 -- an image that is the same as one of these before this sector
 abbrev pub IsSameBefore : ℕ → (List (List ℕ) → Type 0) → List (List ℕ) → Type 0
 IsSameBefore at may_leave c = (d : List (List ℕ)) × may_leave d × (take at c ≡ take at d)
 
--- The image while a device is made an empty log: one of these but for sector 1, or, with the closed gate there, but for sector 0.
+-- The image while a device is made an empty log: one of these but for sector 1, or, with the closed gate there, but for
+-- sector 0.
 abbrev pub IsBeingMade : (List (List ℕ) → Type 0) → List (List ℕ) → Type 0
-IsBeingMade may_leave c = (d : List (List ℕ)) × may_leave d × (IsSameElsewhere 1 d c ⊎ IsSameElsewhere 0 (slice_set d 1 closed_gate) c)
+IsBeingMade may_leave c =
+    (d : List (List ℕ)) × may_leave d × (IsSameElsewhere 1 d c ⊎ IsSameElsewhere 0 (slice_set d 1 closed_gate) c)
 
 -- these bytes are the body of this write set's record behind those of the others, and this is its gate
-pub record IsNextRecord (lists : List (List KeyWrite)) (writes : List KeyWrite) (gate : ℕ) (bytes : List ℕ) : Type 0 where
-  pub proper : IsWriteSet current writes
-  pub gate_is : gate ≡ 1 + span lists
-  pub sectors : length bytes / 512 ≡ body_sectors writes
-  pub bytes_are : bytes ≡ padded_body (last_digest lists 0 first_digest) (next_index lists 0) writes
+pub record IsNextRecord (lists : List (List KeyWrite)) (writes : List KeyWrite) (gate : ℕ) (bytes : List ℕ) : Type 0
+  where
+    pub proper : IsWriteSet current writes
+    pub gate_is : gate ≡ 1 + span lists
+    pub sectors : length bytes / 512 ≡ body_sectors writes
+    pub bytes_are : bytes ≡ padded_body (last_digest lists 0 first_digest) (next_index lists 0) writes
 
 -- where a crash leaves a log, and these bytes are the body of its next record, P of its write sets and of the record's
-abbrev pub OfNextRecord : {D : Type 0} → Ghosts D → D → ℕ → List ℕ → (List (List KeyWrite) → List KeyWrite → Type 0) → Type 0
+abbrev pub OfNextRecord : {D : Type 0} → Ghosts D → D → ℕ → List ℕ → (List (List KeyWrite) → List KeyWrite → Type 0)
+    → Type 0
 OfNextRecord g device gate bytes P =
-    (lists : List (List KeyWrite)) (writes : List KeyWrite) → IsNextRecord lists writes gate bytes → LeavesLog g device lists → P lists writes
+    (lists : List (List KeyWrite)) (writes : List KeyWrite) → IsNextRecord lists writes gate bytes
+    → LeavesLog g device lists → P lists writes
 
 -- a crash leaves the log of these write sets, with one more staged
 abbrev pub LeavesStaged : {D : Type 0} → Ghosts D → D → List (List KeyWrite) → List KeyWrite → Type 0
@@ -122,5 +135,6 @@ abbrev pub HoldsBoth : {D : Type 0} → Ghosts D → D → List (List KeyWrite) 
 HoldsBoth g device lists writes = HoldsLog g device (lists ++ writes ∷ [])
 
 -- at `Ok`, P of write sets and of one more
-abbrev pub AtOk : {T E : Type 0} → Result T E → (List (List KeyWrite) → List KeyWrite → Type 0) → List (List KeyWrite) → List KeyWrite → Type 0
+abbrev pub AtOk : {T E : Type 0} → Result T E → (List (List KeyWrite) → List KeyWrite → Type 0) → List (List KeyWrite)
+    → List KeyWrite → Type 0
 AtOk result P lists writes = OnOk result (P lists writes)

@@ -1,10 +1,15 @@
 -- What reading the map of a log of either format finds.
 use Rattle.std.specs.Prelude.{◌≡◌, ℕ, List, []}
-use Rattle.sector.specs.declared.device.Sectors.{Ghosts}
 use Rattle.model.specs.Map.{KeyMap, KeyWrite}
-use Rattle.commit_log.specs.{Format.format_number, LogImage.IsLogImage, LogImage.IsNoLog, LogState.Holds, Opening.IsDamagedImage, Recovery.map_after}
-use Rattle.commit_log.specs.{declared.formats.LogFormat.LogFormat, declared.faults.LogFault.LogFault}
+use Rattle.sector.specs.declared.device.Sectors.{Ghosts}
+use Rattle.commit_log.specs.Format.{format_number}
+use Rattle.commit_log.specs.LogImage.{IsLogImage, IsNoLog}
+use Rattle.commit_log.specs.LogState.{Holds}
+use Rattle.commit_log.specs.Opening.{IsDamagedImage}
+use Rattle.commit_log.specs.Recovery.{map_after}
+use Rattle.commit_log.specs.declared.faults.LogFault.{LogFault}
 use Rattle.commit_log.specs.declared.faults.LogFault.TheVariants.{NotALog, Damaged, Device, Memory}
+use Rattle.commit_log.specs.declared.formats.LogFormat.{LogFormat}
 
 -- the image is a log of write sets that give this map, in the format of this number
 pub record IsMapOf (image : List (List ℕ)) (m : KeyMap) (number : ℕ) : Type 0 where

@@ -1,11 +1,19 @@
 -- What opening finds.
 use Rattle.std.specs.Prelude.{◌≡◌, ◌+◌, ℕ, List, [], length, drop, slice_get, Option, Some, Result, MatchResult}
-use Rattle.sector.specs.declared.device.Sectors.{Ghosts}
 use Rattle.model.specs.Map.{KeyWrite}
-use Rattle.commit_log.specs.{Format.current, RecordFormat.first_digest, LogState.Holds, Recovery.map_after, declared.formats.LogFormat.LogFormat}
-use Rattle.commit_log.specs.LogImage.{HoldsRecords, HoldsDamage, IsLogImage, IsDamaged, HasHead, HasNoRecord, BeginsWith, IsNoLog, IsRecordAt, span, last_digest}
-use Rattle.commit_log.specs.{declared.formats.LogFormat.TheVariants.One, declared.read.Found.Found, declared.read.Record.Record, declared.faults.LogFault.LogFault}
+use Rattle.sector.specs.declared.device.Sectors.{Ghosts}
+use Rattle.commit_log.specs.Format.{current}
+use Rattle.commit_log.specs.LogImage.{HoldsRecords, HoldsDamage, IsLogImage, IsDamaged, HasHead, HasNoRecord}
+use Rattle.commit_log.specs.LogImage.{BeginsWith, IsNoLog, IsRecordAt, span, last_digest}
+use Rattle.commit_log.specs.LogState.{Holds}
+use Rattle.commit_log.specs.RecordFormat.{first_digest}
+use Rattle.commit_log.specs.Recovery.{map_after}
+use Rattle.commit_log.specs.declared.faults.LogFault.{LogFault}
 use Rattle.commit_log.specs.declared.faults.LogFault.TheVariants.{NotALog, Damaged, Device, Memory, OldFormat}
+use Rattle.commit_log.specs.declared.formats.LogFormat.{LogFormat}
+use Rattle.commit_log.specs.declared.formats.LogFormat.TheVariants.{One}
+use Rattle.commit_log.specs.declared.read.Found.{Found}
+use Rattle.commit_log.specs.declared.read.Record.{Record}
 
 -- it tells of the records of these write sets
 pub record TellsOf (lists : List (List KeyWrite)) (found : Found) : Type 0 where
@@ -47,14 +55,16 @@ IsRefusal image OldFormat = HasHead One image
 IsRefusal image other = ⊥
 
 -- a sync might have settled this image
-pub record CanSettle (size : ℕ) (may_read : ℕ → List ℕ → Type 0) (may_leave : List (List ℕ) → Type 0) (image : List (List ℕ)) : Type 0 where
+pub record CanSettle (size : ℕ) (may_read : ℕ → List ℕ → Type 0) (may_leave : List (List ℕ)
+    → Type 0) (image : List (List ℕ)) : Type 0 where
   pub size_is : length image ≡ size
   pub read : (i : ℕ) (s : List ℕ) → slice_get image i ≡ Some s → may_read i s
   pub left : may_leave image
 
 -- a sync of the device might settle an image that has P
 abbrev pub MightHold : {D : Type 0} → Ghosts D → D → (List (List ℕ) → Type 0) → Type 0
-MightHold g device P = (image : List (List ℕ)) × CanSettle (g.size device) (g.may_read device) (g.may_leave device) image × P image
+MightHold g device P = (image : List (List ℕ))
+    × CanSettle (g.size device) (g.may_read device) (g.may_leave device) image × P image
 
 -- this record stands from this place of the image on
 abbrev pub IsRecordIn : LogFormat → ℕ → List ℕ → ℕ → List (List ℕ) → Record → Type 0
@@ -73,7 +83,8 @@ abbrev pub ReadsRecords : LogFormat → Result Found LogFault → List (List ℕ
 ReadsRecords f result image = MatchResult result (IsFound f (drop 1 image)) (IsReadFault f (drop 1 image))
 
 -- it tells of this image, which reads give now and is all that a crash may leave
-pub record IsOpened {D : Type 0} (g : Ghosts D) (f : LogFormat) (device : D) (found : Found) (image : List (List ℕ)) : Type 0 where
+pub record IsOpened {D : Type 0} (g : Ghosts D) (f : LogFormat) (device : D) (found : Found) (image : List (List ℕ)) :
+    Type 0 where
   pub lists : List (List KeyWrite)
   pub holds : IsLogImage f lists image
   pub tells : TellsOf lists found

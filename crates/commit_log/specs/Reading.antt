@@ -1,7 +1,11 @@
 -- What calls that only read a device change.
-use Rattle.std.specs.Prelude.{◌≡◌, ◌+◌, ◌*◌, ◌<◌, ℕ, List, length, take, drop, Option, Result, MatchResult, IfOk, OnOk, IfSome, IfNone, slice_get, Some}
-use Rattle.sector.specs.{declared.device.Sectors.Ghosts, SectorModel.LeavesNoMore, SectorModel.LeavesOnly, SectorModel.ReadsNoMore, Failures.Rose}
-use Rattle.commit_log.specs.{declared.faults.LogFault.LogFault, declared.faults.LogFault.TheVariants.Device}
+use Rattle.std.specs.Prelude.{◌≡◌, ◌+◌, ◌*◌, ◌<◌, ℕ, List, length, take, drop, Option, Result, MatchResult, IfOk}
+use Rattle.std.specs.Prelude.{OnOk, IfSome, IfNone, slice_get, Some}
+use Rattle.sector.specs.Failures.{Rose}
+use Rattle.sector.specs.SectorModel.{LeavesNoMore, LeavesOnly, ReadsNoMore}
+use Rattle.sector.specs.declared.device.Sectors.{Ghosts}
+use Rattle.commit_log.specs.declared.faults.LogFault.{LogFault}
+use Rattle.commit_log.specs.declared.faults.LogFault.TheVariants.{Device}
 
 -- this fault is `Device` exactly where a call of the device failed
 abbrev pub TellsFailure : ℕ → ℕ → LogFault → Type 0
@@ -25,11 +29,13 @@ abbrev pub OfEachRead : ℕ → (ℕ → List ℕ → Type 0) → (List (List �
 OfEachRead count may_read P = (image : List (List ℕ)) → length image ≡ count → ReadsAs may_read image → P image
 
 -- where something was read there, P of the image and of that
-abbrev pub OfEachFound : {T : Type 0} → ℕ → (ℕ → List ℕ → Type 0) → Result (Option T) LogFault → (List (List ℕ) → T → Type 0) → Type 0
+abbrev pub OfEachFound : {T : Type 0} → ℕ → (ℕ → List ℕ → Type 0) → Result (Option T) LogFault
+    → (List (List ℕ) → T → Type 0) → Type 0
 OfEachFound count may_read result P = OfEachRead count may_read (λ image. IfOk result (λ found. IfSome found (P image)))
 
 -- where nothing was, P of the image
-abbrev pub OfNoneFound : {T : Type 0} → ℕ → (ℕ → List ℕ → Type 0) → Result (Option T) LogFault → (List (List ℕ) → Type 0) → Type 0
+abbrev pub OfNoneFound : {T : Type 0} → ℕ → (ℕ → List ℕ → Type 0) → Result (Option T) LogFault
+    → (List (List ℕ) → Type 0) → Type 0
 OfNoneFound count may_read result P = OfEachRead count may_read (λ image. IfOk result (λ found. IfNone found (P image)))
 
 -- a crash since old leaves what one at old might have left

@@ -1,11 +1,18 @@
 -- The bytes of the log's sectors. All numbers are big-endian.
-use Rattle.std.specs.Prelude.{◌≡◌, ℕ, zero, suc, ◌+◌, ◌-◌, ◌*◌, ◌/◌, ◌≤◌, Bool, T, ◌==◌, List, [], ◌∷◌, ◌++◌, length, take, drop, replicate, All, IfSome, Option, Some, None, slice_index, slice_index_or}
-use Rattle.std.specs.{List.flat_map, Cmp.Lexicographic.slice_cmp, Ordering.nat_cmp, declared.cmp.Ordering.TheVariants.Less, FinMap.Entries.is_sorted}
+use Rattle.std.specs.Cmp.Lexicographic.{slice_cmp}
+use Rattle.std.specs.FinMap.Entries.{is_sorted}
+use Rattle.std.specs.List.{flat_map}
+use Rattle.std.specs.Ordering.{nat_cmp}
+use Rattle.std.specs.Prelude.{◌≡◌, ℕ, zero, suc, ◌+◌, ◌-◌, ◌*◌, ◌/◌, ◌≤◌, Bool, T, ◌==◌, List, [], ◌∷◌, ◌++◌, length}
+use Rattle.std.specs.Prelude.{take, drop, replicate, All, IfSome, Option, Some, None, slice_index, slice_index_or}
+use Rattle.std.specs.declared.cmp.Ordering.TheVariants.{Less}
 use Rattle.byteorder.specs.Endian.{big_bytes}
 use Rattle.sha2.specs.Sha256.{sha256}
-use Rattle.model.specs.{Key.IsKey, Map.KeyWrite, Map.key_cmp}
-use Rattle.commit_log.specs.{Format.value_bound, declared.formats.LogFormat.LogFormat}
+use Rattle.model.specs.Key.{IsKey}
 pub use Rattle.model.specs.Machine.{body_sectors}
+use Rattle.model.specs.Map.{KeyWrite, key_cmp}
+use Rattle.commit_log.specs.Format.{value_bound}
+use Rattle.commit_log.specs.declared.formats.LogFormat.{LogFormat}
 
 -- what stands behind an entry's key: a put with its value, or a deletion
 abbrev pub value_bytes : Option (List ℕ) → List ℕ
@@ -31,7 +38,8 @@ first_digest = replicate 32 0
 -- a record's body before its zeros
 unfoldable pub body_bytes : List ℕ → ℕ → List KeyWrite → List ℕ
 body_bytes before index writes =
-    ((big_bytes 4 (length (payload_bytes writes)) ++ big_bytes 8 index) ++ record_digest before index writes) ++ payload_bytes writes
+    ((big_bytes 4 (length (payload_bytes writes)) ++ big_bytes 8 index) ++ record_digest before index writes)
+    ++ payload_bytes writes
 
 -- how many sectors hold the body of a payload of this length
 abbrev pub sectors_for : ℕ → ℕ
@@ -73,11 +81,13 @@ pub record IsWithinLimits (f : LogFormat) (write : KeyWrite) : Type 0 where
 
 -- these bytes begin with no value that a record of this format may hold, nor with the mark of a deletion
 abbrev pub BeginsWithNoValue : LogFormat → List ℕ → Type 0
-BeginsWithNoValue f bytes = (value : Option (List ℕ)) (rest : List ℕ) → IfSome value (IsValueIn f) → bytes ≡ value_bytes value ++ rest → ⊥
+BeginsWithNoValue f bytes = (value : Option (List ℕ)) (rest : List ℕ) → IfSome value (IsValueIn f)
+    → bytes ≡ value_bytes value ++ rest → ⊥
 
 -- these bytes begin with no entry of a record of this format
 abbrev pub BeginsWithNoEntry : LogFormat → List ℕ → Type 0
-BeginsWithNoEntry f bytes = (write : KeyWrite) (rest : List ℕ) → IsWithinLimits f write → bytes ≡ entry_bytes write ++ rest → ⊥
+BeginsWithNoEntry f bytes = (write : KeyWrite) (rest : List ℕ) → IsWithinLimits f write
+    → bytes ≡ entry_bytes write ++ rest → ⊥
 
 -- the last of these keys isn't below that of this write
 abbrev pub FallsBehind : List KeyWrite → KeyWrite → Type 0
@@ -100,4 +110,5 @@ IsNoPayload f bytes = (writes : List KeyWrite) → IsWriteSet f writes → paylo
 
 -- these bytes are the body of no record of this format, with this index and this digest before it
 abbrev pub IsNoBody : LogFormat → List ℕ → ℕ → List ℕ → Type 0
-IsNoBody f before index body = (writes : List KeyWrite) → IsWriteSet f writes → padded_body before index writes ≡ body → ⊥
+IsNoBody f before index body = (writes : List KeyWrite) → IsWriteSet f writes → padded_body before index writes ≡ body
+    → ⊥

@@ -8,6 +8,7 @@ map_after m [] = m
 map_after m (writes ∷ lists) = map_after (after_writes m writes) lists
 
 -- with one write set more
-pub map_after-push : (m : KeyMap) (lists : List (List KeyWrite)) (writes : List KeyWrite) → map_after m (lists ++ writes ∷ []) ≡ after_writes (map_after m lists) writes
+pub map_after-push : (m : KeyMap) (lists : List (List KeyWrite)) (writes : List KeyWrite)
+    → map_after m (lists ++ writes ∷ []) ≡ after_writes (map_after m lists) writes
 map_after-push m [] writes = refl
 map_after-push m (x ∷ lists) writes = map_after-push (after_writes m x) lists writes

@@ -1,5 +1,6 @@
 //! Copying a map into a log of its own.
-ghost use Rattle.std.specs.Prelude.{◌≡◌, ◌⊎◌, ◌<◌, ◌≤◌, ◌+◌, ◌*◌, ◌/◌, ◌%◌, ◌^◌, ◌↔◌, [], ◌∷◌, length, vec_capacity, OnOk, OnErr, IfOk, IfErr, IfSome, IfNone, IsErrOf};
+ghost use Rattle.std.specs.Prelude.{◌≡◌, ◌⊎◌, ◌<◌, ◌≤◌, ◌+◌, ◌*◌, ◌/◌, ◌%◌, ◌^◌, ◌↔◌, [], ◌∷◌, length, vec_capacity};
+ghost use Rattle.std.specs.Prelude.{OnOk, OnErr, IfOk, IfErr, IfSome, IfNone, IsErrOf};
 ghost use Rattle.sector.specs.Failures.{Rose, Stayed};
 ghost use Rattle.model.specs.Bounds.{value_max, body_bound};
 ghost use Rattle.model.specs.Map.{IsMap, IsInBounds};
@@ -9,7 +10,8 @@ ghost use Rattle.commit_log.specs.Reading.{FaultIs, OnlyReads};
 ghost use Rattle.commit_log.specs.LogState.{HoldsLog, OnlyWrites};
 ghost use Rattle.commit_log.specs.Opening.{MightHold};
 ghost use Rattle.commit_log.specs.Recovery.{map_after};
-ghost use Rattle.commit_log.specs.Copying.{write_sets_of, set_count, copy_size, records_of, open_record, ReadsFrom, IsBlank, LeavesZeros, LeavesSteps, LeavesCopyOrNoLog, IsCopyFault};
+ghost use Rattle.commit_log.specs.Copying.{write_sets_of, set_count, copy_size, records_of, open_record, ReadsFrom};
+ghost use Rattle.commit_log.specs.Copying.{IsBlank, LeavesZeros, LeavesSteps, LeavesCopyOrNoLog, IsCopyFault};
 
 use crate::decode::is_same;
 use crate::encode::sectors_for;

@@ -1,10 +1,13 @@
 //! The bytes of a record, read back.
-ghost use Rattle.std.specs.Prelude.{◌≡◌, ◌<◌, ◌≤◌, ◌+◌, ◌*◌, ◌^◌, ◌++◌, ◌-◌, [], ◌∷◌, ℕ, List, true, false, slice_index, EachIndex, Option, length, IfOk, IfSome, IfNone};
+ghost use Rattle.std.specs.Prelude.{◌≡◌, ◌<◌, ◌≤◌, ◌+◌, ◌*◌, ◌^◌, ◌++◌, ◌-◌, [], ◌∷◌, ℕ, List, true, false};
+ghost use Rattle.std.specs.Prelude.{slice_index, EachIndex, Option, length, IfOk, IfSome, IfNone};
 ghost use Rattle.std.specs.Option.{option_map};
 ghost use Rattle.std.specs.declared.cmp.Ordering.TheVariants.{Less};
 ghost use Rattle.byteorder.specs.Endian.{big_bytes, big_number};
 ghost use Rattle.model.specs.Key.{IsKey};
-ghost use Rattle.commit_log.specs.RecordFormat.{IsValueIn, IsWithinLimits, IsRising, IsWriteSet, BeginsWithNoValue, BeginsWithNoEntry, FallsBehind, IsNoPayload, IsNoBody, value_bytes, entry_bytes, payload_bytes, padded_body, record_digest, sectors_for};
+ghost use Rattle.commit_log.specs.RecordFormat.{IsValueIn, IsWithinLimits, IsRising, IsWriteSet, BeginsWithNoValue};
+ghost use Rattle.commit_log.specs.RecordFormat.{BeginsWithNoEntry, FallsBehind, IsNoPayload, IsNoBody, value_bytes};
+ghost use Rattle.commit_log.specs.RecordFormat.{entry_bytes, payload_bytes, padded_body, record_digest, sectors_for};
 
 use crate::encode::digest_of;
 use crate::formats::LogFormat;

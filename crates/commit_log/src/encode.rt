@@ -1,5 +1,6 @@
 //! The bytes of a record.
-ghost use Rattle.std.specs.Prelude.{◌≡◌, ◌<◌, ◌≤◌, ◌+◌, ◌-◌, ◌*◌, ◌/◌, ◌++◌, length, vec_len, vec_capacity, option_copied, IfOk, IfSome, take, drop, replicate};
+ghost use Rattle.std.specs.Prelude.{◌≡◌, ◌<◌, ◌≤◌, ◌+◌, ◌-◌, ◌*◌, ◌/◌, ◌++◌, length, vec_len, vec_capacity};
+ghost use Rattle.std.specs.Prelude.{option_copied, IfOk, IfSome, take, drop, replicate};
 ghost use Rattle.std.specs.List.{flat_map};
 ghost use Rattle.byteorder.specs.Endian.{big_bytes};
 ghost use Rattle.sha2.specs.Sha256.{sha256};
@@ -8,7 +9,8 @@ ghost use Rattle.model.specs.Key.{IsValue};
 ghost use Rattle.model.specs.Machine.{payload_size, write_size};
 ghost use Rattle.commit_log.specs.Encoding.{begun, OfUnsealed};
 ghost use Rattle.commit_log.specs.Format.{current};
-ghost use Rattle.commit_log.specs.RecordFormat.{IsWriteSet, entry_bytes, record_digest, padded_body, sectors_for, body_sectors};
+ghost use Rattle.commit_log.specs.RecordFormat.{IsWriteSet, entry_bytes, record_digest, padded_body, sectors_for};
+ghost use Rattle.commit_log.specs.RecordFormat.{body_sectors};
 
 use byteorder::{BigEndian, ByteOrder};
 use model::{KeyRef, Write};

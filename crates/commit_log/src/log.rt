@@ -1,5 +1,6 @@
 //! The log. It is read once, when it is opened, and from then on only appended to.
-ghost use Rattle.std.specs.Prelude.{◌≡◌, ◌≢◌, ◌⊎◌, MatchResult, IsErrAnd, ◌<◌, ◌≤◌, ◌^◌, ◌-◌, ◌+◌, ◌↔◌, true, false, [], ◌∷◌, ◌++◌, IfOk, IfErr, OnOk, IsErrOf};
+ghost use Rattle.std.specs.Prelude.{◌≡◌, ◌≢◌, ◌⊎◌, MatchResult, IsErrAnd, ◌<◌, ◌≤◌, ◌^◌, ◌-◌, ◌+◌, ◌↔◌, true, false};
+ghost use Rattle.std.specs.Prelude.{[], ◌∷◌, ◌++◌, IfOk, IfErr, OnOk, IsErrOf};
 
 use crate::encode::{encode, payload_len};
 use crate::faults::{AppendFault, LogFault, Unopened};
@@ -25,14 +26,16 @@ pub struct Log<D: Sectors> {
 }
 
 impl<D: Sectors> Log<D> {
-    ghost use Rattle.sector.specs.Failures.{Rose, Stayed};
+    ghost use Rattle.sector.specs.Failures.{Rose};
     ghost use Rattle.model.specs.Machine.{body_sectors, payload_size};
     ghost use Rattle.commit_log.specs.Format.{current};
     ghost use Rattle.commit_log.specs.RecordFormat.{IsWriteSet};
-    ghost use Rattle.commit_log.specs.LogFaults.{IsOpenFault, IsAppendFault};
-    ghost use Rattle.commit_log.specs.Reading.{LeavesAsBefore, TellsFailure};
-    ghost use Rattle.commit_log.specs.OpenedLog.{IsLogOf, OpensWhatWas, OpeningLeavesAsBefore, FindsLog, FindsDamage, FindsNoLog, FindsOldHead, FindsWhatIsLeft};
-    ghost use Rattle.commit_log.specs.LogState.{StandsFor, OfItsLists, HasSameRecords, LacksRoom, AppendLeaves, AppendLeft, OnlyAppends, record_count, used_sectors, is_stopped, device_of, sector_count, failure_count};
+    ghost use Rattle.commit_log.specs.Appending.{Fails, FailsInRoom, IsAdded, KeepsLists};
+    ghost use Rattle.commit_log.specs.LogFaults.{IsOpenFault};
+    ghost use Rattle.commit_log.specs.Reading.{LeavesAsBefore};
+    ghost use Rattle.commit_log.specs.OpenedLog.{Finds, IsLogOf, IsRefused, OpensWhatWas, OpeningLeavesAsBefore};
+    ghost use Rattle.commit_log.specs.OpenedLog.{RunsOver};
+    ghost use Rattle.commit_log.specs.LogState.{LacksRoom, device_of, is_stopped, sector_count, used_sectors};
 
     /// Opens the log that a device holds, and gives the map that its write sets make of the empty one. It syncs the device, and reads
     /// each sector up to the last closed gate once.
@@ -41,13 +44,8 @@ impl<D: Sectors> Log<D> {
     /// first is no head, `OldFormat` where it is the head of format 1, `Damaged` where an open gate has not its record behind it,
     /// `Memory` where memory is refused. The device is given back with it. `read_log`, which borrows the device, says what memory it takes.
     pub fn open_or_return(alloc: Global, mut device: D) -> Result<(Self, Map), Unopened<D>>
-        ensures size { MatchResult result (λ r. sector_count r.0 ≡ D.size device) (λ u. D.size u.device ≡ D.size device) }
-        ensures running { IfOk result (λ r. is_stopped r.0 ≡ false) }
-        ensures failures { IfOk result (λ r. Stayed (D.failures device) (failure_count r.0)) }
-        ensures faults { IfErr result (λ u. IsOpenFault u.fault) }
-
-        // `Device` is told exactly where a call has failed: the device then counts more failures.
-        ensures cause { IfErr result (λ u. TellsFailure (D.failures device) (D.failures u.device) u.fault) }
+        ensures runs { IfOk result (λ r. RunsOver device r.0) }
+        ensures refused { IfErr result (IsRefused D.Sectors device) }
         ensures short { D.size device < 2 → IsErrAnd result (λ u. (u.fault ≡ LogFault.NotALog) ⊎ (u.fault ≡ LogFault.Device)) }
 
         // The log stands for an image that a crash before the call might have left; the device now holds it, and nothing else.
@@ -56,14 +54,8 @@ impl<D: Sectors> Log<D> {
         // During the call, also where it fails, a crash leaves what one before it could have left.
         ensures during { D.keeps_model → OpeningLeavesAsBefore D.Sectors device (λ r. device_of r.0) result }
 
-        // A log is read as what it is.
-        ensures found { D.keeps_model → FindsLog D.Sectors device result (λ u. u.fault) IsLogOf }
-        ensures damaged { D.keeps_model → FindsDamage D.Sectors device result (λ u. u.fault) }
-        ensures no_log { D.keeps_model → FindsNoLog D.Sectors device result (λ u. u.fault) }
-        ensures older { D.keeps_model → FindsOldHead D.Sectors device result (λ u. u.fault) }
-
-        // Where each crash leaves some log, one is found.
-        ensures undamaged { D.keeps_model → FindsWhatIsLeft D.Sectors device result (λ u. u.fault) }
+        // A log is read as what it is. Where each crash leaves some log, one is found.
+        ensures finds { D.keeps_model → Finds D.Sectors device result (λ u. u.fault) IsLogOf }
     {
         let found = match read_log(alloc, &mut device) {
             Ok(found) => found,
@@ -83,9 +75,7 @@ impl<D: Sectors> Log<D> {
     /// The log that `open_or_return` opens. Where that gives the device back with a fault, the fault alone is answered and the device is
     /// given up; `open_or_return` says what a crash then leaves.
     pub fn open(alloc: Global, device: D) -> Result<(Self, Map), LogFault>
-        ensures size { IfOk result (λ r. sector_count r.0 ≡ D.size device) }
-        ensures running { IfOk result (λ r. is_stopped r.0 ≡ false) }
-        ensures failures { IfOk result (λ r. Stayed (D.failures device) (failure_count r.0)) }
+        ensures runs { IfOk result (λ r. RunsOver device r.0) }
         ensures faults { IfErr result IsOpenFault }
 
         // `Device` is told only where a call has failed: the device then counts more failures.
@@ -98,14 +88,8 @@ impl<D: Sectors> Log<D> {
         // During the call a crash leaves what one before it could have left.
         ensures during { D.keeps_model → IfOk result (λ r. LeavesAsBefore D.Sectors device (device_of r.0)) }
 
-        // A log is read as what it is.
-        ensures found { D.keeps_model → FindsLog D.Sectors device result (λ e. e) IsLogOf }
-        ensures damaged { D.keeps_model → FindsDamage D.Sectors device result (λ e. e) }
-        ensures no_log { D.keeps_model → FindsNoLog D.Sectors device result (λ e. e) }
-        ensures older { D.keeps_model → FindsOldHead D.Sectors device result (λ e. e) }
-
-        // Where each crash leaves some log, one is found.
-        ensures undamaged { D.keeps_model → FindsWhatIsLeft D.Sectors device result (λ e. e) }
+        // A log is read as what it is. Where each crash leaves some log, one is found.
+        ensures finds { D.keeps_model → Finds D.Sectors device result (λ e. e) IsLogOf }
     {
         match Log::open_or_return(alloc, device) {
             Ok(opened) => Ok(opened),
@@ -113,40 +97,18 @@ impl<D: Sectors> Log<D> {
         }
     }
 
-    /// Adds a record of these writes, and answers its index, 0 for the first. The device is written once for each sector and synced twice.
+    /// Adds a record of these writes, and answers its index, 0 for the first. The device is written by three calls and synced twice.
     ///
     /// Faults come in this order: `Stopped` after an earlier `Device`; `Full` exactly where no closed gate would fit behind the record;
     /// `Memory` where the memory for the record's body is refused; `Device` where a call of the device fails, and the log is then stopped.
     /// The first three leave the log as it was, and make no call of the device.
     pub fn append(&mut self, alloc: Global, writes: &[Write]) -> Result<u64, LogFault>
         requires { IsWriteSet current writes.now }
-        ensures index { IfOk result (λ index. index ≡ record_count self.old) }
-        ensures counted { OnOk result (record_count self.new ≡ record_count self.old + 1) }
-        ensures used { OnOk result (used_sectors self.new ≡ used_sectors self.old + (body_sectors writes.now + 1)) }
-        ensures running { OnOk result (is_stopped self.new ≡ false) }
-        ensures size { sector_count self.new ≡ sector_count self.old }
-
-        // When each fault comes, and what it leaves.
-        ensures faults { IfErr result IsAppendFault }
-        ensures stopped { IsErrOf result LogFault.Stopped ↔ (is_stopped self.old ≡ true) }
-        ensures full { IsErrOf result LogFault.Full ↔ ((is_stopped self.old ≡ false) × LacksRoom self.old writes.now) }
-        ensures device { IsErrOf result LogFault.Device → Rose (failure_count self.old) (failure_count self.new) }
-        ensures stops { IsErrOf result LogFault.Device → is_stopped self.new ≡ true }
-        ensures same { IsErrOf result LogFault.Device → HasSameRecords self.old self.new }
-        ensures unchanged { IfErr result (λ e. e ≢ LogFault.Device → self.new ≡ self.old) }
-        ensures no_fault { OnOk result (Stayed (failure_count self.old) (failure_count self.new)) }
-
-        // At `Ok` the log stands for its write sets and this one: reads give them, and a crash leaves them.
-        ensures appended { D.keeps_model → OfItsLists self.old (λ lists. OnOk result (StandsFor self.new (lists ++ writes.now ∷ []))) }
-
-        // A crash at any moment of the call leaves the write sets from before it, with this one or without.
-        ensures any_moment { D.keeps_model → AppendLeaves self.old self.new writes.now }
-
-        // So does a crash after it, also where it failed.
-        ensures left { D.keeps_model → AppendLeft self.old self.new writes.now }
-
-        // No sector is written but the record's and the closed gate behind it.
-        ensures alone { D.keeps_model → OnlyAppends self.old self.new writes.now }
+        ensures added { IfOk result (IsAdded self.old self.new writes.now) }
+        ensures fails { IfErr result (Fails self.old self.new writes.now) }
+        ensures stopped { is_stopped self.old ≡ true → IsErrOf result LogFault.Stopped }
+        ensures full { is_stopped self.old ≡ false → LacksRoom self.old writes.now → IsErrOf result LogFault.Full }
+        ensures keeps { D.keeps_model → KeepsLists self.old self.new writes.now result }
     {
         if self.stopped {
             return Err(LogFault::Stopped);
@@ -159,7 +121,7 @@ impl<D: Sectors> Log<D> {
     }
 
     /// Adds a record of these writes to a log that runs and has room for it, as `append` does, and answers its index. `len` is what
-    /// `payload_len` answers of them, and `room` of that. The device is written once for each sector and synced twice.
+    /// `payload_len` answers of them, and `room` of that. The device is written by three calls and synced twice.
     ///
     /// `Memory` where the memory for the record's body is refused: the log is then as it was, and no call of the device was made. `Device`
     /// where a call of the device fails, and the log is then stopped.
@@ -173,30 +135,9 @@ impl<D: Sectors> Log<D> {
         requires running { is_stopped self.old ≡ false }
         requires room { used_sectors self.old + body_sectors writes.now < sector_count self.old }
         requires len { len ≡ payload_size writes.now }
-        ensures index { IfOk result (λ index. index ≡ record_count self.old) }
-        ensures counted { OnOk result (record_count self.new ≡ record_count self.old + 1) }
-        ensures used { OnOk result (used_sectors self.new ≡ used_sectors self.old + (body_sectors writes.now + 1)) }
-        ensures running { OnOk result (is_stopped self.new ≡ false) }
-        ensures size { sector_count self.new ≡ sector_count self.old }
-
-        // When each fault comes, and what it leaves.
-        ensures device { IsErrOf result AppendFault.Device → Rose (failure_count self.old) (failure_count self.new) }
-        ensures stops { IsErrOf result AppendFault.Device → is_stopped self.new ≡ true }
-        ensures same { IsErrOf result AppendFault.Device → HasSameRecords self.old self.new }
-        ensures unchanged { IfErr result (λ e. e ≢ AppendFault.Device → self.new ≡ self.old) }
-        ensures no_fault { OnOk result (Stayed (failure_count self.old) (failure_count self.new)) }
-
-        // At `Ok` the log stands for its write sets and this one: reads give them, and a crash leaves them.
-        ensures appended { D.keeps_model → OfItsLists self.old (λ lists. OnOk result (StandsFor self.new (lists ++ writes.now ∷ []))) }
-
-        // A crash at any moment of the call leaves the write sets from before it, with this one or without.
-        ensures any_moment { D.keeps_model → AppendLeaves self.old self.new writes.now }
-
-        // So does a crash after it, also where it failed.
-        ensures left { D.keeps_model → AppendLeft self.old self.new writes.now }
-
-        // No sector is written but the record's and the closed gate behind it.
-        ensures alone { D.keeps_model → OnlyAppends self.old self.new writes.now }
+        ensures added { IfOk result (IsAdded self.old self.new writes.now) }
+        ensures fails { IfErr result (FailsInRoom self.old self.new) }
+        ensures keeps { D.keeps_model → KeepsLists self.old self.new writes.now result }
     {
         let before = self.digest;
         let (body, digest) = encode(alloc, &before, self.records, writes, len)?;

@@ -1,13 +1,16 @@
 //! Reading records back.
-ghost use Rattle.std.specs.Prelude.{All, ◌≡◌, ◌⊎◌, ◌<◌, ◌≤◌, ◌+◌, ◌*◌, ◌^◌, length, take, Some, OnOk, IfOk, IfErr, IsErrAnd, IfSome, IfNone};
+ghost use Rattle.std.specs.Prelude.{All, ◌≡◌, ◌⊎◌, ◌<◌, ◌≤◌, ◌+◌, ◌*◌, ◌^◌, length, take, Some, OnOk, IfOk, IfErr};
+ghost use Rattle.std.specs.Prelude.{IsErrAnd, IfSome, IfNone};
 ghost use Rattle.sector.specs.Failures.{Stayed};
 ghost use Rattle.model.specs.Map.{after_writes};
 ghost use Rattle.commit_log.specs.declared.formats.LogFormat.{LogFormat};
 ghost use Rattle.commit_log.specs.Format.{current, head_sector};
 ghost use Rattle.commit_log.specs.RecordFormat.{IsWithinLimits, IsWriteSet, sectors_for, body_sectors, record_digest};
-ghost use Rattle.commit_log.specs.Reading.{FaultIs, HasRead, LeavesAsBefore, OfEachFound, OfEachRead, OfNoneFound, OnlyReads};
+ghost use Rattle.commit_log.specs.Reading.{FaultIs, HasRead, LeavesAsBefore, OfEachFound, OfEachRead, OfNoneFound};
+ghost use Rattle.commit_log.specs.Reading.{OnlyReads};
 ghost use Rattle.commit_log.specs.LogFaults.{IsDeviceOrMemory, IsOpenFault, IsReadMapFault};
-ghost use Rattle.commit_log.specs.Opening.{HasNoRecordIn, HoldsHead, IsOpened, IsRecordIn, IsRefusal, MightHold, ReadsRecords};
+ghost use Rattle.commit_log.specs.Opening.{HasNoRecordIn, HoldsHead, IsOpened, IsRecordIn, IsRefusal, MightHold};
+ghost use Rattle.commit_log.specs.Opening.{ReadsRecords};
 ghost use Rattle.commit_log.specs.MapReading.{HoldsMapOf, IsMapRefusal};
 
 use crate::decode::{Digest, decode_body, is_same};
@@ -234,8 +237,8 @@ fn settle_and_read_head<D: Sectors>(device: &mut D) -> Result<(Option<LogFormat>
     Ok((format_of(&sector), count))
 }
 
-/// Settles a device, and reads the log that it holds, as `Log::open_or_return` says. `Device` is answered exactly where a call of the device
-/// failed; the device may be read again.
+/// Settles a device, and reads the log that it holds, as `Log::open_or_return` says. `Device` is answered exactly where a call of the
+/// device failed; the device may be read again.
 ///
 /// It takes memory for the writes of the log, which are collected: up to twice that of the map they make, and 8 MiB. The map is
 /// made of them, and one record is held at a time. The time is that of one digest of what is read and of a sort of the writes.

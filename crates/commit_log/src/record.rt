@@ -2,7 +2,8 @@
 ghost use Rattle.std.specs.Prelude.{◌≡◌, ◌<◌, ◌+◌, ◌/◌, ◌%◌, ◌^◌, length, OnOk, OnErr};
 ghost use Rattle.sector.specs.Failures.{Rose, Stayed};
 ghost use Rattle.commit_log.specs.RecordFormat.{open_gate, closed_gate};
-ghost use Rattle.commit_log.specs.LogState.{AtOk, HoldsBoth, LeavesEither, LeavesStaged, OfNextRecord, OfStaged, OnlyWrites};
+ghost use Rattle.commit_log.specs.LogState.{AtOk, HoldsBoth, LeavesEither, LeavesStaged, OfNextRecord, OfStaged};
+ghost use Rattle.commit_log.specs.LogState.{OnlyWrites};
 
 use crate::blocks::write_sectors;
 use sector::{DeviceFault, SECTOR_SIZE, Sector, Sectors};

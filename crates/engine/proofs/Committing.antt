@@ -1,22 +1,53 @@
 -- What a commit does to the states that an engine stands for.
-use Rattle.engine.proofs.Words.{common_steps, ◌≡◌, ◌⊎◌, ◌≤◌, ◌+◌, ◌-◌, ◌^◌, ℕ, suc, Bool, true, false, List, [], ◌∷◌, ◌++◌, Option, Some, None, refl, sym, ap, subst, ◌∙◌, length, length-append, arith, ⊎_elim, inl, slice_index_or, lt-ltb, le-ltb, eq-eqb, ne_eqb, or_left, or_right, both_ways, Refusal, StoreStopped, FullNumbers, FullLog, StoreFault, Overwritten, Bytes, KeyMap, KeyWrite, after_writes, Operation, Response, Commit, Number, Refused, Record, State, Running, last, snapshot, leave, record_to_commit, refuse, join_history, body_sectors, store, store_unless, commit, step, View, HasMade, is_refused, writes, Facts, CommittedValue, IsInReach, Ghosts, Log, is_stopped, used_sectors, sector_count, HistoryValue, IsSameHistory, Joins, Engine, StandsFor, IsRunning, entry_of, Leaves, IsWritten, HasLogRoom, IsLogged, IsLogStopped, sectors_taken, StandsForSame, Leads, IsNotRefused, IsReadOnly, IsLeftByCommit, has_risen, response_to, IsStored, WhereStored, SurvivesAppend, LeavesInDoubt, HoldsMap, committed_map}
-use Rattle.engine.proofs.Words.{device_of, AreRunning}
-use Rattle.engine.specs.Recovery.{IsInDoubt}
-use Rattle.std.specs.Prelude.{Err}
+use Rattle.pivot_check.specs.declared.Verdict.TheVariants as verdicts
+use Rattle.std.proofs.Common.{◌≡◌, ◌⊎◌, ◌≤◌, ◌+◌, ◌-◌, ◌^◌, ℕ, suc, Bool, true, false, List, [], ◌∷◌, ◌++◌, Option}
+use Rattle.std.proofs.Common.{Some, None, refl, sym, ap, subst, ◌∙◌, length, length-append, arith, ⊎_elim, inl}
+use Rattle.std.proofs.lemmas.Bool.{lt-ltb, le-ltb, eq-eqb, ne_eqb, or_left, or_right, both_ways}
+use Rattle.std.proofs.lemmas.Grind.{common_steps}
 use Rattle.std.proofs.lemmas.Option.{get_or_from_slice_get}
+use Rattle.std.specs.Prelude.{slice_index_or, Err}
+use Rattle.model.proofs.Lookups.{some_same}
+use Rattle.model.proofs.Machines.{map_at-append}
+use Rattle.model.specs.History.{Record}
+use Rattle.model.specs.Machine.{State, Running, last, snapshot, leave, record_to_commit, refuse, join_history}
+use Rattle.model.specs.Machine.{body_sectors, store, store_unless, commit, step}
+use Rattle.model.specs.Map.{Bytes, KeyMap, KeyWrite, after_writes}
+use Rattle.model.specs.Operations.{Operation, Response}
+use Rattle.model.specs.Operations.Operation.{Commit}
+use Rattle.model.specs.Operations.Response.{Number, Refused}
+use Rattle.model.specs.PrivateCopy.{writes}
 use Rattle.model.specs.Verdict.{verdict}
-use Rattle.model.proofs.{Lookups.some_same, Machines.map_at-append}
+use Rattle.model.specs.declared.refusals.Refusal.{Refusal}
+use Rattle.model.specs.declared.refusals.Refusal.TheVariants.{StoreStopped, FullNumbers, FullLog, StoreFault}
+use Rattle.model.specs.declared.refusals.Refusal.TheVariants.{Overwritten}
+use Rattle.sector.specs.Failures.{Rose, Stayed}
+use Rattle.sector.specs.SectorModel.{LeavesOnly}
+use Rattle.sector.specs.declared.device.Sectors.{Ghosts}
+use Rattle.commit_log.specs.LogState.{is_stopped, used_sectors, sector_count, device_of, record_count}
+use Rattle.commit_log.specs.declared.log.Log.{Log}
 use Rattle.versions.specs.StandsFor.{StandsFor as VersionsStandFor}
+use Rattle.snapshot.specs.Made.{HasMade, is_refused}
+use Rattle.snapshot.specs.View.{View}
+use Rattle.pivot_check.proofs.SameHistories.{in_reach_still, stand_back, still_cleared}
+use Rattle.pivot_check.specs.Kept.{Facts, CommittedValue, IsInReach}
 use Rattle.pivot_check.specs.StandsFor.{IsRecordOf, IsVerdict, IsClear, IsCleared, StandForSame}
 use Rattle.pivot_check.specs.StandsFor.{StandsFor as CommittedStandsFor}
-use Rattle.pivot_check.proofs.SameHistories.{in_reach_still, stand_back, still_cleared}
-use Rattle.pivot_check.specs.declared.Verdict.TheVariants as verdicts
 use Rattle.pivot_check.specs.declared.verdict.Cleared.{Cleared}
-use Rattle.sector.specs.{Failures.Rose, Failures.Stayed, SectorModel.LeavesOnly}
-use Rattle.engine.specs.{declared.faults.EngineFault.EngineFault, declared.faults.EngineFault.TheVariants.Refused as Refusing}
-use Rattle.engine.proofs.{Sessions.IsFound, Sessions.beside_weaker, Calls.Held, Calls.found_open, Calls.leave_call}
+use Rattle.engine.proofs.Calls.{Held, found_open, leave_call}
+use Rattle.engine.proofs.Sessions.{IsFound, beside_weaker}
 use Rattle.engine.proofs.Steps.{step_is, reached_by, store_full, store_fault, store_joined, map_at_next}
+use Rattle.engine.specs.Changes.{entry_of, Leaves, IsWritten, HasLogRoom, IsLogged, IsLogStopped, sectors_taken}
+use Rattle.engine.specs.Changes.{AddsOneAtMost, records_added}
+use Rattle.engine.specs.HistoryValue.{HistoryValue, IsSameHistory, Joins}
 use Rattle.engine.specs.Judgements.{IsRefused, IsToJudge, IsToCommit}
+use Rattle.engine.specs.Meaning.{StandsForSame, Leads, IsNotRefused, IsReadOnly, IsLeftByCommit, has_risen}
+use Rattle.engine.specs.Meaning.{response_to}
+use Rattle.engine.specs.Recovery.{IsStored, WhereStored, SurvivesAppend, LeavesInDoubt, HoldsMap, committed_map}
+use Rattle.engine.specs.Recovery.{IsInDoubt}
+use Rattle.engine.specs.StandsFor.{StandsFor, IsRunning, AreRunning}
+use Rattle.engine.specs.declared.engine.Engine.{Engine}
+use Rattle.engine.specs.declared.faults.EngineFault.{EngineFault}
+use Rattle.engine.specs.declared.faults.EngineFault.TheVariants.{Refused as Refusing}
 
 -- ---- the device's failures
 
@@ -25,6 +56,22 @@ not_risen before now h = grind (arith, common_steps, le-ltb, ne_eqb)
 
 pub risen : (before now : ℕ) → Rose before now → has_risen before now ≡ true
 risen before now h = grind (arith, common_steps, or_left, lt-ltb, or_right, eq-eqb)
+
+-- ---- the records of the log
+
+module _ {D : Type 0} {g : Ghosts D} (old new : Log D g) where
+  pub added_none : record_count new ≡ record_count old → AddsOneAtMost old new
+  added_none e = record { kept = omega (arith, e); one = omega (arith, e); same = λ _. e }
+
+  -- a commit adds one where something was written, in the sectors that it takes
+  added_by : (ws : List KeyWrite) → record_count new ≡ record_count old + records_added ws → used_sectors new ≡ used_sectors old + sectors_taken ws
+      → AddsOneAtMost old new
+  added_by [] records used = added_none (omega (arith, records))
+  added_by (w ∷ ws) records used =
+      record { kept = omega (arith, records); one = omega (arith, records); same = λ e. absurd (omega (arith, used, e)) }
+
+  pub added_once : (ws : List KeyWrite) → IsLogged old new ws → AddsOneAtMost old new
+  added_once ws logged = added_by ws logged.records logged.used
 
 -- ---- what is judged of a transaction
 
@@ -37,7 +84,8 @@ abbrev pub HasVerdict : Facts → View → Option Refusal → Type 0
 HasVerdict f t o = IsInReach f t → (history : List Record) → CommittedStandsFor f history → (r : Record) → IsRecordOf t (f.last + 1) r → verdict history r ≡ o
 
 -- where each image that a crash leaves has P, it has what follows from P
-pub weaker_crash : {D : Type 0} (moment : D → ℕ) (left_since : D → ℕ → List (List ℕ) → Type 0) (old new : D) (P Q : List (List ℕ) → Type 0) → ((c : List (List ℕ)) → P c → Q c) → LeavesOnly moment left_since old new P → LeavesOnly moment left_since old new Q
+pub weaker_crash : {D : Type 0} (moment : D → ℕ) (left_since : D → ℕ → List (List ℕ) → Type 0) (old new : D) (P Q : List (List ℕ) → Type 0)
+    → ((c : List (List ℕ)) → P c → Q c) → LeavesOnly moment left_since old new P → LeavesOnly moment left_since old new Q
 weaker_crash moment left_since old new P Q f h = grind (arith, common_steps, ⊎_elim)
 
 -- a transaction that runs beside what is kept runs beside what stands for the same histories
@@ -50,7 +98,8 @@ module _ {D : Type 0} {g : Ghosts D} where
   -- only memory was made ready
   same_with : (e e' : Engine D g) (m : State) → e'.log ≡ e.log → e'.running.entries ≡ e.running.entries
       → StandForSame e.history.committed.facts e'.history.committed.facts
-      → ((held : ℕ → Bool) (base : KeyMap) (history : List Record) → VersionsStandFor e.history.versions held base history → VersionsStandFor e'.history.versions held base history) → StandsFor e m → StandsFor e' m
+      → ((held : ℕ → Bool) (base : KeyMap) (history : List Record) → VersionsStandFor e.history.versions held base history
+      → VersionsStandFor e'.history.versions held base history) → StandsFor e m → StandsFor e' m
   same_with e e' m log entries same stands h =
       let stopped : is_stopped e'.log ≡ is_stopped e.log = ap (λ (l : Log D g). is_stopped l) log in
       let used : used_sectors e'.log ≡ used_sectors e.log = ap (λ (l : Log D g). used_sectors l) log in
@@ -77,45 +126,59 @@ module _ {D : Type 0} {g : Ghosts D} where
 
   -- ---- a commit that is refused, and ends the transaction
 
-  pub ended_refused : {A : Type 0} (e e' : Engine D g) (s : ℕ) (failed : Bool) (f : A → Response) (fault : EngineFault) (refusal : Refusal) → IsRefused e s refusal → Leaves e e' s → fault ≡ Refusing refusal → Leads e e' s Commit failed (response_to f (Err fault))
+  pub ended_refused : {A : Type 0} (e e' : Engine D g) (s : ℕ) (failed : Bool) (f : A → Response) (fault : EngineFault) (refusal : Refusal)
+      → IsRefused e s refusal → Leaves e e' s → fault ≡ Refusing refusal → Leads e e' s Commit failed (response_to f (Err fault))
   ended_refused e e' s failed f fault refusal refused leaves is = rw is (λ m h. (leave m s, leave_call e e' s leaves m h, refused m failed h))
 
-  pub ended_overwritten : (e e' : Engine D g) (s : ℕ) (t u : View) (failed : Bool) (i : ℕ) (key : Bytes) → ((d : KeyWrite) → IsRefused e s (Overwritten (slice_index_or t.writes i d).0)) → Leaves e e' s
-      → entry_of s e ≡ Some t → Some u ≡ entry_of s e → ((d : KeyWrite) → key ≡ (slice_index_or u.writes i d).0) → Leads e e' s Commit failed (Some (Refused (Overwritten key)))
+  pub ended_overwritten : (e e' : Engine D g) (s : ℕ) (t u : View) (failed : Bool) (i : ℕ) (key : Bytes)
+      → ((d : KeyWrite) → IsRefused e s (Overwritten (slice_index_or t.writes i d).0)) → Leaves e e' s
+      → entry_of s e ≡ Some t → Some u ≡ entry_of s e → ((d : KeyWrite) → key ≡ (slice_index_or u.writes i d).0)
+      → Leads e e' s Commit failed (Some (Refused (Overwritten key)))
   ended_overwritten e e' s t u failed i key refused leaves entry taken at =
       let d : KeyWrite = ([], None) in
       let is : key ≡ (slice_index_or t.writes i d).0 = at d ∙ ap (λ (x : View). (slice_index_or x.writes i d).0) (some_same (taken ∙ entry)) in
-      ended_refused {A = ℕ} e e' s failed Number (Refusing (Overwritten key)) (Overwritten key) (subst (λ (k : Bytes). IsRefused e s (Overwritten k)) (sym is) (refused d)) leaves refl
+      ended_refused {A = ℕ} e e' s failed Number (Refusing (Overwritten key)) (Overwritten key)
+      (subst (λ (k : Bytes). IsRefused e s (Overwritten k)) (sym is) (refused d)) leaves refl
 
-  refused_if : (e : Engine D g) (s : ℕ) (t : View) (refusal : Refusal) → entry_of s e ≡ Some t → ((m : State) (r : Running) (failed : Bool) (h : StandsFor e m) → Held e m h t r → commit m s r failed ≡ refuse m s refusal) → IsRefused e s refusal
+  refused_if : (e : Engine D g) (s : ℕ) (t : View) (refusal : Refusal) → entry_of s e ≡ Some t
+      → ((m : State) (r : Running) (failed : Bool) (h : StandsFor e m) → Held e m h t r → commit m s r failed ≡ refuse m s refusal) → IsRefused e s refusal
   refused_if e s t refusal entry says m failed h = let at = found_open e m s t h entry in step_is m s Commit failed _ at.is ∙ says m at.run failed h at.same
 
   pub stopped_refuses : (e : Engine D g) (s : ℕ) (t : View) → entry_of s e ≡ Some t → is_stopped e.log ≡ true → IsRefused e s StoreStopped
   stopped_refuses e s t entry stopped = refused_if e s t StoreStopped entry (λ m r failed h same. rw (h.stopped ∙ stopped) refl)
 
-  pub numbers_refuse : (e : Engine D g) (s : ℕ) (t : View) → entry_of s e ≡ Some t → is_stopped e.log ≡ false → 2 ^ 63 - 1 ≤ e.history.committed.facts.last → IsRefused e s FullNumbers
+  pub numbers_refuse : (e : Engine D g) (s : ℕ) (t : View) → entry_of s e ≡ Some t → is_stopped e.log ≡ false → 2 ^ 63 - 1 ≤ e.history.committed.facts.last
+      → IsRefused e s FullNumbers
   numbers_refuse e s t entry running numbers = refused_if e s t FullNumbers entry (λ m r failed h same.
       let few = h.few in let l = h.history.committed.last in rw (h.stopped ∙ running, eq-eqb (last m) (2 ^ 63 - 1) (omega arith)) refl)
 
   -- the machine's record of the transaction
-  own_record : (e : Engine D g) (m : State) (t : View) (r : Running) (h : StandsFor e m) → HasItsWrites t → Held e m h t r → IsRecordOf t (e.history.committed.facts.last + 1) (record_to_commit m r)
+  own_record : (e : Engine D g) (m : State) (t : View) (r : Running) (h : StandsFor e m) → HasItsWrites t → Held e m h t r
+      → IsRecordOf t (e.history.committed.facts.last + 1) (record_to_commit m r)
   own_record e m t r h made same = grind (arith, common_steps)
 
   -- the machine's commit by its verdict
-  judged : (e : Engine D g) (m : State) (s : ℕ) (t : View) (r : Running) (failed : Bool) (h : StandsFor e m) → Held e m h t r → IsToJudge e s t → HasItsWrites t → (o : Option Refusal) → HasVerdict e.history.committed.facts t o
+  judged : (e : Engine D g) (m : State) (s : ℕ) (t : View) (r : Running) (failed : Bool) (h : StandsFor e m) → Held e m h t r → IsToJudge e s t → HasItsWrites t
+      → (o : Option Refusal) → HasVerdict e.history.committed.facts t o
       → commit m s r failed ≡ store_unless o m s (record_to_commit m r) failed
   judged e m s t r failed h same j made o says =
       let numbers = j.numbers in let l = h.history.committed.last in
-      rw (h.stopped ∙ j.running, ne_eqb (last m) (2 ^ 63 - 1) (λ k. omega arith), says same.in_reach m.history h.history.committed (record_to_commit m r) (own_record e m t r h made same)) refl
+      rw (
+        h.stopped ∙ j.running,
+        ne_eqb (last m) (2 ^ 63 - 1) (λ k. omega arith),
+        says same.in_reach m.history h.history.committed (record_to_commit m r) (own_record e m t r h made same),
+      ) refl
 
   -- that of what has no conflict
-  cleared : (e : Engine D g) (m : State) (s : ℕ) (t : View) (r : Running) (failed : Bool) (h : StandsFor e m) → Held e m h t r → IsToJudge e s t → HasItsWrites t
+  cleared : (e : Engine D g) (m : State) (s : ℕ) (t : View) (r : Running) (failed : Bool) (h : StandsFor e m) → Held e m h t r → IsToJudge e s t
+      → HasItsWrites t
       → (IsInReach e.history.committed.facts t → IsClear e.history.committed.facts t) → commit m s r failed ≡ store m s (record_to_commit m r) t.writes failed
   cleared e m s t r failed h same j made clear =
       judged e m s t r failed h same j made None clear ∙ ap (λ ws. store m s (record_to_commit m r) ws failed) (own_record e m t r h made same).writes
 
   -- what was found of the transaction's writes, and of what has committed
-  module _ (e : Engine D g) (s : ℕ) (t : View) (j : IsToJudge e s t) (committed : CommittedValue) (history : HistoryValue) (found : committed ≡ history.committed) (now : e.history ≡ history)
+  module _ (e : Engine D g) (s : ℕ) (t : View) (j : IsToJudge e s t) (committed : CommittedValue) (history : HistoryValue) (found : committed
+      ≡ history.committed) (now : e.history ≡ history)
       (ws : List KeyWrite) (is : ws ≡ t.writes) (made : (m : KeyMap) (qs : List Operation) → HasMade t m qs → ws ≡ writes m qs) where
     same : committed ≡ e.history.committed
     same = found ∙ sym (ap (λ (v : HistoryValue). v.committed) now)
@@ -126,9 +189,11 @@ module _ {D : Type 0} {g : Ghosts D} where
     pub conflict_refuses : (refusal : Refusal) → HasVerdict committed.facts t (Some refusal) → IsRefused e s refusal
     conflict_refuses refusal says =
         refused_if e s t refusal j.entry
-        (λ m r failed h held. judged e m s t r failed h held j its_writes (Some refusal) (subst (λ (x : CommittedValue). HasVerdict x.facts t (Some refusal)) same says))
+        (λ m r failed h held. judged e m s t r failed h held j its_writes (Some refusal)
+        (subst (λ (x : CommittedValue). HasVerdict x.facts t (Some refusal)) same says))
 
-    pub overwritten_refuses : (i : ℕ) (d : KeyWrite) → (IsInReach committed.facts t → IsVerdict committed.facts t (verdicts.Overwritten i)) → IsRefused e s (Overwritten (slice_index_or t.writes i d).0)
+    pub overwritten_refuses : (i : ℕ) (d : KeyWrite) → (IsInReach committed.facts t → IsVerdict committed.facts t (verdicts.Overwritten i))
+        → IsRefused e s (Overwritten (slice_index_or t.writes i d).0)
     overwritten_refuses i d says = conflict_refuses (Overwritten (slice_index_or t.writes i d).0) (λ reach history stands r own.
         let said = says reach history stands r own in
         said.2 ∙ ap (λ (w : KeyWrite). Some (Overwritten w.0)) (sym (get_or_from_slice_get t.writes i said.0 d said.1)))
@@ -136,17 +201,20 @@ module _ {D : Type 0} {g : Ghosts D} where
     is_clear : (IsInReach committed.facts t → IsClear committed.facts t) → IsInReach e.history.committed.facts t → IsClear e.history.committed.facts t
     is_clear clear = subst (λ (x : CommittedValue). IsInReach x.facts t → IsClear x.facts t) same clear
 
-    pub full_refuses : (IsInReach committed.facts t → IsClear committed.facts t) → IsWritten t.writes → sector_count e.log ≤ used_sectors e.log + body_sectors t.writes → IsRefused e s FullLog
+    pub full_refuses : (IsInReach committed.facts t → IsClear committed.facts t) → IsWritten t.writes
+        → sector_count e.log ≤ used_sectors e.log + body_sectors t.writes → IsRefused e s FullLog
     full_refuses clear some full = refused_if e s t FullLog j.entry (λ m r failed h held.
         let used = h.used in let count = h.count in
-        cleared e m s t r failed h held j its_writes (is_clear clear) ∙ store_full m s (record_to_commit m r) t.writes failed some (omega (arith, used, count, full)))
+        cleared e m s t r failed h held j its_writes (is_clear clear)
+        ∙ store_full m s (record_to_commit m r) t.writes failed some (omega (arith, used, count, full)))
 
     pub to_commit : (IsInReach committed.facts t → IsClear committed.facts t) → HasLogRoom (used_sectors e.log) (sector_count e.log) t.writes → IsToCommit e s t
     to_commit clear room = record { asked = j; made = its_writes; clear = is_clear clear; room = room }
 
   -- ---- the end of the transaction, once memory is ready and whatever became of the log
 
-  left_by : (e e' : Engine D g) (log : Log D g) (history : HistoryValue) (s : ℕ) → IsSameHistory e.history history → Leaves (record e { log = log; history = history }) e' s
+  left_by : (e e' : Engine D g) (log : Log D g) (history : HistoryValue) (s : ℕ) → IsSameHistory e.history history
+      → Leaves (record e { log = log; history = history }) e' s
       → (m : State) → StandsFor e m → StandsFor (record e' { log = e.log }) (leave m s)
   left_by e e' log history s same leaves m h =
       leave_call (record e { history = history }) (record e' { log = e.log }) s
@@ -155,7 +223,8 @@ module _ {D : Type 0} {g : Ghosts D} where
 
   -- ---- a commit in which the device failed
 
-  pub ended_fault : {A : Type 0} (e e' : Engine D g) (log : Log D g) (history : HistoryValue) (s : ℕ) (t : View) (failed : Bool) (f : A → Response) (fault : EngineFault) → fault ≡ Refusing StoreFault → IsToCommit e s t
+  pub ended_fault : {A : Type 0} (e e' : Engine D g) (log : Log D g) (history : HistoryValue) (s : ℕ) (t : View) (failed : Bool) (f : A
+      → Response) (fault : EngineFault) → fault ≡ Refusing StoreFault → IsToCommit e s t
       → IsLogStopped e.log log t.writes → IsSameHistory e.history history → Leaves (record e { log = log; history = history }) e' s → failed ≡ true
       → (g.keeps_model → LeavesInDoubt e.log log) → Leads e e' s Commit failed (response_to f (Err fault))
   ended_fault e e' log history s t failed f fault told j stops same leaves fails doubt = rw told (λ m h.
@@ -174,7 +243,8 @@ module _ {D : Type 0} {g : Ghosts D} where
 
   -- the machine's step, whether or not the device failed where nothing was written
   step_joined : (e : Engine D g) (s : ℕ) (t : View) (failed : Bool) → IsToCommit e s t → (IsWritten t.writes → failed ≡ false)
-      → (m : State) (h : StandsFor e m) (at : IsFound (Held e m h) s t m.running) → step m s Commit failed ≡ join_history m s (record_to_commit m at.run) (sectors_taken t.writes)
+      → (m : State) (h : StandsFor e m) (at : IsFound (Held e m h) s t m.running)
+      → step m s Commit failed ≡ join_history m s (record_to_commit m at.run) (sectors_taken t.writes)
   step_joined e s t failed j quiet m h at =
       let used = h.used in let count = h.count in
       step_is m s Commit failed _ at.is ∙ cleared e m s t at.run failed h at.same j.asked j.made j.clear
@@ -186,19 +256,26 @@ module _ {D : Type 0} {g : Ghosts D} where
   commit_memory e e' s t j log entries same =
       let there = λ (m : State). same_with e e' m log entries same.committed (λ held base history. (same.stands held base history).0) in
       let back = λ (m : State). same_with e' e m (sym log) (sym entries) (stand_back _ _ same.committed)
-      (λ held base history. (same.stands held base history).1) in
-      (λ m. (there m, back m), λ m h. ap (λ (p : State × Response). is_refused p.1) (step_joined e s t false j (λ _. refl) m h (found_open e m s t h j.asked.entry)))
+      (λ held base history. (same.stands held base history).1) in (
+        λ m. (there m, back m),
+        λ m h. ap (λ (p : State × Response). is_refused p.1) (step_joined e s t false j (λ _. refl) m h (found_open e m s t h j.asked.entry)),
+      )
 
   -- the committed map with the transaction's writes
   map_joined : (e : Engine D g) (s : ℕ) (t : View) (j : IsToCommit e s t) (m : State) (h : StandsFor e m) (at : IsFound (Held e m h) s t m.running)
       → committed_map (join_history m s (record_to_commit m at.run) (sectors_taken t.writes)).0 ≡ after_writes (committed_map m) t.writes
   map_joined e s t j m h at =
-      map_at_next m.base m.history (record_to_commit m at.run) h.history.committed.numbered refl ∙ ap (after_writes (committed_map m)) (own_record e m t at.run h j.made at.same).writes
+      map_at_next m.base m.history (record_to_commit m at.run) h.history.committed.numbered refl
+      ∙ ap (after_writes (committed_map m)) (own_record e m t at.run h j.made at.same).writes
 
-  pub joined : (e e' : Engine D g) (log : Log D g) (history new : HistoryValue) (s : ℕ) (t u : View) (failed : Bool) (n : ℕ) → IsToCommit e s t → IsLogged e.log log t.writes
-      → (g.keeps_model → WhereStored e.log (λ map. IsStored log (after_writes map t.writes))) → IsSameHistory e.history history → Leaves (record e { log = log; history = history }) e' s
-      → Some u ≡ entry_of s e → new.committed.facts.last ≡ e'.history.committed.facts.last + 1 → new.committed.facts.oldest ≡ e'.history.committed.facts.oldest → Joins e'.history new u
-      → (IsWritten t.writes → failed ≡ false) → n ≡ e'.history.committed.facts.last + 1 → Leads e (record e' { history = new }) s Commit failed (Some (Number n))
+  pub joined : (e e' : Engine D g) (log : Log D g) (history new : HistoryValue) (s : ℕ) (t u : View) (failed : Bool) (n : ℕ) → IsToCommit e s t
+      → IsLogged e.log log t.writes
+      → (g.keeps_model → WhereStored e.log (λ map. IsStored log (after_writes map t.writes))) → IsSameHistory e.history history
+      → Leaves (record e { log = log; history = history }) e' s
+      → Some u ≡ entry_of s e → new.committed.facts.last ≡ e'.history.committed.facts.last + 1 → new.committed.facts.oldest ≡ e'.history.committed.facts.oldest
+      → Joins e'.history new u
+      → (IsWritten t.writes → failed ≡ false) → n ≡ e'.history.committed.facts.last + 1
+      → Leads e (record e' { history = new }) s Commit failed (Some (Number n))
   joined e e' log history new s t u failed n j logged stored same leaves taken last' oldest' joins quiet number m h =
       let at = found_open e m s t h j.asked.entry in
       let r : Record = record_to_commit m at.run in
@@ -215,11 +292,14 @@ module _ {D : Type 0} {g : Ghosts D} where
       let l = left.history.committed.last in let used = h.used in let taken' = logged.used in let log' = leaves.store.log in
       let long : length (m.history ++ r ∷ []) ≡ length m.history + 1 = length-append m.history (r ∷ []) in
       let counted : suc (length m.history) ≡ n = omega arith in
-      let later : (v : View) (x : Running) → IsRunning e'.history.committed.facts left.held m.base m.history v x → IsRunning new.committed.facts left.held m.base (m.history ++ r ∷ []) v x =
+      let later : (v : View) (x : Running) → IsRunning e'.history.committed.facts left.held m.base m.history v x
+      → IsRunning new.committed.facts left.held m.base (m.history ++ r ∷ []) v x =
       λ v x k. grind (arith, common_steps, map_at-append m.base m.history r x.begin) in
-      let running' = beside_weaker (Held (record e' { log = e.log }) (leave m s) left) (λ v x. IsRunning new.committed.facts left.held m.base (m.history ++ r ∷ []) v x) later e'.running.entries (leave m s).running left.running in
+      let running' = beside_weaker (Held (record e' { log = e.log }) (leave m s) left)
+      (λ v x. IsRunning new.committed.facts left.held m.base (m.history ++ r ∷ []) v x) later e'.running.entries (leave m s).running left.running in
       let reached' = reached_by m s Commit failed join is h.reached in
-      let stored' = λ (keeps : g.keeps_model). subst (IsStored log) (sym (map_joined e s t j m h at)) (stored keeps (committed_map m) (h.stored keeps j.asked.running)) in
+      let stored' = λ (keeps : g.keeps_model). subst (IsStored log) (sym (map_joined e s t j m h at))
+      (stored keeps (committed_map m) (h.stored keeps j.asked.running)) in
       let history' = joins left.held m.base m.history r left.history own.0 own.1 in
       let numbers = j.asked.numbers in let runs = j.asked.running in
       (join.0, grind (arith, common_steps, both_ways), is ∙ ap (λ k. (join.0, Number k)) counted)
@@ -238,11 +318,15 @@ module _ {D : Type 0} {g : Ghosts D} where
   unwritten e s t m h j none = let at = found_open e m s t h j.asked.entry in j.made (snapshot m at.run) at.run.requests at.same.made ∙ none at.run at.is
 
   -- a crash during a commit that came as far as the log
-  pub crash_stored : (e : Engine D g) (log : Log D g) (device : D) (s : ℕ) (t : View) → IsToCommit e s t → device ≡ log.device → SurvivesAppend e.log log t.writes
+  pub crash_stored : (e : Engine D g) (log : Log D g) (device : D) (s : ℕ) (t : View) → IsToCommit e s t → device ≡ log.device
+      → SurvivesAppend e.log log t.writes
       → g.keeps_model → (m : State) → StandsFor e m → LeavesOnly g.moment g.left_since e.log.device device (IsLeftByCommit e m s)
   crash_stored e log device s t j same crash keeps m h =
       let at = found_open e m s t h j.asked.entry in
       let is = step_joined e s t false j (λ _. refl) m h at in
-      let after : after_writes (committed_map m) t.writes ≡ committed_map (step m s Commit false).0 = sym (ap (λ (p : State × Response). committed_map p.0) is ∙ map_joined e s t j m h at) in
-      rw same (weaker_crash g.moment g.left_since e.log.device log.device (λ c. HoldsMap c (committed_map m) ⊎ HoldsMap c (after_writes (committed_map m) t.writes)) (IsLeftByCommit e m s)
-      (λ c y. inl (h.stopped ∙ j.asked.running, subst (λ (k : KeyMap). HoldsMap c (committed_map m) ⊎ HoldsMap c k) after y)) (crash (committed_map m) (h.stored keeps j.asked.running)))
+      let after : after_writes (committed_map m) t.writes ≡ committed_map (step m s Commit false).0 =
+      sym (ap (λ (p : State × Response). committed_map p.0) is ∙ map_joined e s t j m h at) in
+      rw same (weaker_crash g.moment g.left_since e.log.device log.device (λ c. HoldsMap c (committed_map m)
+      ⊎ HoldsMap c (after_writes (committed_map m) t.writes)) (IsLeftByCommit e m s)
+      (λ c y. inl (h.stopped ∙ j.asked.running, subst (λ (k : KeyMap). HoldsMap c (committed_map m) ⊎ HoldsMap c k) after y))
+      (crash (committed_map m) (h.stored keeps j.asked.running)))

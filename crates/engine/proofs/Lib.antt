@@ -4,4 +4,3 @@ pub mod Calls
 pub mod Requests
 pub mod Committing
 pub mod Reclaims
-pub mod Words

@@ -1,8 +1,22 @@
 -- The machine's steps, case by case.
-use Rattle.engine.proofs.Words.{common_steps, ◌≡◌, ◌<◌, ◌≤◌, ◌+◌, ℕ, suc, Bool, true, false, List, [], ◌∷◌, ◌++◌, Option, refl, sym, ap, subst, ◌∙◌, length, length-append, arith, le-leb, lt-leb, nat_tests, FullLog, StoreFault, KeyMap, KeyWrite, IsMap, after_writes, Operation, Response, Refused, PrivateCopy, respond, Record, map_at, IsNumberedFrom, State, Running, Input, opened, running_of, leave, refuse, join_history, body_sectors, store, step_of, step, next, state_after, IsReached, is_refused, sectors_taken, HasLogRoom}
-use Rattle.model.specs.Machine.Input.{Asks}
+use Rattle.std.proofs.Common.{◌≡◌, ◌<◌, ◌≤◌, ◌+◌, ℕ, suc, Bool, true, false, List, [], ◌∷◌, ◌++◌, Option, refl, sym}
+use Rattle.std.proofs.Common.{ap, subst, ◌∙◌, length, length-append, arith}
+use Rattle.std.proofs.lemmas.Bool.{le-leb, lt-leb}
+use Rattle.std.proofs.lemmas.Bool.Decides.{nat_tests}
+use Rattle.std.proofs.lemmas.Grind.{common_steps}
 use Rattle.model.proofs.Machines.{machine_law}
+use Rattle.model.specs.History.{Record, map_at, IsNumberedFrom}
+use Rattle.model.specs.Machine.{State, Running, Input, opened, running_of, leave, refuse, join_history, body_sectors}
+use Rattle.model.specs.Machine.{store, step_of, step, next, state_after, IsReached}
+use Rattle.model.specs.Machine.Input.{Asks}
+use Rattle.model.specs.Map.{KeyMap, KeyWrite, IsMap, after_writes}
+use Rattle.model.specs.Operations.{Operation, Response}
+use Rattle.model.specs.Operations.Response.{Refused}
+use Rattle.model.specs.PrivateCopy.{PrivateCopy, respond}
+use Rattle.model.specs.declared.refusals.Refusal.TheVariants.{FullLog, StoreFault}
 use Rattle.versions.proofs.Histories.{map_at-push, maps-history}
+use Rattle.snapshot.specs.Made.{is_refused}
+use Rattle.engine.specs.Changes.{sectors_taken, HasLogRoom}
 
 pub step_is : (m : State) (s : ℕ) (q : Operation) (failed : Bool) (o : Option Running) → running_of m s ≡ o → step m s q failed ≡ step_of o m s q failed
 unfolding step
@@ -45,16 +59,19 @@ module _ (m : State) (s : ℕ) (r : Record) where
       store m s r ws failed ≡ (record (leave m s) { stopped = true }, Refused StoreFault)
   store_fault a0 a1 a2 a3 a4 = grind (arith, common_steps, lt-leb)
 
-  pub store_joined : (ws : List KeyWrite) (failed : Bool) → HasLogRoom m.used m.count ws → ((ws ≡ [] → ⊥) → failed ≡ false) → store m s r ws failed ≡ join_history m s r (sectors_taken ws)
+  pub store_joined : (ws : List KeyWrite) (failed : Bool) → HasLogRoom m.used m.count ws → ((ws ≡ [] → ⊥) → failed ≡ false)
+      → store m s r ws failed ≡ join_history m s r (sectors_taken ws)
   store_joined a0 a1 a2 a3 = grind (arith, common_steps, lt-leb)
 
 -- ---- maps under one more record
 
 map_at_all : (base : KeyMap) (xs : List Record) (n l k : ℕ) → IsNumberedFrom n xs → l ≡ n + length xs → l ≤ k → map_at base xs k ≡ map_at base xs l
 map_at_all base [] n l k h is le = refl
-map_at_all base (x ∷ xs) n l k h is le = let first = h.0 in grind (arith, nat_tests, map_at_all (after_writes base x.writes) xs (suc n) l k h.1 (omega arith) le)
+map_at_all base (x ∷ xs) n l k h is le = let first =
+    h.0 in grind (arith, nat_tests, map_at_all (after_writes base x.writes) xs (suc n) l k h.1 (omega arith) le)
 
-pub map_at_next : (base : KeyMap) (rs : List Record) (r : Record) → IsNumberedFrom 0 rs → r.commit ≡ suc (length rs) → map_at base (rs ++ r ∷ []) (length (rs ++ r ∷ [])) ≡ after_writes (map_at base rs (length rs)) r.writes
+pub map_at_next : (base : KeyMap) (rs : List Record) (r : Record) → IsNumberedFrom 0 rs → r.commit ≡ suc (length rs)
+    → map_at base (rs ++ r ∷ []) (length (rs ++ r ∷ [])) ≡ after_writes (map_at base rs (length rs)) r.writes
 map_at_next base rs r h commit =
     let long = length-append rs (r ∷ []) in
     let all = map_at_all base rs 0 (length rs) (length (rs ++ r ∷ [])) h (omega arith) (omega arith) in

@@ -1,10 +1,14 @@
 -- What the engine's private calls change.
+use Rattle.std.specs.BTreeMap.{is_at}
+use Rattle.std.specs.Map.{lookup, remove_entry}
+use Rattle.std.specs.Ordering.{nat_cmp}
 use Rattle.std.specs.Prelude.{◌≡◌, ℕ, ◌+◌, ◌<◌, ◌≤◌, true, false, List, [], ◌∷◌, length, Option}
-use Rattle.std.specs.{Ordering.nat_cmp, Map.lookup, Map.remove_entry, BTreeMap.is_at}
-use Rattle.model.specs.{Map.KeyWrite, Machine.body_sectors}
-use Rattle.sector.specs.{declared.device.Sectors.Ghosts, Failures.Rose, Failures.Stayed}
+use Rattle.model.specs.Machine.{body_sectors}
+use Rattle.model.specs.Map.{KeyWrite}
+use Rattle.sector.specs.Failures.{Rose, Stayed}
+use Rattle.sector.specs.declared.device.Sectors.{Ghosts}
+use Rattle.commit_log.specs.LogState.{is_stopped, used_sectors, sector_count, failure_count, record_count}
 use Rattle.commit_log.specs.declared.log.Log.{Log}
-use Rattle.commit_log.specs.LogState.{is_stopped, used_sectors, sector_count, failure_count}
 use Rattle.snapshot.specs.View.{View}
 use Rattle.engine.specs.declared.engine.Engine.{Engine}
 
@@ -28,6 +32,11 @@ abbrev pub sectors_taken : List KeyWrite → ℕ
 sectors_taken [] = 0
 sectors_taken (w ∷ ws) = body_sectors (w ∷ ws) + 1
 
+-- and how many records: one, or none where nothing was written
+abbrev pub records_added : List KeyWrite → ℕ
+records_added [] = 0
+records_added (w ∷ ws) = 1
+
 abbrev pub IsWritten : List KeyWrite → Type 0
 IsWritten ws = ws ≡ [] → ⊥
 
@@ -39,6 +48,7 @@ HasLogRoom used count ws = IsWritten ws → used + body_sectors ws < count
 pub record IsLogged {D : Type 0} {g : Ghosts D} (old new : Log D g) (ws : List KeyWrite) : Type 0 where
   pub running : is_stopped new ≡ false
   pub used : used_sectors new ≡ used_sectors old + sectors_taken ws
+  pub records : record_count new ≡ record_count old + records_added ws
   pub size : sector_count new ≡ sector_count old
   pub no_fault : IsWritten ws → Stayed (failure_count old) (failure_count new)
   pub untouched : ws ≡ [] → new ≡ old
@@ -48,5 +58,12 @@ pub record IsLogStopped {D : Type 0} {g : Ghosts D} (old new : Log D g) (ws : Li
   pub written : IsWritten ws
   pub stopped : is_stopped new ≡ true
   pub used : used_sectors new ≡ used_sectors old
+  pub records : record_count new ≡ record_count old
   pub size : sector_count new ≡ sector_count old
   pub fault : Rose (failure_count old) (failure_count new)
+
+-- one record was added to the log at most, and none where it uses as many sectors as before
+pub record AddsOneAtMost {D : Type 0} {g : Ghosts D} (old new : Log D g) : Type 0 where
+  pub kept : record_count old ≤ record_count new
+  pub one : record_count new ≤ record_count old + 1
+  pub same : used_sectors new ≡ used_sectors old → record_count new ≡ record_count old

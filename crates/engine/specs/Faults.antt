@@ -1,10 +1,11 @@
 -- The faults of a transaction as faults of the engine.
-use Rattle.snapshot.specs.declared.faults.SnapshotFault.{SnapshotFault}
-use Rattle.snapshot.specs.declared.faults.SnapshotFault.TheVariants.{FullWrites, FullMarks, Memory}
 use Rattle.model.specs.declared.refusals.Refusal.TheVariants as refusals
-use Rattle.engine.specs.{declared.faults.EngineFault.EngineFault, declared.faults.ReadFault.ReadFault}
 use Rattle.engine.specs.declared.faults.EngineFault.TheVariants as faults
 use Rattle.engine.specs.declared.faults.ReadFault.TheVariants as reads
+use Rattle.snapshot.specs.declared.faults.SnapshotFault.{SnapshotFault}
+use Rattle.snapshot.specs.declared.faults.SnapshotFault.TheVariants.{FullWrites, FullMarks, Memory}
+use Rattle.engine.specs.declared.faults.EngineFault.{EngineFault}
+use Rattle.engine.specs.declared.faults.ReadFault.{ReadFault}
 
 abbrev pub of_write : SnapshotFault → EngineFault
 of_write FullWrites = faults.Refused refusals.FullWrites

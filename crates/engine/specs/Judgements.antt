@@ -1,16 +1,26 @@
 -- What a COMMIT was judged to be.
-use Rattle.std.specs.Prelude.{◌≡◌, ℕ, ◌<◌, ◌-◌, ◌^◌, Bool, false, List, [], length, slice_index_or}
-use Rattle.std.specs.Prelude.{Option, Some, None}
-use Rattle.model.specs.{declared.refusals.Refusal.Refusal, Map.KeyMap, Map.KeyWrite, Operations.Operation, Operations.Operation.Commit, PrivateCopy.writes}
 use Rattle.model.specs.declared.refusals.Refusal.TheVariants as refusals
+use Rattle.std.specs.Prelude.{◌≡◌, ℕ, ◌<◌, ◌-◌, ◌^◌, Bool, false, List, [], length, slice_index_or, Option, Some}
+use Rattle.std.specs.Prelude.{None}
 use Rattle.model.specs.Machine.{State, refuse, step, payload_size}
-use Rattle.snapshot.specs.{View.View, Made.HasMade}
-use Rattle.pivot_check.specs.{Kept.IsInReach, StandsFor.IsClear, StandsFor.IsCleared}
+use Rattle.model.specs.Map.{KeyMap, KeyWrite}
+use Rattle.model.specs.Operations.{Operation}
+use Rattle.model.specs.Operations.Operation.{Commit}
+use Rattle.model.specs.PrivateCopy.{writes}
+use Rattle.model.specs.declared.refusals.Refusal.{Refusal}
 use Rattle.sector.specs.declared.device.Sectors.{Ghosts}
-use Rattle.commit_log.specs.{declared.log.Log.Log, LogState.is_stopped, LogState.used_sectors, LogState.sector_count}
-use Rattle.engine.specs.{declared.engine.Engine.Engine, declared.judging.Judgement.Judgement, HistoryValue.HistoryValue, StandsFor.StandsFor}
-use Rattle.engine.specs.declared.judging.Judgement.TheVariants.{Refused, Overwritten, Clear}
+use Rattle.commit_log.specs.LogState.{is_stopped, used_sectors, sector_count}
+use Rattle.commit_log.specs.declared.log.Log.{Log}
+use Rattle.snapshot.specs.Made.{HasMade}
+use Rattle.snapshot.specs.View.{View}
+use Rattle.pivot_check.specs.Kept.{IsInReach}
+use Rattle.pivot_check.specs.StandsFor.{IsClear, IsCleared}
 use Rattle.engine.specs.Changes.{entry_of, IsWritten, HasLogRoom}
+use Rattle.engine.specs.HistoryValue.{HistoryValue}
+use Rattle.engine.specs.StandsFor.{StandsFor}
+use Rattle.engine.specs.declared.engine.Engine.{Engine}
+use Rattle.engine.specs.declared.judging.Judgement.{Judgement}
+use Rattle.engine.specs.declared.judging.Judgement.TheVariants.{Refused, Overwritten, Clear}
 
 -- the machine ends the session's transaction by this refusal, whether or not the device fails
 abbrev pub IsRefused : {D : Type 0} {g : Ghosts D} → Engine D g → ℕ → Refusal → Type 0
@@ -37,13 +47,16 @@ IsPayload ws (Some len) = IsWritten ws × (len ≡ payload_size ws)
 -- the judgement is the machine's, over each state that the engine stands for
 abbrev pub IsJudged : {D : Type 0} {g : Ghosts D} → Engine D g → ℕ → View → Judgement → Type 0
 IsJudged e s t (Refused refusal) = IsRefused e s refusal
-IsJudged e s t (Overwritten i) = (i < length t.writes) × ((d : KeyWrite) → IsRefused e s (refusals.Overwritten (slice_index_or t.writes i d).0))
+IsJudged e s t (Overwritten i) =
+    (i < length t.writes) × ((d : KeyWrite) → IsRefused e s (refusals.Overwritten (slice_index_or t.writes i d).0))
 IsJudged e s t (Clear payload cleared) =
     IsToCommit e s t × IsPayload t.writes payload × IsCleared e.history.committed.facts t cleared
 
 -- so it is in each engine with this log and these commits, for each session that runs the transaction
 abbrev pub IsJudgedOver : {D : Type 0} {g : Ghosts D} → Log D g → HistoryValue → View → Judgement → Type 0
-IsJudgedOver {D = D} {g = g} log history t judgement = (e : Engine D g) (s : ℕ) → e.log ≡ log → e.history ≡ history → entry_of s e ≡ Some t → IsJudged e s t judgement
+IsJudgedOver {D = D} {g = g} log history t judgement = (e : Engine D g) (s : ℕ) → e.log ≡ log → e.history ≡ history
+    → entry_of s e ≡ Some t → IsJudged e s t judgement
 
 abbrev pub IsWeighedOver : {D : Type 0} {g : Ghosts D} → Log D g → HistoryValue → View → Judgement → Type 0
-IsWeighedOver {D = D} {g = g} log history t judgement = (e : Engine D g) (s : ℕ) → e.log ≡ log → e.history ≡ history → IsToJudge e s t → IsJudged e s t judgement
+IsWeighedOver {D = D} {g = g} log history t judgement = (e : Engine D g) (s : ℕ) → e.log ≡ log → e.history ≡ history
+    → IsToJudge e s t → IsJudged e s t judgement

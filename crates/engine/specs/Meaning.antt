@@ -1,21 +1,43 @@
 -- What a call of the engine does to the states of the machine that it stands for.
-use Rattle.std.specs.Prelude.{◌≡◌, ◌↔◌, ◌⊎◌, ℕ, ◌-◌, ◌^◌, Bool, true, false, ◌||◌, nat_lt, ◌==◌, ◌≤◌, Option, Some, None, option_copied, Result, Ok, Err, IsTrue, IsFalse, List, [], map}
-use Rattle.std.specs.{Borrow.Bor, List.AllByRecursion, List.list_any}
-use Rattle.model.specs.{declared.keys.KeyRef.KeyRef, declared.ranges.RangeRef.RangeRef, KeyBytes.key_bytes, Operations.Operation, Operations.Response, Map.Bytes}
-use Rattle.model.specs.{Operations.Operation.Commit, Operations.Operation.Get, Operations.Response.Refused, Operations.Response.Value, Operations.Response.Pairs}
-use Rattle.model.specs.{declared.refusals.Refusal.TheVariants.NotOpen, declared.refusals.Refusal.TheVariants.FullMarks, Leading.LeadsBy, PrivateCopy.Mark.OfKey}
-use Rattle.model.specs.PrivateCopy.{PrivateCopy, copy_of, copy_after, writes, is_written, is_same_mark}
-use Rattle.model.specs.Machine.{State, Running, running_of, last, snapshot, step}
-use Rattle.sector.specs.{declared.device.Sectors.Ghosts, SectorModel.LeavesOnly}
-use Rattle.commit_log.specs.LogState.{failure_count, device_of as log_device, is_stopped as is_log_stopped}
-use Rattle.engine.specs.{declared.engine.Engine.Engine, declared.faults.EngineFault.EngineFault, declared.faults.ReadFault.ReadFault}
-use Rattle.engine.specs.declared.faults.EngineFault.TheVariants.{Refused as Refusing, Memory}
 use Rattle.engine.specs.declared.faults.ReadFault.TheVariants as reads
+use Rattle.std.specs.Borrow.{Bor}
+use Rattle.std.specs.List.{AllByRecursion, list_any}
+use Rattle.std.specs.Prelude.{◌≡◌, ◌↔◌, ◌⊎◌, ℕ, ◌-◌, ◌^◌, Bool, true, false, ◌||◌, nat_lt, ◌==◌, ◌≤◌, Option, Some}
+use Rattle.std.specs.Prelude.{None, option_copied, Result, Ok, Err, IsTrue, IsFalse, List, [], ◌∷◌, map}
+use Rattle.model.specs.KeyBytes.{key_bytes}
+use Rattle.model.specs.Leading.{LeadsBy}
+use Rattle.model.specs.Machine.{State, Running, running_of, last, snapshot, step}
+use Rattle.model.specs.Map.{Bytes, KeyWrite}
+use Rattle.model.specs.Operations.{Operation, Response}
+use Rattle.model.specs.Operations.Operation.{Commit, Get}
+use Rattle.model.specs.Operations.Response.{Refused, Value, Pairs}
+use Rattle.model.specs.PrivateCopy.{PrivateCopy, copy_of, copy_after, writes, is_written, is_same_mark}
+use Rattle.model.specs.PrivateCopy.Mark.{OfKey}
+use Rattle.model.specs.declared.keys.KeyRef.{KeyRef}
+use Rattle.model.specs.declared.ranges.RangeRef.{RangeRef}
+use Rattle.model.specs.declared.refusals.Refusal.TheVariants.{NotOpen, FullMarks}
+use Rattle.sector.specs.SectorModel.{LeavesOnly}
+use Rattle.sector.specs.declared.device.Sectors.{Ghosts}
+use Rattle.commit_log.specs.LogState.{failure_count, record_count, device_of as log_device}
+use Rattle.commit_log.specs.LogState.{is_stopped as is_log_stopped}
+use Rattle.commit_log.specs.declared.log.Log.{Log}
 use Rattle.versions.specs.Chains.{ChainsValue}
-use Rattle.snapshot.specs.{declared.rows.Rows.Rows, RowPairs.row_pairs, Made.is_refused, Made.range_read}
-use Rattle.engine.specs.Recovery.{HoldsMap, committed_map}
+use Rattle.snapshot.specs.Made.{is_refused, range_read}
+use Rattle.snapshot.specs.RowPairs.{row_pairs}
+use Rattle.snapshot.specs.View.{View}
+use Rattle.snapshot.specs.declared.rows.Rows.{Rows}
 use Rattle.pivot_check.specs.Kept.{Facts, CommittedValue, HasForgotten}
+use Rattle.engine.specs.Changes.{entry_of, AddsOneAtMost}
+use Rattle.engine.specs.Recovery.{HoldsMap, committed_map}
 pub use Rattle.engine.specs.StandsFor.{StandsFor}
+use Rattle.engine.specs.declared.engine.Engine.{Engine}
+use Rattle.engine.specs.declared.faults.EngineFault.{EngineFault}
+use Rattle.engine.specs.declared.faults.EngineFault.TheVariants.{Refused as Refusing, Memory}
+use Rattle.engine.specs.declared.faults.ReadFault.{ReadFault}
+
+-- the log
+abbrev pub log_of : {D : Type 0} {g : Ghosts D} → Engine D g → Log D g
+log_of e = e.log
 
 -- the device, how many of its calls have failed, and whether one failed in a commit
 abbrev pub device_of : {D : Type 0} {g : Ghosts D} → Engine D g → D
@@ -43,9 +65,10 @@ StandsForSame old new = (m : State) → StandsFor old m ↔ StandsFor new m
 abbrev pub IsNotRefused : {D : Type 0} {g : Ghosts D} → Engine D g → ℕ → Operation → Type 0
 IsNotRefused e s q = (m : State) → StandsFor e m → IsFalse (is_refused (step m s q false).1)
 
--- from every state that the old engine stood for to the machine's next one, with the machine's response; where memory was
--- refused, there is no response, the machine's would have been no refusal, and the states are as they were
-abbrev pub Leads : {D : Type 0} {g : Ghosts D} → Engine D g → Engine D g → ℕ → Operation → Bool → Option Response → Type 0
+-- from every state that the old engine stood for to the machine's next one, with the machine's response; where memory
+-- was refused, there is no response, the machine's would have been no refusal, and the states are as they were
+abbrev pub Leads : {D : Type 0} {g : Ghosts D} → Engine D g → Engine D g → ℕ → Operation → Bool → Option Response
+    → Type 0
 Leads old new s q failed (Some response) = LeadsBy StandsFor old new (λ m n. step m s q failed ≡ (n, response))
 Leads old new s q failed None = StandsForSame old new × IsNotRefused old s q
 
@@ -62,14 +85,18 @@ response_to_read f (Err reads.NotOpen) = Some (Refused NotOpen)
 response_to_read f (Err reads.FullMarks) = Some (Refused FullMarks)
 response_to_read f (Err reads.Memory) = None
 
--- where a GET and a RANGE lead, which leave the device alone
-abbrev pub GetLeads : {D : Type 0} {g : Ghosts D} → Engine D g → Engine D g → ℕ → KeyRef → Result (Option (Bor Bytes)) ReadFault → Type 0
+-- where a GET and a RANGE lead, which leave the log and its device alone
+abbrev pub GetLeads : {D : Type 0} {g : Ghosts D} → Engine D g → Engine D g → ℕ → KeyRef
+    → Result (Option (Bor Bytes)) ReadFault → Type 0
 GetLeads old new s key result =
-    Leads old new s (Get (key_bytes key)) false (response_to_read (λ v. Value (option_copied v)) result) × (device_of new ≡ device_of old)
+    Leads old new s (Get (key_bytes key)) false (response_to_read (λ v. Value (option_copied v)) result)
+    × (log_of new ≡ log_of old)
 
-abbrev pub RangeLeads : {D : Type 0} {g : Ghosts D} → Engine D g → Engine D g → ℕ → RangeRef → ℕ → Result Rows ReadFault → Type 0
+abbrev pub RangeLeads : {D : Type 0} {g : Ghosts D} → Engine D g → Engine D g → ℕ → RangeRef → ℕ → Result Rows ReadFault
+    → Type 0
 RangeLeads old new s r limit result =
-    Leads old new s (range_read r limit) false (response_to_read (λ rows. Pairs (row_pairs rows)) result) × (device_of new ≡ device_of old)
+    Leads old new s (range_read r limit) false (response_to_read (λ rows. Pairs (row_pairs rows)) result)
+    × (log_of new ≡ log_of old)
 
 -- so it is of the session's open transaction, if it has one
 abbrev pub WhereOpen : {D : Type 0} {g : Ghosts D} → Engine D g → ℕ → (State → Running → Type 0) → Type 0
@@ -86,6 +113,22 @@ IsKnownKey m t k = IsTrue (is_written (copy_in m t) k || list_any (is_same_mark 
 -- the session's open transaction, if it has one, has written nothing
 abbrev pub IsReadOnly : State → ℕ → Type 0
 IsReadOnly m s = (t : Running) → running_of m s ≡ Some t → writes (snapshot m t) t.requests ≡ []
+
+-- has the session's open transaction, if it has one, written a key?
+abbrev pub has_any : List KeyWrite → Bool
+has_any [] = false
+has_any (w ∷ ws) = true
+
+abbrev pub has_writes : Option View → Bool
+has_writes None = false
+has_writes (Some t) = has_any t.writes
+
+abbrev pub has_written : {D : Type 0} {g : Ghosts D} → Engine D g → ℕ → Bool
+has_written e s = has_writes (entry_of s e)
+
+-- how many records its log has
+abbrev pub records_of : {D : Type 0} {g : Ghosts D} → Engine D g → ℕ
+records_of e = record_count e.log
 
 -- the versions that are kept, and what is kept to check later commits
 abbrev pub versions_of : {D : Type 0} {g : Ghosts D} → Engine D g → ChainsValue
@@ -105,12 +148,18 @@ open_begins m = map (λ e. e.1.begin) m.running
 abbrev pub HasForgottenOld : State → Facts → Type 0
 HasForgottenOld m f = (n : ℕ) → n ≤ last m → AllByRecursion (λ e. n ≤ e.1.begin) m.running → HasForgotten n f
 
+-- the engine stands for each state that it stood for, over the same log and device: so it may keep less
+pub record KeepsStates {D : Type 0} {g : Ghosts D} (old new : Engine D g) : Type 0 where
+  pub stands : (m : State) → StandsFor old m → StandsFor new m
+  pub log : log_of new ≡ log_of old
+
 -- a crash leaves the map of all that has committed
 abbrev pub IsDurable : {D : Type 0} {g : Ghosts D} → Engine D g → Type 0
-IsDurable {g = g} e = (m : State) → StandsFor e m → (c : List (List ℕ)) → g.may_leave (device_of e) c → HoldsMap c (committed_map m)
+IsDurable {g = g} e = (m : State) → StandsFor e m → (c : List (List ℕ)) → g.may_leave (device_of e) c
+    → HoldsMap c (committed_map m)
 
--- what a crash may leave at a moment of a COMMIT: the map committed before it, or that with the transaction's writes; of a store that was
--- stopped, what it could have left before
+-- what a crash may leave at a moment of a COMMIT: the map committed before it, or that with the transaction's writes;
+-- of a store that was stopped, what it could have left before
 abbrev pub IsLeftByCommit : {D : Type 0} {g : Ghosts D} → Engine D g → State → ℕ → List (List ℕ) → Type 0
 IsLeftByCommit {g = g} old m s c =
     ((m.stopped ≡ false) × (HoldsMap c (committed_map m) ⊎ HoldsMap c (committed_map (step m s Commit false).0)))
@@ -119,4 +168,11 @@ IsLeftByCommit {g = g} old m s c =
 -- a crash at any moment of the session's COMMIT leaves that
 abbrev pub SurvivesCommit : {D : Type 0} {g : Ghosts D} → Engine D g → Engine D g → ℕ → Type 0
 SurvivesCommit {g = g} old new s =
-    g.keeps_model → (m : State) → StandsFor old m → LeavesOnly g.moment g.left_since (device_of old) (device_of new) (IsLeftByCommit old m s)
+    g.keeps_model → (m : State) → StandsFor old m
+    → LeavesOnly g.moment g.left_since (device_of old) (device_of new) (IsLeftByCommit old m s)
+
+-- A COMMIT adds one record to the log at most, and only in more sectors. Where nothing was written, the log and its
+-- device are left alone.
+pub record Appends {D : Type 0} {g : Ghosts D} (old new : Engine D g) (s : ℕ) : Type 0 where
+  pub once : AddsOneAtMost (log_of old) (log_of new)
+  pub read_only : (m : State) → StandsFor old m → IsReadOnly m s → log_of new ≡ log_of old

@@ -1,8 +1,15 @@
 -- What a crash leaves of the store.
 use Rattle.std.specs.Prelude.{◌≡◌, ◌⊎◌, ℕ, true, false, List, [], length}
-use Rattle.model.specs.{Map.KeyMap, Map.KeyWrite, Map.after_writes, History.map_at, Machine.State}
-use Rattle.sector.specs.{declared.device.Sectors.Ghosts, SectorModel.LeavesOnly}
-use Rattle.commit_log.specs.{declared.log.Log.Log, Format.current, LogImage.IsLogImage, LogState.StandsFor as LogStandsFor, LogState.device_of, Recovery.map_after}
+use Rattle.model.specs.History.{map_at}
+use Rattle.model.specs.Machine.{State}
+use Rattle.model.specs.Map.{KeyMap, KeyWrite, after_writes}
+use Rattle.sector.specs.SectorModel.{LeavesOnly}
+use Rattle.sector.specs.declared.device.Sectors.{Ghosts}
+use Rattle.commit_log.specs.Format.{current}
+use Rattle.commit_log.specs.LogImage.{IsLogImage}
+use Rattle.commit_log.specs.LogState.{StandsFor as LogStandsFor, device_of}
+use Rattle.commit_log.specs.Recovery.{map_after}
+use Rattle.commit_log.specs.declared.log.Log.{Log}
 
 -- the image is that of a log whose write sets make this map
 abbrev pub HoldsMap : List (List ℕ) → KeyMap → Type 0
@@ -25,7 +32,8 @@ WhereStored log P = (map : KeyMap) → IsStored log map → P map
 -- a crash at any moment of an append leaves the map from before it, or that with the writes
 abbrev pub SurvivesAppend : {D : Type 0} {g : Ghosts D} → Log D g → Log D g → List KeyWrite → Type 0
 SurvivesAppend {g = g} old new ws =
-    WhereStored old (λ map. LeavesOnly g.moment g.left_since (device_of old) (device_of new) (λ c. HoldsMap c map ⊎ HoldsMap c (after_writes map ws)))
+    WhereStored old (λ map. LeavesOnly g.moment g.left_since (device_of old) (device_of new) (λ c. HoldsMap c map
+    ⊎ HoldsMap c (after_writes map ws)))
 
 -- each image holds the map, or the map with the writes of one COMMIT, the same for all
 pub record IsInDoubt (map : KeyMap) (may_leave : List (List ℕ) → Type 0) : Type 0 where
@@ -36,8 +44,8 @@ pub record IsInDoubt (map : KeyMap) (may_leave : List (List ℕ) → Type 0) : T
 abbrev pub LeavesInDoubt : {D : Type 0} {g : Ghosts D} → Log D g → Log D g → Type 0
 LeavesInDoubt {g = g} old new = WhereStored old (λ map. IsInDoubt map (g.may_leave (device_of new)))
 
--- What a crash leaves: the map that is committed and, once the store is stopped, that or the one with the writes of one COMMIT more. Which COMMIT
--- that is, the clause `crash` of `Engine::commit` says.
+-- What a crash leaves: the map that is committed and, once the store is stopped, that or the one with the writes of one
+-- COMMIT more. Which COMMIT that is, the clause `crash` of `Engine::commit` says.
 pub record LeavesCommitted (m : State) (may_leave : List (List ℕ) → Type 0) : Type 0 where
   pub running : m.stopped ≡ false → (c : List (List ℕ)) → may_leave c → HoldsMap c (committed_map m)
   pub stopped : m.stopped ≡ true → IsInDoubt (committed_map m) may_leave

@@ -1,15 +1,23 @@
 -- Which states of the machine an engine stands for.
+use Rattle.std.specs.FinMap.Entries.{is_sorted}
+use Rattle.std.specs.List.{AllZip}
+use Rattle.std.specs.Ordering.{nat_cmp}
 use Rattle.std.specs.Prelude.{◌≡◌, ℕ, ◌-◌, ◌^◌, ◌≤◌, T, Bool, true, false, IsTrue, List, length}
-use Rattle.std.specs.{List.AllZip, Ordering.nat_cmp, FinMap.Entries.is_sorted}
-use Rattle.model.specs.{Map.KeyMap, History.Record, History.map_at, Machine.State, Machine.Running, Machine.IsReached}
-use Rattle.snapshot.specs.{View.View, Made.HasMade}
-use Rattle.pivot_check.specs.Kept.{Facts, IsInReach}
+use Rattle.model.specs.History.{Record, map_at}
+use Rattle.model.specs.Machine.{State, Running, IsReached}
+use Rattle.model.specs.Map.{KeyMap}
 use Rattle.sector.specs.declared.device.Sectors.{Ghosts}
 use Rattle.commit_log.specs.LogState.{device_of, is_stopped, used_sectors, sector_count}
-use Rattle.engine.specs.{Recovery.IsStored, Recovery.IsInDoubt, Recovery.committed_map, HistoryValue.HistoryStandsFor, declared.engine.Engine.Engine}
+use Rattle.snapshot.specs.Made.{HasMade}
+use Rattle.snapshot.specs.View.{View}
+use Rattle.pivot_check.specs.Kept.{Facts, IsInReach}
+use Rattle.engine.specs.HistoryValue.{HistoryStandsFor}
+use Rattle.engine.specs.Recovery.{IsStored, IsInDoubt, committed_map}
+use Rattle.engine.specs.declared.engine.Engine.{Engine}
 
 -- an open transaction of the engine is one of the machine: it sees the map at its begin, and has made the same requests
-pub record IsRunning (facts : Facts) (held : ℕ → Bool) (base : KeyMap) (history : List Record) (t : View) (r : Running) : Type 0 where
+pub record IsRunning (facts : Facts) (held : ℕ
+    → Bool) (base : KeyMap) (history : List Record) (t : View) (r : Running) : Type 0 where
   pub begin : t.begin ≡ r.begin
   pub made : HasMade t (map_at base history r.begin) r.requests
   pub in_reach : IsInReach facts t

@@ -13,15 +13,15 @@ impl<D: Sectors> Engine<D> {
     ghost use Rattle.model.specs.Operations.Operation.{Commit};
     ghost use Rattle.model.specs.Operations.Response.{Number};
     ghost use Rattle.engine.specs.Changes.{entry_of, Leaves};
-    ghost use Rattle.model.specs.Machine.{State};
-    ghost use Rattle.engine.specs.Meaning.{StandsFor, Leads, IsReadOnly, SurvivesCommit, IsDurable, response_to, device_of, failures_of, has_failed, is_stopped};
+    ghost use Rattle.engine.specs.Meaning.{Appends, Leads, SurvivesCommit, IsDurable, response_to};
+    ghost use Rattle.engine.specs.Meaning.{device_of, failures_of, has_failed, is_stopped};
 
     /// Commits the session's transaction, and answers its commit number. Where it wrote something, one record is appended to the log; what
     /// it takes of memory is made before, so that nothing can fail once the record stands.
     ///
-    /// Refusals, the first of these: `NotOpen`; `StoreStopped`; `FullNumbers` where the last number is 2^63 - 1; `Overwritten`, `PivotSelf` or
-    /// `Pivot`, as the check of commits says; `FullLog` where the log has no room for the record; `StoreFault` where the device fails, and
-    /// the store is then stopped. Each ends the transaction. `Memory`, where memory for versions, for a record or for the log's sectors
+    /// Refusals, the first of these: `NotOpen`; `StoreStopped`; `FullNumbers` where the last number is 2^63 - 1; `Overwritten`, `PivotSelf`
+    /// or `Pivot`, as the check of commits says; `FullLog` where the log has no room for the record; `StoreFault` where the device fails,
+    /// and the store is then stopped. Each ends the transaction. `Memory`, where memory for versions, for a record or for the log's sectors
     /// is refused, comes before `StoreFault` and leaves the transaction open.
     pub fn commit(&mut self, s: u64) -> Result<u64, EngineFault>
         ensures step { Leads self.old self.new s Commit (has_failed self.old self.new) (response_to (λ n. Number n) result) }
@@ -31,8 +31,8 @@ impl<D: Sectors> Engine<D> {
         ensures still { is_stopped self.old ≡ true → device_of self.new ≡ device_of self.old }
         ensures refused { IfErr result (λ e. e ≢ EngineFault.Refused Refusal.StoreFault → device_of self.new ≡ device_of self.old) }
 
-        // Where nothing was written, the device is left alone.
-        ensures read_only { (m : State) → StandsFor self.old m → IsReadOnly m s → device_of self.new ≡ device_of self.old }
+        // One record is added to the log at most. Where nothing was written, the log and its device are left alone.
+        ensures appends { Appends self.old self.new s }
 
         // A crash at any moment of the call leaves the committed map of before it, or that with the transaction's writes; of a store that
         // was stopped, what it could have left before.

@@ -31,7 +31,7 @@ pub struct Engine<D: Sectors> {
 }
 
 impl<D: Sectors> Engine<D> {
-    ghost use Rattle.std.specs.Prelude.{◌≡◌, ◌≢◌, ◌≤◌, ◌<◌, ◌-◌, false, Some, None, Err, length};
+    ghost use Rattle.std.specs.Prelude.{◌≡◌, ◌≢◌, ◌↔◌, ◌≤◌, ◌<◌, ◌-◌, false, Some, None, Err, length};
     ghost use Rattle.model.specs.declared.refusals.Refusal.{Refusal as Reason};
     ghost use Rattle.model.specs.Operations.Operation.{Begin, Set, Del, Abort, Ping, Faulty};
     ghost use Rattle.model.specs.Operations.Response.{Done, Pong, Refused};
@@ -40,10 +40,13 @@ impl<D: Sectors> Engine<D> {
     ghost use Rattle.versions.specs.Listings.{IsUnmixed};
     ghost use Rattle.versions.specs.Meaning.{kept_of, IsReclaimed, IsReclaimedInPart};
     ghost use Rattle.std.specs.List.{AllByRecursion};
-    ghost use Rattle.pivot_check.specs.Kept.{IsGivenBack, KeepsNoneUpto};
+    ghost use Rattle.pivot_check.specs.Kept.{IsGivenBack, KeepsNoneUpto, kept_count};
     ghost use Rattle.engine.specs.HistoryValue.{is_due};
     ghost use Rattle.engine.specs.Recovery.{LeavesCommitted};
-    ghost use Rattle.engine.specs.Meaning.{StandsFor, Leads, response_to, device_of, is_stopped, versions_of, committed_of, facts_of, open_begins, HasForgottenOld};
+    ghost use Rattle.engine.specs.Meaning.{StandsFor, Leads, IsReadOnly, KeepsStates, response_to, device_of, log_of};
+    ghost use Rattle.engine.specs.Meaning.{is_stopped};
+    ghost use Rattle.engine.specs.Meaning.{has_written, records_of, versions_of, committed_of, facts_of, open_begins};
+    ghost use Rattle.engine.specs.Meaning.{HasForgottenOld};
 
     /// Begins a transaction of the session, over the map that is committed now.
     ///
@@ -51,7 +54,7 @@ impl<D: Sectors> Engine<D> {
     /// are open. It may take a node of the tree of open transactions; `Memory` where that is refused.
     pub fn begin(&mut self, s: u64) -> Result<(), EngineFault>
         ensures step { Leads self.old self.new s Begin false (response_to (λ _. Done) result) }
-        ensures device { device_of self.new ≡ device_of self.old }
+        ensures log { log_of self.new ≡ log_of self.old }
     {
         if self.running.contains_key(&s) {
             return Err(EngineFault::Refused(Refusal::AlreadyOpen));
@@ -75,7 +78,7 @@ impl<D: Sectors> Engine<D> {
     pub fn set(&mut self, s: u64, key: KeyRef<'_>, value: &[u8]) -> Result<(), EngineFault>
         requires { length value.now ≤ value_max }
         ensures step { Leads self.old self.new s (Set key.entry.bytes.now value.now) false (response_to (λ _. Done) result) }
-        ensures device { device_of self.new ≡ device_of self.old }
+        ensures log { log_of self.new ≡ log_of self.old }
     {
         match self.running.get_mut(&s) {
             Some(transaction) => match transaction.put(key, value) {
@@ -88,11 +91,11 @@ impl<D: Sectors> Engine<D> {
 
     /// Deletes a key of the session's private copy, present or not.
     ///
-    /// Refusals: `NotOpen`; `FullWrites` for a 65th written key. It may take a copy of the key, and room for a write; `Memory` where that is
-    /// refused.
+    /// Refusals: `NotOpen`; `FullWrites` for a 65th written key. It may take a copy of the key, and room for a write; `Memory` where that
+    /// is refused.
     pub fn del(&mut self, s: u64, key: KeyRef<'_>) -> Result<(), EngineFault>
         ensures step { Leads self.old self.new s (Del key.entry.bytes.now) false (response_to (λ _. Done) result) }
-        ensures device { device_of self.new ≡ device_of self.old }
+        ensures log { log_of self.new ≡ log_of self.old }
     {
         match self.running.get_mut(&s) {
             Some(transaction) => match transaction.delete(key) {
@@ -109,7 +112,7 @@ impl<D: Sectors> Engine<D> {
         ensures step { Leads self.old self.new s Abort false (response_to (λ _. Done) result) }
         ensures answered { result ≢ Err EngineFault.Memory }
         ensures leaves { (m : State) → StandsFor self.old m → StandsFor self.new (leave m s) }
-        ensures device { device_of self.new ≡ device_of self.old }
+        ensures log { log_of self.new ≡ log_of self.old }
     {
         match self.running.remove(&s) {
             Some(_transaction) => Ok(()),
@@ -140,21 +143,21 @@ impl<D: Sectors> Engine<D> {
         ensures { D.keeps_model → (m : State) → StandsFor self.now m → LeavesCommitted m (D.may_leave (device_of self.now)) }
     {}
 
-    /// A step of what `reclaim` does, which is short however much is due. Answers whether it has to be called again until all is done.
+    /// A step of what `reclaim` does, which is short however much is due. Answers whether it has to be called again until all is done:
+    /// where it needn't be, what holds after `reclaim` holds.
     ///
     /// What each commit replaced is a list. One is due once no open transaction began with the number under which it stands, and a call
-    /// looks at 2 of those that are due, and at no other. What was kept to check later commits stands in runs, of which a call gives back as
-    /// much as `Committed::forget_step` says. Takes no memory.
+    /// looks at 2 of those that are due, and at no other. What was kept to check later commits stands in runs, of which a call gives back
+    /// as much as `Committed::forget_step` says. Takes no memory.
     pub fn reclaim_step(&mut self) -> bool
-        ensures keeps { (m : State) → StandsFor self.old m → StandsFor self.new m }
+        ensures keeps { KeepsStates self.old self.new }
         ensures versions { (m : State) → StandsFor self.old m
             → IsReclaimedInPart (versions_of self.old) (versions_of self.new) (open_begins m) }
         ensures still { (m : State) → StandsFor self.old m → result ≡ is_due (open_begins m) self.new.history }
         ensures unmixed { (m : State) → StandsFor self.old m → AllByRecursion IsUnmixed (versions_of self.new).groups }
         ensures given_back { IsGivenBack (committed_of self.old) (committed_of self.new) }
         ensures forgotten { (m : State) → StandsFor self.old m → HasForgottenOld m (facts_of self.new) }
-        ensures device { device_of self.new ≡ device_of self.old }
-        ensures stopped { is_stopped self.new ≡ is_stopped self.old }
+        ensures kept { result ≡ false → KeepsNoneUpto (facts_of self.new).oldest (facts_of self.new) }
     {
         let last = self.history.committed().last();
         if self.running.is_empty() {
@@ -170,13 +173,11 @@ impl<D: Sectors> Engine<D> {
     ///
     /// It looks at all lists of versions that are due, and at all that is kept of commits, so its time grows with both. Takes no memory.
     pub fn reclaim(&mut self)
-        ensures keeps { (m : State) → StandsFor self.old m → StandsFor self.new m }
+        ensures keeps { KeepsStates self.old self.new }
         ensures versions { (m : State) → StandsFor self.old m → IsReclaimed (versions_of self.old) (versions_of self.new) (open_begins m) }
         ensures unmixed { (m : State) → StandsFor self.old m → AllByRecursion IsUnmixed (versions_of self.new).groups }
         ensures forgotten { (m : State) → StandsFor self.old m → HasForgottenOld m (facts_of self.new) }
         ensures kept { KeepsNoneUpto (facts_of self.new).oldest (facts_of self.new) }
-        ensures device { device_of self.new ≡ device_of self.old }
-        ensures stopped { is_stopped self.new ≡ is_stopped self.old }
     {
         let last = self.history.committed().last();
         let mut numbers = [0; OPEN_MAX];
@@ -191,6 +192,24 @@ impl<D: Sectors> Engine<D> {
         self.log.is_stopped()
     }
 
+    /// Has the session's open transaction written a key? Where none is open it hasn't. Takes no memory.
+    pub fn has_written(&self, s: u64) -> bool
+        ensures buffer { result ≡ has_written self.now s }
+        ensures written { (m : State) → StandsFor self.now m → (result ≡ false) ↔ IsReadOnly m s }
+    {
+        match self.running.get(&s) {
+            Some(transaction) => !transaction.entries().is_empty(),
+            None => false,
+        }
+    }
+
+    /// How many records its log has. Takes no memory.
+    pub fn records(&self) -> u64
+        ensures { result ≡ records_of self.now }
+    {
+        self.log.records()
+    }
+
     /// How many versions of the key are kept. Takes no memory.
     pub fn kept_versions(&self, key: KeyRef<'_>) -> usize
         ensures { result ≡ kept_of (versions_of self.now) key.entry.bytes.now }
@@ -198,9 +217,10 @@ impl<D: Sectors> Engine<D> {
         self.history.versions().kept(key)
     }
 
-    /// How many committed transactions an open one may still be concurrent with. Takes no memory.
+    /// Of how many committed transactions something is kept to check later commits: a key that they wrote, or that they were the last to
+    /// read one. It takes as long as `Committed::kept`, and no memory.
     pub fn kept_records(&self) -> usize
-        ensures { result ≡ (facts_of self.now).last - (facts_of self.now).oldest }
+        ensures { result ≡ kept_count (facts_of self.now) }
     {
         self.history.committed().kept()
     }

@@ -1,9 +1,9 @@
 //! What has committed.
-ghost use Rattle.std.specs.Prelude.{◌≡◌, ◌+◌, ◌-◌, ◌^◌, ◌<◌, ◌≤◌, true, [], IfOk, OnOk, max};
+ghost use Rattle.std.specs.Prelude.{◌≡◌, ◌+◌, ◌-◌, ◌^◌, ◌<◌, ◌≤◌, false, true, [], IfOk, OnOk};
 ghost use Rattle.versions.specs.Meaning.{IsReclaimed, IsReclaimedInPart};
-ghost use Rattle.pivot_check.specs.Kept.{HasForgotten, IsEmpty, IsGivenBack, KeepsNoneUpto};
+ghost use Rattle.pivot_check.specs.Kept.{IsEmpty, IsGivenBack, KeepsNoneUpto};
 ghost use Rattle.pivot_check.specs.StandsFor.{IsCleared};
-ghost use Rattle.engine.specs.HistoryValue.{HistoryStandsFor, IsSameHistory, IsReady, Joins, KeepsHeld, Unmixes, is_due};
+ghost use Rattle.engine.specs.HistoryValue.{HistoryStandsFor, IsSameHistory, IsReady, Joins, Reclaims, is_due};
 
 use model::{Map, Memory};
 use pivot_check::{Cleared, Committed};
@@ -84,18 +84,15 @@ impl History {
         number
     }
 
-    /// A step of what `reclaim` does, which is short: those of `Versions::reclaim_step` and `Committed::forget_step`. Answers whether it has to be
-    /// called again until all is done.
+    /// A step of what `reclaim` does, which is short: those of `Versions::reclaim_step` and `Committed::forget_step`. Answers whether it
+    /// has to be called again until all is done.
     pub(crate) fn reclaim_step(&mut self, begins: &[u64], oldest: u64) -> bool
         requires { oldest ≤ self.old.committed.facts.last }
-        ensures stands { KeepsHeld self.old self.new begins.now }
-        ensures last { self.new.committed.facts.last ≡ self.old.committed.facts.last }
-        ensures oldest { self.new.committed.facts.oldest ≡ max self.old.committed.facts.oldest oldest }
+        ensures reclaims { Reclaims begins.now oldest self.old self.new }
         ensures reclaimed { IsReclaimedInPart self.old.versions self.new.versions begins.now }
         ensures given_back { IsGivenBack self.old.committed self.new.committed }
         ensures still { result ≡ is_due begins.now self.new }
-        ensures forgotten { HasForgotten oldest self.new.committed.facts }
-        ensures unmixed { Unmixes self.old self.new begins.now }
+        ensures kept { result ≡ false → KeepsNoneUpto self.new.committed.facts.oldest self.new.committed.facts }
     {
         let versions_due = self.versions.reclaim_step(begins);
         let runs_due = self.committed.forget_step(oldest);
@@ -106,13 +103,9 @@ impl History {
     /// was kept of commits with a number of at most `oldest`, as `Committed::forget` does.
     pub(crate) fn reclaim(&mut self, begins: &[u64], oldest: u64)
         requires { oldest ≤ self.old.committed.facts.last }
-        ensures stands { KeepsHeld self.old self.new begins.now }
-        ensures last { self.new.committed.facts.last ≡ self.old.committed.facts.last }
-        ensures oldest { self.new.committed.facts.oldest ≡ max self.old.committed.facts.oldest oldest }
+        ensures reclaims { Reclaims begins.now oldest self.old self.new }
         ensures reclaimed { IsReclaimed self.old.versions self.new.versions begins.now }
-        ensures forgotten { HasForgotten oldest self.new.committed.facts }
         ensures kept { KeepsNoneUpto self.new.committed.facts.oldest self.new.committed.facts }
-        ensures unmixed { Unmixes self.old self.new begins.now }
     {
         self.versions.reclaim(begins);
         self.committed.forget(oldest);

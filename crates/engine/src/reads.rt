@@ -19,8 +19,8 @@ impl<D: Sectors> Engine<D> {
     /// Lends what the session's private copy has at the key, and `None` where it has nothing. The key is marked as read, unless the
     /// transaction wrote it.
     ///
-    /// Refusals: `NotOpen`; `FullMarks` for a 257th mark. It may take a copy of the key and room for a mark; `Memory` where that is refused,
-    /// never for a key that is written or marked.
+    /// Refusals: `NotOpen`; `FullMarks` for a 257th mark. It may take a copy of the key and room for a mark; `Memory` where that is
+    /// refused, never for a key that is written or marked.
     pub fn get(&mut self, s: u64, key: KeyRef<'_>) -> Result<Option<&[u8]>, ReadFault>
         ensures known { WhereOpen self.old s (λ m t. IsKnownKey m t key.entry.bytes.now → IsOk result) }
         ensures short { IfOk result (λ value. IfSome value (λ v. IsValue v.now)) }
@@ -36,8 +36,9 @@ impl<D: Sectors> Engine<D> {
         }
     }
 
-    /// Lends the first pairs of a range in the session's private copy, by rising key, at most `limit`, from 1 to 128. Where they are as many
-    /// as the limit, the keys from `lo` to the last of them are marked as read, both included; else the whole range is, unless it is empty.
+    /// Lends the first pairs of a range in the session's private copy, by rising key, at most `limit`, from 1 to 128. Where they are as
+    /// many as the limit, the keys from `lo` to the last of them are marked as read, both included; else the whole range is, unless it is
+    /// empty.
     ///
     /// Refusals: `NotOpen`; `FullMarks` for a 257th mark. It may take copies of two keys and room for a mark; `Memory` where that is
     /// refused, never for a range that is empty or whose reply asks for a mark that is there.

@@ -1,5 +1,8 @@
 -- Numbers that count as none up to another.
-use Rattle.last_readers.proofs.Words.{◌≡◌, ◌≤◌, ℕ, arith, max, nat_tests, cut}
+use Rattle.std.proofs.Common.{◌≡◌, ◌≤◌, ℕ, arith}
+use Rattle.std.proofs.lemmas.Bool.Decides.{nat_tests}
+use Rattle.std.specs.Prelude.{max}
+use Rattle.last_readers.specs.Steps.{cut}
 
 -- one of several is no other above o
 pub cut_either : (o a b n : ℕ) → cut o a ≡ cut o b → cut o (max a n) ≡ cut o (max b n)

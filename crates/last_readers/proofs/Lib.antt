@@ -3,5 +3,4 @@ pub mod Cuts
 pub mod MergeLaws
 pub mod RunLaws
 pub mod MarkSteps
-pub mod Words
 pub mod Sweeps

@@ -1,7 +1,22 @@
 -- Two step functions made into one, from their ends.
-use Rattle.last_readers.proofs.Words.{◌≡◌, ℕ, Bool, true, false, List, [], ◌∷◌, ◌++◌, length, refl, sym, ap, subst, ◌∙◌, arith, max, if◌then◌else◌, Less, Equal, is_le, nat_tests, append_assoc, length_push, same_from_push, Bytes, key_cmp, StepValue, is_level, by_order, number_from, number_at, merged_at, end_of, are_over, steps_rise, are_under, is_step_from, steps_from, cut, later, EndsOver, EndsEqual, IsParted, IsJoined, with_step, turned, itself, same_keys, turned_less}
-use Rattle.std.proofs.{lemmas.Bool.and_parts, lemmas.List.Folds.list_all-append, Math.Nat.max_comm}
-use Rattle.last_readers.proofs.StepLaws.{around, put_between, over_less, under_more, low, high, end_push, number_push, end_is, under_last}
+use Rattle.std.proofs.Common.{◌≡◌, ℕ, Bool, true, false, List, [], ◌∷◌, ◌++◌, length, refl, sym, ap, subst, ◌∙◌}
+use Rattle.std.proofs.Common.{arith}
+use Rattle.std.proofs.Math.Nat.{max_comm}
+use Rattle.std.proofs.lemmas.Bool.{and_parts}
+use Rattle.std.proofs.lemmas.Bool.Decides.{nat_tests}
+use Rattle.std.proofs.lemmas.List.{append_assoc, length_push, same_from_push}
+use Rattle.std.proofs.lemmas.List.Folds.{list_all-append}
+use Rattle.std.specs.Ordering.{is_le}
+use Rattle.std.specs.Prelude.{max, if◌then◌else◌}
+use Rattle.std.specs.declared.cmp.Ordering.TheVariants.{Less, Equal}
+use Rattle.model.proofs.Entries.{turned}
+use Rattle.model.proofs.KeyOrder.{itself, same_keys, turned_less}
+use Rattle.model.specs.Map.{Bytes, key_cmp}
+use Rattle.last_readers.proofs.StepLaws.{around, put_between, over_less, under_more, low, high, end_push, number_push}
+use Rattle.last_readers.proofs.StepLaws.{end_is, under_last}
+use Rattle.last_readers.specs.Merging.{later, EndsOver, EndsEqual, IsParted, IsJoined, with_step}
+use Rattle.last_readers.specs.Steps.{StepValue, is_level, by_order, number_from, number_at, merged_at, end_of}
+use Rattle.last_readers.specs.Steps.{are_over, steps_rise, are_under, is_step_from, steps_from, cut}
 
 -- ---- the steps below a key
 
@@ -35,7 +50,8 @@ at_last xs ys w is rise =
     sym (ap (λ l. number_at l w.key) is ∙ number_push 0 ys w w.key under ∙ ap (λ o. by_order o (number_at ys w.key) w.at w.above) (itself w.key))
 
 -- the last of xs was taken off, and what has its key off ys, which has the numbers a there and b at its end
-joined : (o : ℕ) (xs xs' ys ys' : List StepValue) (w m : StepValue) (a b : ℕ) → xs ≡ xs' ++ w ∷ [] → steps_rise xs ≡ true → IsParted ys w.key ys' → a ≡ number_at ys w.key → b ≡ end_of ys →
+joined : (o : ℕ) (xs xs' ys ys' : List StepValue) (w m : StepValue) (a b : ℕ) → xs ≡ xs' ++ w ∷ [] → steps_rise xs ≡ true → IsParted ys w.key ys'
+    → a ≡ number_at ys w.key → b ≡ end_of ys →
     m ≡ record { key = w.key; at = later o w.at a; above = later o w.above b } → IsJoined o xs xs' ys ys' m
 joined o xs xs' ys ys' w m a b is rise second at above e = subst (IsJoined o xs xs' ys ys') (sym e) (record {
   first = parted_popped xs xs' w is rise;
@@ -52,7 +68,8 @@ joined_one o xs xs' ys w m is rise under e =
     joined o xs xs' ys ys w m (end_of ys) (end_of ys) is rise (parted_kept ys w.key under) (sym (high 0 ys w.key under)) refl e
 
 -- the last of both, which have one key
-pub joined_both : (o : ℕ) (xs xs' ys ys' : List StepValue) (w v m : StepValue) → xs ≡ xs' ++ w ∷ [] → ys ≡ ys' ++ v ∷ [] → steps_rise xs ≡ true → steps_rise ys ≡ true → w.key ≡ v.key →
+pub joined_both : (o : ℕ) (xs xs' ys ys' : List StepValue) (w v m : StepValue) → xs ≡ xs' ++ w ∷ [] → ys ≡ ys' ++ v ∷ [] → steps_rise xs ≡ true
+    → steps_rise ys ≡ true → w.key ≡ v.key →
     m ≡ record { key = w.key; at = later o w.at v.at; above = later o w.above v.above } → IsJoined o xs xs' ys ys' m
 joined_both o xs xs' ys ys' w v m is was rise rises one e =
     joined o xs xs' ys ys' w m v.at v.above is rise (subst (λ (k : Bytes). IsParted ys k ys') (sym one) (parted_popped ys ys' v was rises))
@@ -82,7 +99,8 @@ pub record IsMoved (o : ℕ) (xs xs' ys ys' ts ts' : List StepValue) : Type 0 wh
 
 module _ (o : ℕ) (xs xs' ys ys' ts : List StepValue) (m : StepValue) (j : IsJoined o xs xs' ys ys' m) where
   -- what is left of both, and the step, have the number of both
-  together : (k : Bytes) → cut o (by_order (key_cmp k m.key) (max (number_at xs' k) (number_at ys' k)) m.at m.above) ≡ cut o (max (number_at xs k) (number_at ys k))
+  together : (k : Bytes) → cut o (by_order (key_cmp k m.key) (max (number_at xs' k) (number_at ys' k)) m.at m.above)
+      ≡ cut o (max (number_at xs k) (number_at ys k))
   together k =
       grind (arith, nat_tests, turned k m.key, same_keys k m.key, j.at, j.above, j.first.below k, j.second.below k, j.first.above k, j.second.above k)
 
@@ -94,9 +112,22 @@ module _ (o : ℕ) (xs xs' ys ys' ts : List StepValue) (m : StepValue) (j : IsJo
   nothing_new : is_level (later o (end_of xs') (end_of ys')) m ≡ true → (k : Bytes) →
       cut o (max (number_at xs' k) (number_at ys' k)) ≡ cut o (by_order (key_cmp k m.key) (max (number_at xs' k) (number_at ys' k)) m.at m.above)
   nothing_new level k =
-      grind (arith, nat_tests, turned k m.key, same_keys k m.key, itself m.key, j.first.under, j.second.under, under_more m.key k xs', under_more m.key k ys', high 0 xs' k, high 0 ys' k)
+      grind (
+        arith,
+        nat_tests,
+        turned k m.key,
+        same_keys k m.key,
+        itself m.key,
+        j.first.under,
+        j.second.under,
+        under_more m.key k xs',
+        under_more m.key k ys',
+        high 0 xs' k,
+        high 0 ys' k,
+      )
 
-  moved_if : (b : Bool) → is_level (later o (end_of xs') (end_of ys')) m ≡ b → steps_rise (xs ++ ts) ≡ true → steps_rise (ys ++ ts) ≡ true → IsMoved o xs xs' ys ys' ts (if b then ts else m ∷ ts)
+  moved_if : (b : Bool) → is_level (later o (end_of xs') (end_of ys')) m ≡ b → steps_rise (xs ++ ts) ≡ true → steps_rise (ys ++ ts) ≡ true
+      → IsMoved o xs xs' ys ys' ts (if b then ts else m ∷ ts)
   moved_if true level first second = record {
     same = λ k. base_cut o _ _ ts k (nothing_new level k ∙ together k);
     first = j.first.rising ts first;
@@ -110,18 +141,22 @@ module _ (o : ℕ) (xs xs' ys ys' ts : List StepValue) (m : StepValue) (j : IsJo
         second = put_between ys' ts m j.second.under rises (j.second.rising ts second);
       }
 
-  pub moved : (ts' : List StepValue) → steps_rise (xs ++ ts) ≡ true → steps_rise (ys ++ ts) ≡ true → ts' ≡ with_step m (later o (end_of xs') (end_of ys')) ts → IsMoved o xs xs' ys ys' ts ts'
+  pub moved : (ts' : List StepValue) → steps_rise (xs ++ ts) ≡ true → steps_rise (ys ++ ts) ≡ true → ts' ≡ with_step m (later o (end_of xs') (end_of ys')) ts
+      → IsMoved o xs xs' ys ys' ts ts'
   moved ts' first second added = subst (λ l. IsMoved o xs xs' ys ys' ts l) (sym added) (moved_if _ refl first second)
 
 -- ---- which list ends above the other
 
-pub ends_over : (xs ys init rest : List StepValue) (x y : StepValue) → steps_rise ys ≡ true → xs ≡ init ++ x ∷ [] → ys ≡ rest ++ y ∷ [] → key_cmp y.key x.key ≡ Less → EndsOver xs ys
+pub ends_over : (xs ys init rest : List StepValue) (x y : StepValue) → steps_rise ys ≡ true → xs ≡ init ++ x ∷ [] → ys ≡ rest ++ y ∷ []
+    → key_cmp y.key x.key ≡ Less → EndsOver xs ys
 ends_over xs ys init rest x y h x_is y_is less = record {
   some = omega (arith, ap length x_is, length_push init x);
-  over = λ before w is. ap (λ (s : StepValue). are_under s.key ys) (sym (same_from_push init before x w (sym x_is ∙ is)).1) ∙ under_last ys rest y x.key y_is h less;
+  over = λ before w is. ap (λ (s : StepValue). are_under s.key ys) (sym (same_from_push init before x w (sym x_is ∙ is)).1)
+      ∙ under_last ys rest y x.key y_is h less;
 }
 
-pub ends_equal : (xs ys init rest : List StepValue) (x y : StepValue) → xs ≡ init ++ x ∷ [] → ys ≡ rest ++ y ∷ [] → key_cmp x.key y.key ≡ Equal → EndsEqual xs ys
+pub ends_equal : (xs ys init rest : List StepValue) (x y : StepValue) → xs ≡ init ++ x ∷ [] → ys ≡ rest ++ y ∷ [] → key_cmp x.key y.key ≡ Equal
+    → EndsEqual xs ys
 ends_equal xs ys init rest x y x_is y_is e = record {
   first = omega (arith, ap length x_is, length_push init x);
   second = omega (arith, ap length y_is, length_push rest y);

@@ -1,10 +1,19 @@
 -- The greatest numbers of several runs.
-use Rattle.last_readers.proofs.Words.{◌≡◌, ◌≤◌, ◌+◌, true, refl, ◌∙◌, ◌&&◌, are_from, steps_from, ℕ, List, [], ◌∷◌, ◌++◌, length, drop, arith, max, deque_len, nil_from_length, Bytes, StepValue, number_at, number_in, merged_at, cut, greatest_at}
-use Rattle.last_readers.specs.{declared.run.ReadRun.ReadRun, Inside.run_of, Inside.runs_in, Agreeing.from_more, Agreeing.greatest-append}
+use Rattle.std.proofs.Common.{◌≡◌, ◌≤◌, ◌+◌, true, refl, ◌∙◌, ◌&&◌, ℕ, List, [], ◌∷◌, ◌++◌, length, drop, arith}
 use Rattle.std.proofs.lemmas.Bool.{and_from, and_parts}
+use Rattle.std.proofs.lemmas.List.{nil_from_length}
+use Rattle.std.specs.Prelude.{max}
+use Rattle.std.specs.VecDeque.{deque_len}
+use Rattle.model.specs.Map.{Bytes}
 use Rattle.last_readers.proofs.StepLaws.{at_rest}
+use Rattle.last_readers.specs.Agreeing.{from_more, greatest-append}
+use Rattle.last_readers.specs.Inside.{run_of, runs_in}
+use Rattle.last_readers.specs.Readers.{greatest_at}
+use Rattle.last_readers.specs.Steps.{are_from, steps_from, StepValue, number_at, number_in, merged_at, cut}
+use Rattle.last_readers.specs.declared.run.ReadRun.{ReadRun}
 
-pub greatest_added : (rs : List ReadRun) (r : ReadRun) (k : Bytes) → greatest_at (runs_in (rs ++ r ∷ [])) k ≡ max (greatest_at (runs_in rs) k) (number_in (run_of r) k)
+pub greatest_added : (rs : List ReadRun) (r : ReadRun) (k : Bytes)
+    → greatest_at (runs_in (rs ++ r ∷ [])) k ≡ max (greatest_at (runs_in rs) k) (number_in (run_of r) k)
 greatest_added rs r k = omega (arith, greatest-append rs (r ∷ []) k)
 
 -- a run at rest
@@ -12,7 +21,8 @@ resting : (r : ReadRun) (k : Bytes) → deque_len r.first + deque_len r.second �
 resting r k none = at_rest r.first.items r.second.items r.made.items k (omega (arith, r.first.ok.0)) (omega (arith, r.second.ok.0))
 
 -- two runs at rest, of which nothing was made yet
-pub joined_runs : (first second : ReadRun) (xs made : List StepValue) (k : Bytes) → deque_len first.first + deque_len first.second ≡ 0 → deque_len second.first + deque_len second.second ≡ 0 → xs ≡ first.made.items → length made ≡ 0
+pub joined_runs : (first second : ReadRun) (xs made : List StepValue) (k : Bytes) → deque_len first.first + deque_len first.second ≡ 0
+    → deque_len second.first + deque_len second.second ≡ 0 → xs ≡ first.made.items → length made ≡ 0
     → merged_at xs second.made.items made k ≡ max (number_in (run_of first) k) (number_in (run_of second) k)
 joined_runs first second xs made k rest rests is none =
     grind (arith, nil_from_length made none, resting first k rest, resting second k rests)
@@ -23,10 +33,12 @@ made_from r =
     (and_parts (steps_from r.earliest r.second.items) (steps_from r.earliest r.made.items) others.1).1
 
 -- the numbers of both are from the lesser of theirs on
-pub joined_are_from : (n : ℕ) (first second : ReadRun) (xs made : List StepValue) → n ≤ first.earliest → n ≤ second.earliest → xs ≡ first.made.items → length made ≡ 0 → are_from n xs second.made.items made ≡ true
+pub joined_are_from : (n : ℕ) (first second : ReadRun) (xs made : List StepValue) → n ≤ first.earliest → n ≤ second.earliest → xs ≡ first.made.items
+    → length made ≡ 0 → are_from n xs second.made.items made ≡ true
 joined_are_from n first second xs made low lower is none =
     (λ i. are_from n (is i) second.made.items (nil_from_length made none i))
-    ∙ and_from _ _ (from_more n first.earliest first.made.items low (made_from first)) (and_from _ _ (from_more n second.earliest second.made.items lower (made_from second)) refl)
+    ∙ and_from _ _ (from_more n first.earliest first.made.items low (made_from first))
+    (and_from _ _ (from_more n second.earliest second.made.items lower (made_from second)) refl)
 
 -- ---- a look-up in one run after another
 

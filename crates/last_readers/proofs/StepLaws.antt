@@ -1,8 +1,21 @@
 -- Steps by rising key, and the numbers at keys below, between and above them.
-use Rattle.last_readers.proofs.Words.{◌≡◌, ◌≤◌, ◌<◌, ◌-◌, ℕ, zero, suc, true, false, cond, ◌&&◌, List, [], ◌∷◌, ◌++◌, length, get_or, take, drop, map, ◌+◌, refl, sym, ap, ◌∙◌, arith, Less, is_eq, is_le, is_lt, nat_tests, take-append-drop, take_all, take_more, append-nil, nil_from_length, Bytes, key_cmp, StepValue, by_order, number_from, number_at, merged_at, end_from, end_of, are_over, steps_rise, are_under, in_place_of, renumbered, turned, less, turned_less, less_trans, lt_trans, lt_le_trans, le_of_lt, lt_of_not_le}
-use Rattle.std.specs.{List.Sorted.IsPartitionedBy, List.Sorted.IsPartitionPoint, Cmp.Lexicographic.nat_list_cmp_total}
-use Rattle.std.proofs.lemmas.{List.get_or-drop, List.length-drop, List.Sums.list_all-from_AllPass, List.Sums.AllPass-from_list_all}
-use Rattle.std.proofs.{lemmas.Bool.and_parts, lemmas.List.Folds.list_all-append, lemmas.List.Folds.list_all-map}
+use Rattle.std.proofs.Common.{◌≡◌, ◌≤◌, ◌<◌, ◌-◌, ℕ, zero, suc, true, false, cond, ◌&&◌, List, [], ◌∷◌, ◌++◌, length}
+use Rattle.std.proofs.Common.{get_or, take, drop, map, ◌+◌, refl, sym, ap, ◌∙◌, arith}
+use Rattle.std.proofs.lemmas.Bool.{and_parts}
+use Rattle.std.proofs.lemmas.Bool.Decides.{nat_tests}
+use Rattle.std.proofs.lemmas.List.{take-append-drop, take_all, take_more, append-nil, nil_from_length, get_or-drop}
+use Rattle.std.proofs.lemmas.List.{length-drop}
+use Rattle.std.proofs.lemmas.List.Folds.{list_all-append, list_all-map}
+use Rattle.std.proofs.lemmas.List.Sums.{list_all-from_AllPass, AllPass-from_list_all}
+use Rattle.std.specs.Cmp.Lexicographic.{nat_list_cmp_total}
+use Rattle.std.specs.List.Sorted.{IsPartitionedBy, IsPartitionPoint}
+use Rattle.std.specs.Ordering.{is_eq, is_le, is_lt}
+use Rattle.std.specs.declared.cmp.Ordering.TheVariants.{Less}
+use Rattle.model.proofs.Entries.{turned}
+use Rattle.model.proofs.KeyOrder.{less, turned_less, less_trans, lt_trans, lt_le_trans, le_of_lt, lt_of_not_le}
+use Rattle.model.specs.Map.{Bytes, key_cmp}
+use Rattle.last_readers.specs.Steps.{StepValue, by_order, number_from, number_at, merged_at, end_from, end_of}
+use Rattle.last_readers.specs.Steps.{are_over, steps_rise, are_under, in_place_of, renumbered}
 
 -- ---- lists that rise
 
@@ -28,7 +41,8 @@ around [] w ts h = record { under = refl; over = h; without = (and_parts _ _ h).
 around (x ∷ xs) w ts h = grind (arith, around xs w ts, over_both x xs)
 
 -- one more step between those below it and those above it
-pub put_between : (xs ts : List StepValue) (m : StepValue) → are_under m.key xs ≡ true → steps_rise (m ∷ ts) ≡ true → steps_rise (xs ++ ts) ≡ true → steps_rise (xs ++ m ∷ ts) ≡ true
+pub put_between : (xs ts : List StepValue) (m : StepValue) → are_under m.key xs ≡ true → steps_rise (m ∷ ts) ≡ true → steps_rise (xs ++ ts) ≡ true
+    → steps_rise (xs ++ m ∷ ts) ≡ true
 put_between [] ts m under over h = over
 put_between (x ∷ xs) ts m under over h = grind (arith, over_both x xs ts, over_both x xs (m ∷ ts), put_between xs ts m)
 
@@ -52,7 +66,8 @@ low b (s ∷ ss) k h = ap (λ o. by_order o b s.at (number_from s.above ss k)) (
 -- above all steps
 pub high : (b : ℕ) (ss : List StepValue) (k : Bytes) → are_under k ss ≡ true → number_from b ss k ≡ end_from b ss
 high b [] k h = refl
-high b (s ∷ ss) k h = ap (λ o. by_order o b s.at (number_from s.above ss k)) (turned_less s.key k (less _ (and_parts _ _ h).0)) ∙ high s.above ss k (and_parts _ _ h).1
+high b (s ∷ ss) k h = ap (λ o. by_order o b s.at (number_from s.above ss k)) (turned_less s.key k (less _ (and_parts _ _ h).0))
+    ∙ high s.above ss k (and_parts _ _ h).1
 
 -- the steps above the key don't matter
 front_decides : (b : ℕ) (xs ys : List StepValue) (k : Bytes) → are_over k ys ≡ true → number_from b (xs ++ ys) k ≡ number_from b xs k
@@ -64,7 +79,8 @@ end_push b [] w = refl
 end_push b (x ∷ xs) w = end_push x.above xs w
 
 -- with one more step at the end
-pub number_push : (b : ℕ) (xs : List StepValue) (w : StepValue) (k : Bytes) → are_under w.key xs ≡ true → number_from b (xs ++ w ∷ []) k ≡ by_order (key_cmp k w.key) (number_from b xs k) w.at w.above
+pub number_push : (b : ℕ) (xs : List StepValue) (w : StepValue) (k : Bytes) → are_under w.key xs ≡ true
+    → number_from b (xs ++ w ∷ []) k ≡ by_order (key_cmp k w.key) (number_from b xs k) w.at w.above
 number_push b [] w k h = refl
 number_push b (x ∷ xs) w k h =
     grind (arith, number_push x.above xs w k, less (key_cmp x.key w.key), less_trans k x.key w.key, nat_list_cmp_total.congr k x.key w.key)
@@ -81,14 +97,16 @@ pub end_is : (xs init : List StepValue) (w : StepValue) → xs ≡ init ++ w ∷
 end_is xs init w is = sym (ap end_of is ∙ end_push 0 init w)
 
 -- of steps that rise the last has the greatest key
-pub under_last : (xs init : List StepValue) (w : StepValue) (k : Bytes) → xs ≡ init ++ w ∷ [] → steps_rise xs ≡ true → key_cmp w.key k ≡ Less → are_under k xs ≡ true
+pub under_last : (xs init : List StepValue) (w : StepValue) (k : Bytes) → xs ≡ init ++ w ∷ [] → steps_rise xs ≡ true → key_cmp w.key k ≡ Less
+    → are_under k xs ≡ true
 under_last xs init w k is rise lt =
     let below = under_more w.key k init (ap is_le lt) (around init w [] (ap steps_rise (sym is) ∙ rise)).under in
     grind (arith, ap (are_under k) is, list_all-append (λ s. is_lt (key_cmp s.key k)) init (w ∷ []))
 
 -- ---- the binary search
 
-all_at : (x : StepValue) (ss : List StepValue) (i : ℕ) (d : StepValue) → are_over x.key ss ≡ true → i < length ss → is_lt (key_cmp x.key (get_or ss i d).key) ≡ true
+all_at : (x : StepValue) (ss : List StepValue) (i : ℕ) (d : StepValue) → are_over x.key ss ≡ true → i < length ss
+    → is_lt (key_cmp x.key (get_or ss i d).key) ≡ true
 all_at x ss i d h lt = AllPass-from_list_all (λ s. is_lt (key_cmp x.key s.key)) ss h i d lt
 
 pub parted : (k : Bytes) (ss : List StepValue) → steps_rise ss ≡ true → IsPartitionedBy (λ s. is_le (key_cmp s.key k)) ss
@@ -101,14 +119,16 @@ abbrev pub IsEnd : Bytes → List StepValue → ℕ → Type 0
 IsEnd k ss i = IsPartitionPoint (λ s. is_le (key_cmp s.key k) ≡ true) (λ s. is_le (key_cmp s.key k) ≡ false) ss i
 
 rest_over : (k : Bytes) (ss : List StepValue) (i : ℕ) → i ≤ length ss → IsEnd k ss i → are_over k (drop i ss) ≡ true
-rest_over k ss i le h = list_all-from_AllPass (λ s. is_lt (key_cmp k s.key)) (drop i ss) (λ j d lt. rw get_or-drop (lt_of_not_le (get_or ss (i + j) d).key k (h.1 (i + j) d (omega arith) (omega (arith, length-drop i ss)))))
+rest_over k ss i le h = list_all-from_AllPass (λ s. is_lt (key_cmp k s.key)) (drop i ss)
+    (λ j d lt. rw get_or-drop (lt_of_not_le (get_or ss (i + j) d).key k (h.1 (i + j) d (omega arith) (omega (arith, length-drop i ss)))))
 
 -- no step is at the key or below it
 pub found_none : (b : ℕ) (k : Bytes) (ss : List StepValue) → IsEnd k ss 0 → number_from b ss k ≡ b
 found_none b k ss h = low b ss k (rest_over k ss 0 (omega arith) h)
 
 -- the last step that isn't above the key decides
-pub found : (b : ℕ) (k : Bytes) (ss : List StepValue) (i : ℕ) (w : StepValue) → i < length ss → w ≡ get_or ss i w → steps_rise ss ≡ true → IsEnd k ss (i + 1) → cond (is_eq (key_cmp w.key k)) w.at w.above ≡ number_from b ss k
+pub found : (b : ℕ) (k : Bytes) (ss : List StepValue) (i : ℕ) (w : StepValue) → i < length ss → w ≡ get_or ss i w → steps_rise ss ≡ true → IsEnd k ss (i + 1)
+    → cond (is_eq (key_cmp w.key k)) w.at w.above ≡ number_from b ss k
 found b k ss i w lt is rise h =
     let front = take_more ss i w lt ∙ ap (λ (s : StepValue). take i ss ++ s ∷ []) (sym is) in
     let whole = take-append-drop (i + 1) ss in
@@ -141,5 +161,6 @@ pub rises_with : (xs ts : List StepValue) → length ts ≡ 0 → steps_rise xs 
 rises_with xs ts none h = ap (λ l. steps_rise (xs ++ l)) (nil_from_length ts none) ∙ ap steps_rise (append-nil xs) ∙ h
 
 -- at rest, with other numbers
-pub renumbered_run : (n : ℕ) (xs ys ts ss : List StepValue) (k : Bytes) → xs ≡ [] → ys ≡ [] → ts ≡ map (renumbered n) ss → merged_at xs ys ts k ≡ in_place_of n (number_at ss k)
+pub renumbered_run : (n : ℕ) (xs ys ts ss : List StepValue) (k : Bytes) → xs ≡ [] → ys ≡ [] → ts ≡ map (renumbered n) ss
+    → merged_at xs ys ts k ≡ in_place_of n (number_at ss k)
 renumbered_run n xs ys ts ss k no_xs no_ys is = (λ i. merged_at (no_xs i) (no_ys i) (is i) k) ∙ renumbered_from n 0 ss k

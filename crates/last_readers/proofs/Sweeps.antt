@@ -1,9 +1,19 @@
 -- Steps of which numbers are forgotten.
-use Rattle.last_readers.proofs.Words.{◌≡◌, ◌≤◌, ◌<◌, ◌+◌, ℕ, zero, suc, Bool, true, false, cond, ◌&&◌, List, [], ◌∷◌, ◌++◌, length, get_or, drop, map, refl, sym, ap, subst, ◌∙◌, arith, max, if◌then◌else◌, Option, append-nil, append_assoc, nat_tests, Bytes, key_cmp, StepValue, number_from, number_at, merged_at, end_from, end_of, are_over, steps_rise, cut, cut_step, is_told, swept, is_from, is_step_from, steps_from, are_from, in_place_of, renumbered, same_keys, IsJoined, with_step, later}
-use Rattle.std.proofs.Common.{None, Some}
-use Rattle.std.proofs.{Math.Seq.drop-cons, Math.Seq.drop-nil, lemmas.Bool.and_parts, lemmas.Bool.and_from, lemmas.List.drop_all}
-use Rattle.last_readers.specs.Sweeping.{IsToldOf, IsTurned}
+use Rattle.std.proofs.Common.{◌≡◌, ◌≤◌, ◌<◌, ◌+◌, ℕ, zero, suc, Bool, true, false, cond, ◌&&◌, List, [], ◌∷◌, ◌++◌}
+use Rattle.std.proofs.Common.{length, get_or, drop, map, refl, sym, ap, subst, ◌∙◌, arith, None, Some}
+use Rattle.std.proofs.Math.Seq.{drop-cons, drop-nil}
+use Rattle.std.proofs.lemmas.Bool.{and_parts, and_from}
+use Rattle.std.proofs.lemmas.Bool.Decides.{nat_tests}
+use Rattle.std.proofs.lemmas.List.{append-nil, append_assoc, drop_all}
+use Rattle.std.specs.Prelude.{max, if◌then◌else◌, Option}
+use Rattle.model.proofs.KeyOrder.{same_keys}
+use Rattle.model.specs.Map.{Bytes, key_cmp}
 use Rattle.last_readers.proofs.StepLaws.{low, over_less, over_both, rises_left, rises_right}
+use Rattle.last_readers.specs.Merging.{IsJoined, with_step, later}
+use Rattle.last_readers.specs.Steps.{StepValue, number_from, number_at, merged_at, end_from, end_of, are_over}
+use Rattle.last_readers.specs.Steps.{steps_rise, cut, cut_step, is_told, swept, is_from, is_step_from, steps_from}
+use Rattle.last_readers.specs.Steps.{are_from, in_place_of, renumbered}
+use Rattle.last_readers.specs.Sweeping.{IsToldOf, IsTurned}
 
 -- ---- numbers that count as none
 
@@ -33,7 +43,8 @@ levelled o n b s ss k over tells level now is =
     grind (arith, nat_tests, low s.above ss k, over_less k s.key ss, same_keys k s.key)
 
 -- whichever it is
-pick : {X : Type 0} (f : List StepValue → X) (c : Bool) (xs ys : List StepValue) (x : X) → (c ≡ true → f xs ≡ x) → (c ≡ false → f ys ≡ x) → f (if c then xs else ys) ≡ x
+pick : {X : Type 0} (f : List StepValue → X) (c : Bool) (xs ys : List StepValue) (x : X) → (c ≡ true → f xs ≡ x) → (c ≡ false → f ys ≡ x)
+    → f (if c then xs else ys) ≡ x
 pick f true xs ys x front _ = front refl
 pick f false xs ys x _ back = back refl
 
@@ -41,10 +52,12 @@ told_is : (o n : ℕ) (s : StepValue) → is_told (Some n) (cut_step o s) ≡ tr
 told_is o n s e = grind (arith, nat_tests)
 
 -- a step that says more
-unlevelled : (o b : ℕ) (s : StepValue) (ss ts : List StepValue) (k : Bytes) → number_from (cut o s.above) ts k ≡ cut o (number_from s.above ss k) → number_from (cut o b) (cut_step o s ∷ ts) k ≡ cut o (number_from b (s ∷ ss) k)
+unlevelled : (o b : ℕ) (s : StepValue) (ss ts : List StepValue) (k : Bytes) → number_from (cut o s.above) ts k ≡ cut o (number_from s.above ss k)
+    → number_from (cut o b) (cut_step o s ∷ ts) k ≡ cut o (number_from b (s ∷ ss) k)
 unlevelled o b s ss ts k is = grind (arith, is)
 
-pub numbers : (o : ℕ) (told : Option ℕ) (b : ℕ) (ss : List StepValue) (k : Bytes) → steps_rise ss ≡ true → TellsOf o told b → number_from (cut o b) (swept o told ss) k ≡ cut o (number_from b ss k)
+pub numbers : (o : ℕ) (told : Option ℕ) (b : ℕ) (ss : List StepValue) (k : Bytes) → steps_rise ss ≡ true → TellsOf o told b
+    → number_from (cut o b) (swept o told ss) k ≡ cut o (number_from b ss k)
 numbers o told b [] k rise tells = refl
 numbers o None b (s ∷ ss) k rise tells =
     unlevelled o b s ss (swept o (Some (cut o s.above)) ss) k (numbers o (Some (cut o s.above)) s.above ss k (and_parts _ _ rise).1 refl)
@@ -56,17 +69,21 @@ numbers o (Some n) b (s ∷ ss) k rise tells =
     levelled o n b s ss k rest.0 tells e _ (ap (λ m. number_from m (swept o (Some n) ss) k) (sym tells ∙ is) ∙ numbers o (Some n) s.above ss k rest.1 is))
     (λ e. unlevelled o b s ss (swept o (Some (cut o s.above)) ss) k (numbers o (Some (cut o s.above)) s.above ss k rest.1 refl))
 
-telling : (o : ℕ) (told : Option ℕ) (xs ys : List StepValue) (k : Bytes) (b : ℕ) → IsToldOf told xs ys → max (number_at xs k) (number_at ys k) ≡ cut o b → TellsOf o told b
+telling : (o : ℕ) (told : Option ℕ) (xs ys : List StepValue) (k : Bytes) (b : ℕ) → IsToldOf told xs ys → max (number_at xs k) (number_at ys k) ≡ cut o b
+    → TellsOf o told b
 telling o None xs ys k b tells below = tt
 telling o (Some n) xs ys k b tells below = tells.0 ∙ (λ i. max (number_at (sym tells.1 i) k) (number_at (sym tells.2 i) k)) ∙ below
 
 pub merged_swept : (o : ℕ) (told : Option ℕ) (xs ys ts xs' ys' ts' : List StepValue) (k : Bytes) → steps_rise (xs ++ ts) ≡ true → steps_rise (ys ++ ts) ≡ true
-    → xs' ≡ swept o (Some 0) xs → ys' ≡ swept o (Some 0) ys → ts' ≡ swept o told ts → IsToldOf told xs' ys' → merged_at xs' ys' ts' k ≡ cut o (merged_at xs ys ts k)
+    → xs' ≡ swept o (Some 0) xs → ys' ≡ swept o (Some 0) ys → ts' ≡ swept o told ts → IsToldOf told xs' ys'
+    → merged_at xs' ys' ts' k ≡ cut o (merged_at xs ys ts k)
 merged_swept o told xs ys ts xs' ys' ts' k first second first_is second_is is tells =
     let b = max (number_at xs k) (number_at ys k) in
-    let one = λ (ss : List StepValue) (rise : steps_rise ss ≡ true). ap (λ n. number_from n (swept o (Some 0) ss) k) (sym (cut_none o)) ∙ numbers o (Some 0) 0 ss k rise (sym (cut_none o)) in
+    let one = λ (ss : List StepValue) (rise : steps_rise ss ≡ true). ap (λ n. number_from n (swept o (Some 0) ss) k) (sym (cut_none o))
+    ∙ numbers o (Some 0) 0 ss k rise (sym (cut_none o)) in
     let below : max (number_at xs' k) (number_at ys' k) ≡ cut o b =
-    (λ i. max ((ap (λ l. number_at l k) first_is ∙ one xs (rises_left xs ts first)) i) ((ap (λ l. number_at l k) second_is ∙ one ys (rises_left ys ts second)) i)) ∙ cut_max o (number_at xs k) (number_at ys k) in
+    (λ i. max ((ap (λ l. number_at l k) first_is ∙ one xs (rises_left xs ts first)) i)
+    ((ap (λ l. number_at l k) second_is ∙ one ys (rises_left ys ts second)) i)) ∙ cut_max o (number_at xs k) (number_at ys k) in
     (λ i. number_from (below i) (is i) k) ∙ numbers o told b ts k (rises_right xs ts first) (telling o told xs' ys' k b tells below)
 
 -- ---- they rise
@@ -75,22 +92,26 @@ over_swept : (x : Bytes) (o : ℕ) (told : Option ℕ) (ss : List StepValue) →
 over_swept x o told [] h = refl
 over_swept x o told (s ∷ ss) h =
     let parts = and_parts _ _ h in
-    pick (are_over x) (is_told told (cut_step o s)) _ _ true (λ e. over_swept x o told ss parts.1) (λ e. and_from _ _ parts.0 (over_swept x o (Some (cut o s.above)) ss parts.1))
+    pick (are_over x) (is_told told (cut_step o s)) _ _ true (λ e. over_swept x o told ss parts.1)
+    (λ e. and_from _ _ parts.0 (over_swept x o (Some (cut o s.above)) ss parts.1))
 
 one_rises : (o : ℕ) (told : Option ℕ) (ss : List StepValue) → steps_rise ss ≡ true → steps_rise (swept o told ss) ≡ true
 one_rises o told [] h = refl
 one_rises o told (s ∷ ss) h =
     let parts = and_parts (are_over s.key ss) (steps_rise ss) h in
-    pick steps_rise (is_told told (cut_step o s)) _ _ true (λ e. one_rises o told ss parts.1) (λ e. and_from _ _ (over_swept s.key o (Some (cut o s.above)) ss parts.0) (one_rises o (Some (cut o s.above)) ss parts.1))
+    pick steps_rise (is_told told (cut_step o s)) _ _ true (λ e. one_rises o told ss parts.1)
+    (λ e. and_from _ _ (over_swept s.key o (Some (cut o s.above)) ss parts.0) (one_rises o (Some (cut o s.above)) ss parts.1))
 
-pub rises_swept : (o : ℕ) (told next : Option ℕ) (xs ts : List StepValue) → steps_rise (xs ++ ts) ≡ true → steps_rise (swept o told xs ++ swept o next ts) ≡ true
+pub rises_swept : (o : ℕ) (told next : Option ℕ) (xs ts : List StepValue) → steps_rise (xs ++ ts) ≡ true
+    → steps_rise (swept o told xs ++ swept o next ts) ≡ true
 rises_swept o told next [] ts h = one_rises o next ts h
 rises_swept o told next (x ∷ xs) ts h =
     let parts = and_parts (are_over x.key (xs ++ ts)) (steps_rise (xs ++ ts)) h in
     let over = and_parts (are_over x.key xs) (are_over x.key ts) (sym (over_both x xs ts) ∙ parts.0) in
     pick (λ l. steps_rise (l ++ swept o next ts)) (is_told told (cut_step o x)) _ _ true (λ e. rises_swept o told next xs ts parts.1)
     (λ e. and_from _ _
-    (over_both (cut_step o x) (swept o (Some (cut o x.above)) xs) (swept o next ts) ∙ and_from _ _ (over_swept x.key o (Some (cut o x.above)) xs over.0) (over_swept x.key o next ts over.1))
+    (over_both (cut_step o x) (swept o (Some (cut o x.above)) xs) (swept o next ts)
+    ∙ and_from _ _ (over_swept x.key o (Some (cut o x.above)) xs over.0) (over_swept x.key o next ts over.1))
     (rises_swept o (Some (cut o x.above)) next xs ts parts.1))
 
 -- ---- which numbers they name
@@ -122,11 +143,13 @@ with_from : (n : ℕ) (m : StepValue) (b : ℕ) (ts : List StepValue) → is_ste
 with_from n m b ts own h = pick (steps_from n) _ ts (m ∷ ts) true (λ e. h) (λ e. and_from _ _ own h)
 
 -- the greatest key was taken off both, and put in front of what was made
-pub joined_from : (n o : ℕ) (xs xs' ys ys' ts ts' : List StepValue) (m : StepValue) (b : ℕ) → IsJoined o xs xs' ys ys' m → ts' ≡ with_step m b ts → are_from n xs ys ts ≡ true → are_from n xs' ys' ts' ≡ true
+pub joined_from : (n o : ℕ) (xs xs' ys ys' ts ts' : List StepValue) (m : StepValue) (b : ℕ) → IsJoined o xs xs' ys ys' m → ts' ≡ with_step m b ts
+    → are_from n xs ys ts ≡ true → are_from n xs' ys' ts' ≡ true
 joined_from n o xs xs' ys ys' ts ts' m b j is h =
     let first = and_parts (steps_from n xs) (steps_from n ys && steps_from n ts) h in
     let others = and_parts (steps_from n ys) (steps_from n ts) first.1 in
-    let at = ap (is_from n) j.at ∙ later_is_from n o _ _ (number_is_from n 0 xs m.key (none_is_from n) first.0) (number_is_from n 0 ys m.key (none_is_from n) others.0) in
+    let at = ap (is_from n) j.at
+    ∙ later_is_from n o _ _ (number_is_from n 0 xs m.key (none_is_from n) first.0) (number_is_from n 0 ys m.key (none_is_from n) others.0) in
     let above = ap (is_from n) j.above ∙ later_is_from n o _ _ (end_is_from n 0 xs (none_is_from n) first.0) (end_is_from n 0 ys (none_is_from n) others.0) in
     and_from _ _ (j.first.from n first.0) (and_from _ _ (j.second.from n others.0) (ap (steps_from n) is ∙ with_from n m b ts (and_from _ _ at above) others.1))
 
@@ -149,11 +172,13 @@ pub so_far_none : (o : ℕ) (first : Option ℕ) (xs : List StepValue) → IsSoF
 so_far_none o first xs = record { kept = []; items = sym (append-nil xs); all = refl }
 
 unrolled : (o : ℕ) (told : Option ℕ) (s : StepValue) (ss : List StepValue) (c : Bool) → is_told told (cut_step o s) ≡ c
-    → (if c then [] else cut_step o s ∷ []) ++ swept o (if c then told else Some (cut o s.above)) ss ≡ (if c then swept o told ss else cut_step o s ∷ swept o (Some (cut o s.above)) ss)
+    → (if c then [] else cut_step o s ∷ []) ++ swept o (if c then told else Some (cut o s.above)) ss
+    ≡ (if c then swept o told ss else cut_step o s ∷ swept o (Some (cut o s.above)) ss)
 unrolled o told s ss true e = refl
 unrolled o told s ss false e = refl
 
-pub so_far_more : (o : ℕ) (first told later : Option ℕ) (xs now is : List StepValue) (i j : ℕ) → j ≡ suc i → i < length xs → IsTurned o told later now is → IsSoFar o first told xs now i → IsSoFar o first later xs is j
+pub so_far_more : (o : ℕ) (first told later : Option ℕ) (xs now is : List StepValue) (i j : ℕ) → j ≡ suc i → i < length xs → IsTurned o told later now is
+    → IsSoFar o first told xs now i → IsSoFar o first later xs is j
 so_far_more o first told later xs now is i j next lt turned far =
     let s = turned.step in
     let front : drop i xs ≡ get_or xs i s ∷ drop j xs = drop-cons xs i s lt ∙ ap (λ n. get_or xs i s ∷ drop n xs) (sym next) in
@@ -166,7 +191,8 @@ so_far_more o first told later xs now is i j next lt turned far =
       kept = far.kept ++ back;
       items = turned.is ∙ ap (λ l. l ++ back) rest ∙ append_assoc (drop j xs) far.kept back;
       all = append_assoc far.kept back (swept o later (drop j xs))
-          ∙ ap (λ l. far.kept ++ l) (ap (λ t. back ++ swept o t (drop j xs)) turned.tells ∙ unrolled o told s (drop j xs) c refl ∙ ap (λ x. swept o told (x ∷ drop j xs)) own ∙ ap (swept o told) (sym front))
+          ∙ ap (λ l. far.kept ++ l) (ap (λ t. back ++ swept o t (drop j xs)) turned.tells ∙ unrolled o told s (drop j xs) c refl
+          ∙ ap (λ x. swept o told (x ∷ drop j xs)) own ∙ ap (swept o told) (sym front))
           ∙ far.all;
     }
 

@@ -1,28 +1,35 @@
 -- Runs that answer as others do.
 use Rattle.std.proofs.Common.{◌≡◌, ◌≤◌, ◌<◌, ◌+◌, ℕ, true, refl, List, [], ◌∷◌, ◌++◌, sym, ap, ◌∙◌, arith}
-use Rattle.std.specs.Prelude.{max}
 use Rattle.std.proofs.lemmas.Bool.Decides.{nat_tests}
+use Rattle.std.specs.Prelude.{max}
 use Rattle.model.specs.Map.{Bytes}
-use Rattle.last_readers.specs.{declared.run.ReadRun.ReadRun, Steps.StepValue, Steps.cut, Steps.is_run_from, Steps.number_in, Steps.steps_from, Readers.greatest_at, Inside.run_of, Inside.runs_in}
+use Rattle.last_readers.specs.Inside.{run_of, runs_in}
+use Rattle.last_readers.specs.Readers.{greatest_at}
+use Rattle.last_readers.specs.Steps.{StepValue, cut, is_run_from, number_in, steps_from}
+use Rattle.last_readers.specs.declared.run.ReadRun.{ReadRun}
 
 -- at each key the numbers are the same, where those up to that one count as none
 abbrev pub Agree : ℕ → List ReadRun → List ReadRun → Type 0
 Agree oldest new old = (k : Bytes) → cut oldest (greatest_at (runs_in new) k) ≡ cut oldest (greatest_at (runs_in old) k)
 
-pub greatest-append : (rs qs : List ReadRun) (k : Bytes) → greatest_at (runs_in (rs ++ qs)) k ≡ max (greatest_at (runs_in rs) k) (greatest_at (runs_in qs) k)
+pub greatest-append : (rs qs : List ReadRun) (k : Bytes)
+    → greatest_at (runs_in (rs ++ qs)) k ≡ max (greatest_at (runs_in rs) k) (greatest_at (runs_in qs) k)
 greatest-append [] qs k = omega arith
 greatest-append (r ∷ rs) qs k = let rest = greatest-append rs qs k in omega (arith, rest)
 
 one_of_three : (o m a b n : ℕ) → cut o a ≡ cut o b → cut o (max m (max a n)) ≡ cut o (max m (max b n))
 one_of_three o m a b n same = grind (arith, nat_tests)
 
-pub agree_between : (o : ℕ) (front xs ys behind : List ReadRun) → Agree o xs ys → Agree o (front ++ (xs ++ behind)) (front ++ (ys ++ behind))
+pub agree_between : (o : ℕ) (front xs ys behind : List ReadRun) → Agree o xs ys
+    → Agree o (front ++ (xs ++ behind)) (front ++ (ys ++ behind))
 agree_between o front xs ys behind same k =
     let f = greatest_at (runs_in front) k in
     let b = greatest_at (runs_in behind) k in
-    let all : (zs : List ReadRun) → greatest_at (runs_in (front ++ (zs ++ behind))) k ≡ max f (max (greatest_at (runs_in zs) k) b)
+    let all : (zs : List ReadRun)
+    → greatest_at (runs_in (front ++ (zs ++ behind))) k ≡ max f (max (greatest_at (runs_in zs) k) b)
     = λ zs. greatest-append front (zs ++ behind) k ∙ ap (max f) (greatest-append zs behind k) in
-    ap (cut o) (all xs) ∙ one_of_three o f (greatest_at (runs_in xs) k) (greatest_at (runs_in ys) k) b (same k) ∙ sym (ap (cut o) (all ys))
+    ap (cut o) (all xs) ∙ one_of_three o f (greatest_at (runs_in xs) k) (greatest_at (runs_in ys) k) b (same k)
+    ∙ sym (ap (cut o) (all ys))
 
 -- the numbers of a run are above one that the least of them is above
 pub from_more : (m n : ℕ) (ss : List StepValue) → m ≤ n → steps_from n ss ≡ true → steps_from m ss ≡ true

@@ -1,8 +1,10 @@
 -- What a `LastReaders` holds as contracts see it.
 use Rattle.std.specs.Prelude.{ℕ, ◌+◌, List, Option, map, option_map}
 use Rattle.std.specs.VecDeque.{deque_len}
-use Rattle.last_readers.specs.{declared.run.Ready.Ready, declared.run.ReadRun.ReadRun, Steps.StepValue, Steps.RunValue}
 use Rattle.merging_runs.specs.RunSizes.{RunSize}
+use Rattle.last_readers.specs.Steps.{StepValue, RunValue}
+use Rattle.last_readers.specs.declared.run.ReadRun.{ReadRun}
+use Rattle.last_readers.specs.declared.run.Ready.{Ready}
 
 abbrev pub run_of : ReadRun → RunValue
 run_of r = record { first = r.first.items; second = r.second.items; made = r.made.items }

@@ -1,11 +1,15 @@
 -- The last reader of each key, by commit number.
-use Rattle.std.specs.Prelude.{◌≡◌, ℕ, ◌<◌, ◌≤◌, ◌+◌, max, nat_lt, true, All, List, [], ◌∷◌, length, Option, Some, None, IsSome, if◌then◌else◌}
-use Rattle.model.specs.{Map.Bytes, PrivateCopy.Mark, PrivateCopy.is_covered}
+use Rattle.std.specs.List.{list_any}
+use Rattle.std.specs.Prelude.{◌≡◌, ℕ, ◌<◌, ◌≤◌, ◌+◌, max, nat_lt, Bool, true, All, List, [], ◌∷◌, length, Option}
+use Rattle.std.specs.Prelude.{Some, None, IsSome, if◌then◌else◌}
+use Rattle.model.specs.Map.{Bytes}
+use Rattle.model.specs.PrivateCopy.{Mark, is_covered}
 use Rattle.merging_runs.specs.Held.{Held, due_upto}
 use Rattle.merging_runs.specs.RunSizes.{RunSize, IsMoved, moves_for, with_run}
-use Rattle.last_readers.specs.Steps.{StepValue, RunValue, cut, is_run_from, number_at, number_in}
+use Rattle.last_readers.specs.Steps.{StepValue, RunValue, cut, is_named_in, is_run_from, number_at, number_in}
 
--- what is kept: numbers by key in several runs, some of which may be being made of two, those up to `oldest` counting as none
+-- what is kept: numbers by key in several runs, some of which may be being made of two, those up to `oldest` counting
+-- as none
 pub record Readers : Type 0 where
   pub runs : List RunValue
   pub oldest : ℕ
@@ -64,6 +68,10 @@ IsForgotten oldest old new = (k : Bytes) → last_reader new k ≡ cut oldest (l
 abbrev pub NameNoneUpto : ℕ → Readers → Type 0
 NameNoneUpto oldest r = All (λ (run : RunValue). is_run_from (oldest + 1) run ≡ true) r.runs
 
+-- whether some step names the number
+abbrev pub is_named : Readers → ℕ → Bool
+is_named r n = list_any (λ run. is_named_in run n) r.runs
+
 -- some marks can be noted
 pub record IsReady (room : ReadersRoom) : Type 0 where
   pub place : 0 < room.places
@@ -89,3 +97,9 @@ abbrev pub AreMoved : ℕ → LastReadersValue → LastReadersValue → Type 0
 AreMoved n old new =
     let count = ready_len old.room.ready in
     IsMoved 2 new.readers.oldest (moves_for count) (with_run n count old.runs) new.runs × (new.refused ≡ old.refused)
+
+-- the steps that were made ready, so many, came with number n as a run; no memory for a merge was refused
+pub record AddsRun (n count : ℕ) (old new : LastReadersValue) : Type 0 where
+  pub ready : count ≡ ready_len old.room.ready
+  pub runs : new.runs ≡ with_run n count old.runs
+  pub refused : new.refused ≡ old.refused

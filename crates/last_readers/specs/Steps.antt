@@ -1,6 +1,9 @@
 -- Numbers by key as a step function: its steps by strictly rising key.
-use Rattle.std.specs.Prelude.{◌≡◌, ℕ, max, nat_lt, nat_le, Bool, true, false, ◌&&◌, ◌||◌, ◌==◌, if◌then◌else◌, List, [], ◌∷◌, Option, Some, None}
-use Rattle.std.specs.{List.list_all, Ordering.is_lt, Ordering.is_le, declared.cmp.Ordering.Ordering}
+use Rattle.std.specs.List.{list_all, list_any}
+use Rattle.std.specs.Ordering.{is_lt, is_le}
+use Rattle.std.specs.Prelude.{◌≡◌, ℕ, max, nat_lt, nat_le, Bool, true, false, ◌&&◌, ◌||◌, ◌==◌, if◌then◌else◌, List}
+use Rattle.std.specs.Prelude.{[], ◌∷◌, Option, Some, None}
+use Rattle.std.specs.declared.cmp.Ordering.{Ordering}
 use Rattle.std.specs.declared.cmp.Ordering.TheVariants.{Less, Equal, Greater}
 use Rattle.model.specs.Map.{Bytes, key_cmp}
 
@@ -25,8 +28,8 @@ number_from below (s ∷ ss) k = by_order (key_cmp k s.key) below s.at (number_f
 abbrev pub number_at : List StepValue → Bytes → ℕ
 number_at ss k = number_from 0 ss k
 
--- the number at a key where two lists of steps are being merged from their ends: xs and ys are what is left of them, ts is what was made
--- of their ends. Below ts it is the greater number of xs and ys
+-- the number at a key where two lists of steps are being merged from their ends: xs and ys are what is left of them, ts
+-- is what was made of their ends. Below ts it is the greater number of xs and ys
 abbrev pub merged_at : List StepValue → List StepValue → List StepValue → Bytes → ℕ
 merged_at xs ys ts k = number_from (max (number_at xs k) (number_at ys k)) ts k
 
@@ -77,11 +80,12 @@ abbrev pub is_told : Option ℕ → StepValue → Bool
 is_told None s = false
 is_told (Some n) s = is_level n s
 
--- 0 in the place of each number up to o, without the steps that say no more then than those before them, where `told` is the number that
--- they tell of the keys from theirs on
+-- 0 in the place of each number up to o, without the steps that say no more then than those before them, where `told`
+-- is the number that they tell of the keys from theirs on
 abbrev pub swept : ℕ → Option ℕ → List StepValue → List StepValue
 swept o told [] = []
-swept o told (s ∷ ss) = let t = cut_step o s in if is_told told t then swept o told ss else t ∷ swept o (Some t.above) ss
+swept o told (s ∷ ss) = let t =
+    cut_step o s in if is_told told t then swept o told ss else t ∷ swept o (Some t.above) ss
 
 -- whether the number is none, or one from n on
 abbrev pub is_from : ℕ → ℕ → Bool
@@ -121,3 +125,12 @@ are_from n xs ys ts = steps_from n xs && (steps_from n ys && steps_from n ts)
 -- whether no step of the run names a number below n but 0, which is none
 abbrev pub is_run_from : ℕ → RunValue → Bool
 is_run_from n r = are_from n r.first r.second r.made
+
+-- whether the step names the number
+abbrev pub names : StepValue → ℕ → Bool
+names s n = n == s.at || n == s.above
+
+-- whether some step of the run does
+abbrev pub is_named_in : RunValue → ℕ → Bool
+is_named_in r n = list_any (λ s. names s n) r.first || (list_any (λ s. names s n) r.second || list_any
+    (λ s. names s n) r.made)

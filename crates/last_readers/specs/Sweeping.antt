@@ -2,7 +2,8 @@
 use Rattle.std.specs.Prelude.{◌≡◌, ℕ, List, [], ◌∷◌, ◌++◌, Option, Some, None, if◌then◌else◌, ⊤}
 use Rattle.last_readers.specs.Steps.{StepValue, cut, cut_step, is_told}
 
--- the first step was taken off, and stands behind the others with 0 in the place of each number up to o, unless it says then what is told
+-- the first step was taken off, and stands behind the others with 0 in the place of each number up to o, unless it says
+-- then what is told
 pub record IsTurned (o : ℕ) (told later : Option ℕ) (xs ys : List StepValue) : Type 0 where
   pub step : StepValue
   pub rest : List StepValue

@@ -1,11 +1,12 @@
 //! The last readers.
-ghost use Rattle.std.specs.Prelude.{◌≡◌, ◌<◌, ◌-◌, ℕ, List, [], None, length, max, nat_lt, false, OnOk};
+ghost use Rattle.std.specs.Prelude.{◌≡◌, ◌<◌, ◌-◌, ◌||◌, ℕ, Bool, List, [], None, length, max, nat_lt, false, OnOk};
 ghost use Rattle.model.specs.Map.{Bytes};
 ghost use Rattle.model.specs.PrivateCopy.{Mark};
 ghost use Rattle.merging_runs.specs.Held.{due_upto, given_a_forget, size_in};
-ghost use Rattle.last_readers.specs.Readers.{AnswerAlike, AreMoved, AreUpto, HasRoom, IsForgotten, IsNoted, IsReady};
-ghost use Rattle.last_readers.specs.Readers.{NameNoneUpto, after, due_of, last_reader, ready_len};
-ghost use Rattle.merging_runs.specs.RunSizes.{IsTried, LeavesMerges, are_alike, with_run};
+ghost use Rattle.merging_runs.specs.Next.{IsNext};
+ghost use Rattle.last_readers.specs.Readers.{AddsRun, AnswerAlike, AreMoved, AreUpto, HasRoom, IsForgotten, IsNoted};
+ghost use Rattle.last_readers.specs.Readers.{IsReady, NameNoneUpto, after, due_of, is_named, last_reader};
+ghost use Rattle.merging_runs.specs.RunSizes.{IsTried, LeavesMerges, are_alike};
 
 use crate::gathering::steps_of;
 use crate::run::{ReadRun, Ready};
@@ -92,6 +93,14 @@ impl LastReaders {
         if later < number { Some(number) } else { None }
     }
 
+    /// The number above `n` that was found, or the least above `n` that a step names, where that is less: the least of a commit of which
+    /// something is kept. It looks at each step, and takes no memory.
+    pub fn next_named(&self, found: Option<u64>, n: u64) -> Option<u64>
+        ensures { (p : ℕ → Bool) → IsNext p n found → IsNext (λ k. p k || is_named self.now.readers k) n result }
+    {
+        self.runs.next_number(found, n)
+    }
+
     /// Makes all room that noting these marks takes, so that `note` can't fail: copies of the keys in the marks, and the place of a run.
     /// `Memory` where memory for that is refused. It takes the time of sorting the marks, and answers as before in either case.
     ///
@@ -116,9 +125,7 @@ impl LastReaders {
         ensures noted { (marks : List Mark) → HasRoom marks self.old.room → IsNoted marks n self.old.readers self.new.readers }
         ensures upto { AreUpto n self.new.readers }
         ensures oldest { self.new.readers.oldest ≡ self.old.readers.oldest }
-        ensures count { result ≡ ready_len self.old.room.ready }
-        ensures runs { self.new.runs ≡ with_run n result self.old.runs }
-        ensures refused { self.new.refused ≡ self.old.refused }
+        ensures run { AddsRun n result self.old self.new }
     {
         let Some(ready) = self.ready.take() else {
             unreachable!()
@@ -130,9 +137,9 @@ impl LastReaders {
         count
     }
 
-    /// Notes that the commit with number `n` has read what the marks cover that room was made for last: it is the last reader of each key that
-    /// they cover, and the other keys have the one that they had. The number is above `oldest`, and no last reader has one above it. It can't
-    /// fail: `reserve` made room.
+    /// Notes that the commit with number `n` has read what the marks cover that room was made for last: it is the last reader of each key
+    /// that they cover, and the other keys have the one that they had. The number is above `oldest`, and no last reader has one above it.
+    /// It can't fail: `reserve` made room.
     ///
     /// Then the merges that are under way go on by 16 moves for each step of the marks, and 64, until nothing is left to move. A move takes
     /// one step, or two of one key. It takes no memory.
@@ -165,8 +172,8 @@ impl LastReaders {
         self.runs.forget_step(self.oldest)
     }
 
-    /// Forgets the last readers with numbers up to `oldest`, all of them at once: no step names such a number any more. It takes the time of
-    /// a look at each step that the runs hold, and no memory.
+    /// Forgets the last readers with numbers up to `oldest`, all of them at once: no step names such a number any more. It takes the time
+    /// of a look at each step that the runs hold, and no memory.
     pub fn forget(&mut self, oldest: u64)
         ensures forgotten { IsForgotten oldest self.old.readers self.new.readers }
         ensures upto { (n : ℕ) → AreUpto n self.old.readers → AreUpto n self.new.readers }

@@ -8,6 +8,7 @@
 mod gathering;
 mod last_readers;
 mod merging;
+mod naming;
 mod run;
 mod runs;
 mod step;

@@ -1,10 +1,11 @@
 //! Two lists of steps made into one.
-ghost use Rattle.std.specs.Prelude.{◌≡◌, ◌≤◌, ◌<◌, ◌+◌, ◌++◌, IsTrue, Bool, true, false};
+ghost use Rattle.std.specs.Prelude.{◌≡◌, ◌≤◌, ◌<◌, ◌+◌, IsTrue, Bool, true, false};
 ghost use Rattle.std.specs.VecDeque.{deque_len, deque_capacity};
 ghost use Rattle.std.specs.declared.cmp.Ordering.TheVariants.{Less, Equal, Greater};
 ghost use Rattle.model.specs.Map.{Bytes};
 ghost use Rattle.last_readers.specs.Steps.{number_at, end_of, steps_rise};
-ghost use Rattle.last_readers.specs.Merging.{EndsOver, EndsEqual, IsJoined, IsMade, StayFrom, StayMerged, later, with_step};
+ghost use Rattle.last_readers.specs.Merging.{EndsEqual, EndsOver, IsJoined, MakesOneStep, MovesGreatest, RiseBefore};
+ghost use Rattle.last_readers.specs.Merging.{later, with_step};
 
 use crate::step::{Step, end_of};
 use std::cmp::Ordering;
@@ -109,18 +110,13 @@ pub(crate) fn move_greatest(
     to: &mut VecDeque<Step>,
     oldest: u64,
 )
-    requires first { IsTrue (steps_rise (first.old.items ++ to.old.items)) }
-    requires second { IsTrue (steps_rise (second.old.items ++ to.old.items)) }
+    requires rising { RiseBefore first.old.items second.old.items to.old.items }
     requires some { 0 < deque_len first.old + deque_len second.old }
     requires room { deque_len to.old < deque_capacity to.old }
-    ensures same { StayMerged oldest first.new.items second.new.items to.new.items first.old.items second.old.items to.old.items }
-    ensures made { IsMade oldest first.new.items second.new.items to.old.items to.new.items }
-    ensures from { StayFrom first.new.items second.new.items to.new.items first.old.items second.old.items to.old.items }
-    ensures first { IsTrue (steps_rise (first.new.items ++ to.new.items)) }
-    ensures second { IsTrue (steps_rise (second.new.items ++ to.new.items)) }
-    ensures fewer { deque_len first.new + deque_len second.new < deque_len first.old + deque_len second.old }
-    ensures two { deque_len first.old + deque_len second.old ≤ deque_len first.new + deque_len second.new + 2 }
-    ensures to_len { deque_len to.new ≤ deque_len to.old + 1 }
+    ensures moved { MovesGreatest oldest first.new.items second.new.items to.new.items first.old.items second.old.items to.old.items }
+    ensures rising { RiseBefore first.new.items second.new.items to.new.items }
+    ensures step { MakesOneStep (deque_len first.old + deque_len second.old) (deque_len first.new + deque_len second.new)
+        (deque_len to.old) (deque_len to.new) }
     ensures capacity { deque_capacity to.new ≡ deque_capacity to.old }
 {
     let step = take_greatest(first, second, oldest);

@@ -2,7 +2,7 @@
 ghost use Rattle.std.specs.Prelude.{◌≡◌, ◌≤◌, ◌<◌, ◌+◌, ◌++◌, [], ◌∷◌, IsTrue, max};
 ghost use Rattle.std.specs.VecDeque.{deque_len, deque_capacity};
 ghost use Rattle.last_readers.specs.Readers.{IsWithRun, greatest_at};
-ghost use Rattle.last_readers.specs.Steps.{cut, is_run_from};
+ghost use Rattle.last_readers.specs.Steps.{cut, is_named_in, is_run_from};
 ghost use Rattle.last_readers.specs.Inside.{run_of, runs_in, held_of, sizes_of};
 ghost use Rattle.merging_runs.specs.RunSizes.{are_alike};
 ghost use Rattle.last_readers.specs.Merging.{IsMade};
@@ -10,6 +10,7 @@ ghost use Rattle.last_readers.specs.Agreeing.{Agree, agree_between, from_later, 
 ghost use Rattle.std.proofs.Common.{refl, ◌∙◌};
 
 use crate::merging::{are_empty, move_greatest};
+use crate::naming::next_named;
 use crate::run::ReadRun;
 use crate::step::Step;
 use crate::sweeping::{sweep, told_of};
@@ -68,6 +69,8 @@ impl Run for ReadRun {
 
     ghost above = { λ o r. IsTrue (is_run_from (o + 1) (run_of r)) };
 
+    ghost has = { λ r. is_named_in (run_of r) };
+
     ghost room = { λ r. deque_capacity r.first + deque_capacity r.second };
 
     ghost fit = { λ n places. (deque_len places ≡ 0) × (n ≤ deque_capacity places) };
@@ -95,6 +98,12 @@ impl Run for ReadRun {
             .saturating_add(self.second.len())
             .saturating_add(self.made.len())
             .saturating_add(1)
+    }
+
+    fn next_number(&self, found: Option<u64>, n: u64) -> Option<u64> {
+        let in_first = next_named(&self.first, found, n);
+        let in_second = next_named(&self.second, in_first, n);
+        next_named(&self.made, in_second, n)
     }
 
     fn is_at_rest(&self) -> bool {

@@ -2,7 +2,8 @@
 ghost use Rattle.std.specs.Prelude.{◌≡◌, ◌≤◌, IsTrue, true, if◌then◌else◌};
 ghost use Rattle.std.specs.Ordering.{is_eq};
 ghost use Rattle.model.specs.Map.{key_cmp};
-ghost use Rattle.last_readers.specs.Steps.{StepValue, cut, cut_step, is_level, number_from, end_of, steps_rise, in_place_of, renumbered};
+ghost use Rattle.last_readers.specs.Steps.{StepValue, cut, cut_step, is_level, number_from, end_of, steps_rise};
+ghost use Rattle.last_readers.specs.Steps.{in_place_of, renumbered};
 
 use model::{Key, KeyRef};
 use std::collections::VecDeque;

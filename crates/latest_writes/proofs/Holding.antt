@@ -1,8 +1,17 @@
 -- How much is held of writes.
-use Rattle.latest_writes.proofs.Words.{common_steps, ◌≡◌, ◌≢◌, ◌<◌, ◌⊎◌, ℕ, ◌+◌, ◌-◌, ◌^◌, min, true, false, List, [], ◌∷◌, ◌++◌, None, ap, subst, inl, inr, arith, append_assoc, Ordering, Less, is_eq, is_lt, is_gt, nat_list_cmp_total, Bytes, KeyWrite, key_cmp, is_same_key, same_key, weight, HasOneOfEach, IsHeld}
+use Rattle.std.proofs.Common.{◌≡◌, ◌≢◌, ◌<◌, ◌⊎◌, ℕ, ◌+◌, ◌-◌, ◌^◌, min, true, false, List, [], ◌∷◌, ◌++◌, None, ap}
+use Rattle.std.proofs.Common.{subst, inl, inr, arith, append_assoc}
+use Rattle.std.proofs.lemmas.Grind.{common_steps}
 use Rattle.std.proofs.lemmas.List.Sums.{sum_by_push}
+use Rattle.std.specs.Cmp.Lexicographic.{nat_list_cmp_total}
+use Rattle.std.specs.Ordering.{is_eq, is_lt, is_gt}
+use Rattle.std.specs.declared.cmp.Ordering.{Ordering}
+use Rattle.std.specs.declared.cmp.Ordering.TheVariants.{Less}
 use Rattle.model.proofs.KeyOrder.{less}
+use Rattle.model.proofs.Lookups.{same_key}
+use Rattle.model.specs.Map.{Bytes, KeyWrite, key_cmp, is_same_key}
 use Rattle.latest_writes.proofs.Sweeping.{IsUpTo}
+use Rattle.latest_writes.specs.Held.{weight, HasOneOfEach, IsHeld}
 
 abbrev pub IsUnder : Bytes → Bytes → Type 0
 IsUnder j k = is_lt (key_cmp j k) ≡ true
@@ -32,5 +41,6 @@ one_more (w ∷ []) p e h lt some = (h.0, h.1, (lt, some, tt))
 one_more (w ∷ v ∷ ws) p e h lt some = (h.0, h.1, one_more (v ∷ ws) p e h.2 lt some)
 
 -- one write more, below the limit
-pub held_more : (old new : List KeyWrite) (w : KeyWrite) (total limit more : ℕ) → IsHeld old total limit → new ≡ old ++ w ∷ [] → more ≡ min (total + weight w) (2 ^ 64 - 1) → more < limit → IsHeld new more limit
+pub held_more : (old new : List KeyWrite) (w : KeyWrite) (total limit more : ℕ) → IsHeld old total limit → new ≡ old ++ w ∷ []
+    → more ≡ min (total + weight w) (2 ^ 64 - 1) → more < limit → IsHeld new more limit
 held_more old new w total limit more held is more_is below = grind (arith, common_steps, sum_by_push, append_assoc)

@@ -3,4 +3,3 @@ pub mod Holding
 pub mod Ordered
 pub mod Stable
 pub mod Sweeping
-pub mod Words

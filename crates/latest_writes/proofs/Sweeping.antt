@@ -1,9 +1,18 @@
 -- Of sorted writes those that another has replaced can be left out, and deletions of keys that are not there.
-use Rattle.latest_writes.proofs.Words.{common_steps, ◌≡◌, ◌⊎◌, ℕ, suc, ◌+◌, Bool, true, false, cond, List, [], ◌∷◌, ◌++◌, get_or, Option, None, refl, sym, ap, subst, ◌∙◌, inl, inr, arith, Ordering, Less, Equal, Greater, is_eq, is_lt, is_gt, ordering_reverse, nat_list_cmp_total, same_key, value_after_write, IsMap-after_write, same_map, Bytes, KeyMap, KeyWrite, IsMap, value_at, key_cmp, is_same_key, after_write, after_writes}
+use Rattle.std.proofs.Common.{◌≡◌, ◌⊎◌, ℕ, suc, ◌+◌, Bool, true, false, cond, List, [], ◌∷◌, ◌++◌, get_or, Option}
+use Rattle.std.proofs.Common.{None, refl, sym, ap, subst, ◌∙◌, inl, inr, arith}
+use Rattle.std.proofs.lemmas.Cmp.{tied_itself, upto}
+use Rattle.std.proofs.lemmas.Grind.{common_steps}
+use Rattle.std.proofs.lemmas.Map.Lookups.{exact_bytes}
+use Rattle.std.specs.Cmp.Lexicographic.{nat_list_cmp_total}
 use Rattle.std.specs.List.Sorted.{IsSortedBy}
-use Rattle.std.proofs.{lemmas.Map.Lookups.exact_bytes, lemmas.Cmp.tied_itself, lemmas.Cmp.upto}
-use Rattle.latest_writes.specs.Rising.{is_before}
+use Rattle.std.specs.Ordering.{is_eq, is_lt, is_gt, ordering_reverse}
+use Rattle.std.specs.declared.cmp.Ordering.{Ordering}
+use Rattle.std.specs.declared.cmp.Ordering.TheVariants.{Less, Equal, Greater}
+use Rattle.model.proofs.Lookups.{same_key, value_after_write, IsMap-after_write, same_map}
+use Rattle.model.specs.Map.{Bytes, KeyMap, KeyWrite, IsMap, value_at, key_cmp, is_same_key, after_write, after_writes}
 use Rattle.latest_writes.proofs.Stable.{after_writes-push}
+use Rattle.latest_writes.specs.Rising.{is_before}
 
 -- q is at most k
 abbrev pub IsUpTo : Bytes → Bytes → Type 0
@@ -63,12 +72,15 @@ left_out_at m p e q fresh (inr none) = ap (λ o. cond (is_same_key q e.0) e.1 o)
     at_key true t = none ∙ sym (fresh q (subst (λ (k : Bytes). IsUpTo p.0 k) (sym (same_key q p.0 t)) (itself p.0)))
     at_key false t = refl
 
-pub left_out : (all rest : List KeyWrite) (m : KeyMap) (p e : KeyWrite) → IsSwept all m p (e ∷ rest) → (is_same_key p.0 e.0 ≡ true) ⊎ (p.1 ≡ None) → IsSwept all m e rest
+pub left_out : (all rest : List KeyWrite) (m : KeyMap) (p e : KeyWrite) → IsSwept all m p (e ∷ rest) → (is_same_key p.0 e.0 ≡ true) ⊎ (p.1 ≡ None)
+    → IsSwept all m e rest
 left_out all rest m p e h why = record {
   is_map = h.is_map;
   makes =
-      ap (λ (n : KeyMap). after_writes n rest) (same_map _ _ (IsMap-after_write m e.0 e.1 h.is_map) (IsMap-after_write (after_write m p.0 p.1) e.0 e.1 (IsMap-after_write m p.0 p.1 h.is_map))
-      (λ q. value_after_write m e.0 e.1 q ∙ sym (left_out_at m p e q h.fresh why) ∙ ap (λ o. cond (is_same_key q e.0) e.1 o) (sym (value_after_write m p.0 p.1 q)) ∙ sym (value_after_write (after_write m p.0 p.1) e.0 e.1 q)))
+      ap (λ (n : KeyMap). after_writes n rest)
+      (same_map _ _ (IsMap-after_write m e.0 e.1 h.is_map) (IsMap-after_write (after_write m p.0 p.1) e.0 e.1 (IsMap-after_write m p.0 p.1 h.is_map))
+      (λ q. value_after_write m e.0 e.1 q ∙ sym (left_out_at m p e q h.fresh why)
+      ∙ ap (λ o. cond (is_same_key q e.0) e.1 o) (sym (value_after_write m p.0 p.1 q)) ∙ sym (value_after_write (after_write m p.0 p.1) e.0 e.1 q)))
       ∙ h.makes;
   fresh = λ q le. h.fresh q (upto nat_list_cmp_total p.0 e.0 q h.rising.0 le);
   rising = h.rising.1;
@@ -89,15 +101,18 @@ above q e p le lt apart = at_key (is_same_key q p) refl
         let down : IsUpTo e p = subst (λ (k : Bytes). IsUpTo e k) (same_key q p t) le in
         absurd (not_both (is_same_key p e) (tied (key_cmp p e) lt (ap is_gt (sym (nat_list_cmp_total.antisymm e p)) ∙ down)) apart)
 
-pub kept_more : (all rest kept new : List KeyWrite) (p e : KeyWrite) → IsSwept all (after_writes [] kept) p (e ∷ rest) → is_same_key p.0 e.0 ≡ false → new ≡ kept ++ p ∷ [] → IsSwept all (after_writes [] new) e rest
+pub kept_more : (all rest kept new : List KeyWrite) (p e : KeyWrite) → IsSwept all (after_writes [] kept) p (e ∷ rest) → is_same_key p.0 e.0 ≡ false
+    → new ≡ kept ++ p ∷ [] → IsSwept all (after_writes [] new) e rest
 kept_more all rest kept new p e h apart is =
     subst (λ (n : KeyMap). IsSwept all n e rest) (sym (ap (λ (l : List KeyWrite). after_writes [] l) is ∙ after_writes-push [] kept p)) record {
       is_map = IsMap-after_write _ p.0 p.1 h.is_map;
       makes = h.makes;
-      fresh = λ q le. value_after_write _ p.0 p.1 q ∙ ap (λ b. cond b p.1 (value_at (after_writes [] kept) q)) (above q e.0 p.0 le h.rising.0 apart) ∙ h.fresh q (upto nat_list_cmp_total p.0 e.0 q h.rising.0 le);
+      fresh = λ q le. value_after_write _ p.0 p.1 q ∙ ap (λ b. cond b p.1 (value_at (after_writes [] kept) q)) (above q e.0 p.0 le h.rising.0 apart)
+          ∙ h.fresh q (upto nat_list_cmp_total p.0 e.0 q h.rising.0 le);
       rising = h.rising.1;
     }
 
 -- at the end the latest write is kept
-pub ended : (all kept new : List KeyWrite) (p : KeyWrite) → IsSwept all (after_writes [] kept) p [] → new ≡ kept ++ p ∷ [] → after_writes [] new ≡ after_writes [] all
+pub ended : (all kept new : List KeyWrite) (p : KeyWrite) → IsSwept all (after_writes [] kept) p [] → new ≡ kept ++ p ∷ []
+    → after_writes [] new ≡ after_writes [] all
 ended all kept new p h is = ap (λ (l : List KeyWrite). after_writes [] l) is ∙ after_writes-push [] kept p ∙ h.makes

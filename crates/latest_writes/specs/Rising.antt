@@ -1,6 +1,6 @@
 -- The order by rising key.
-use Rattle.std.specs.Prelude.{Bool}
 use Rattle.std.specs.Ordering.{is_lt}
+use Rattle.std.specs.Prelude.{Bool}
 use Rattle.model.specs.Map.{KeyWrite, key_cmp}
 
 -- whether a write stands before another by rising key

@@ -30,7 +30,8 @@ impl Model for Entry {
 
     ghost view = { λ e. e.write };
 
-    ghost invariant = { λ e. (e.high ≡ head 8 e.write.0) × (e.low ≡ head 8 (drop 8 e.write.0)) × AreBytes e.write.0 × IfSome e.write.1 IsValue };
+    ghost invariant = { λ e.
+        (e.high ≡ head 8 e.write.0) × (e.low ≡ head 8 (drop 8 e.write.0)) × AreBytes e.write.0 × IfSome e.write.1 IsValue };
 }
 
 impl Entry {
@@ -67,7 +68,8 @@ impl Entry {
         value_len.saturating_add(ENTRY_WEIGHT)
     }
 
-    /// Whether it can be left out before the next entry, where none of its key comes before it: that is a write of its key, or it is a deletion.
+    /// Whether it can be left out before the next entry, where none of its key comes before it: that is a write of its key, or it is a
+    /// deletion.
     pub(crate) fn is_superseded(&self, next: &Entry) -> bool
         ensures superseded { result ≡ true → (is_same_key self.now.0 next.now.0 ≡ true) ⊎ (self.now.1 ≡ None) }
         ensures latest { result ≡ false → is_same_key self.now.0 next.now.0 ≡ false }

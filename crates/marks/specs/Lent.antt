@@ -1,8 +1,9 @@
 -- A lent mark as contracts see it.
 use Rattle.std.specs.Prelude.{option_map}
+use Rattle.model.specs.PrivateCopy.{Mark}
+use Rattle.model.specs.PrivateCopy.Mark.{OfKey, OfRange, OfClosedRange}
 use Rattle.marks.specs.declared.lent.MarkRef.{MarkRef}
 use Rattle.marks.specs.declared.lent.MarkRef.TheVariants.{Key, Range, ClosedRange}
-use Rattle.model.specs.{PrivateCopy.Mark, PrivateCopy.Mark.OfKey, PrivateCopy.Mark.OfRange, PrivateCopy.Mark.OfClosedRange}
 
 abbrev pub lent_mark : MarkRef → Mark
 lent_mark (Key k) = OfKey k.bytes.now

@@ -1,10 +1,13 @@
 -- The marks that are held, and what one more does.
-use Rattle.std.specs.Prelude.{List, [], ◌∷◌, ◌++◌, Bool, length, nat_lt, if◌then◌else◌, not, ◌&&◌, option_map}
 use Rattle.std.specs.List.{list_any}
+use Rattle.std.specs.Prelude.{List, [], ◌∷◌, ◌++◌, Bool, length, nat_lt, if◌then◌else◌, not, ◌&&◌, option_map}
+use Rattle.model.specs.Map.{Bytes}
+use Rattle.model.specs.PrivateCopy.{Mark, is_same_mark}
+use Rattle.model.specs.PrivateCopy.Mark.{OfKey, OfRange, OfClosedRange}
+use Rattle.model.specs.declared.keys.KeyRef.{KeyRef}
+use Rattle.model.specs.declared.ranges.RangeRef.{RangeRef}
 use Rattle.marks.specs.declared.owned.OwnedMark.{OwnedMark}
 use Rattle.marks.specs.declared.owned.OwnedMark.TheVariants.{Key, Range, ClosedRange}
-use Rattle.model.specs.{declared.keys.KeyRef.KeyRef, declared.ranges.RangeRef.RangeRef, Map.Bytes, PrivateCopy.Mark, PrivateCopy.is_same_mark}
-use Rattle.model.specs.PrivateCopy.Mark.{OfKey, OfRange, OfClosedRange}
 
 abbrev pub mark_of : OwnedMark → Mark
 mark_of (Key k) = OfKey k

@@ -1,5 +1,5 @@
 pub mod RunSteps
 pub mod OldRuns
 pub mod Moves
-pub mod Words
+pub mod NextNumbers
 mod SweptRuns

@@ -6,7 +6,8 @@ spread : (each m n : ℕ) → n ≤ m → each * m ≡ each * (m - n) + each * n
 spread each m n le = let is : m ≡ (m - n) + n = omega arith in ap (λ k. each * k) is ∙ mul-add each (m - n) n
 
 -- some moves are left of those that were left, and what is left to move was left before
-pub slower : (each most rest less was left now : ℕ) → rest ≤ most → less ≤ rest → was ≤ left + each * (most - rest) → left ≤ now + each * (rest - less) → was ≤ now + each * (most - less)
+pub slower : (each most rest less was left now : ℕ) → rest ≤ most → less ≤ rest → was ≤ left + each * (most - rest) → left ≤ now + each * (rest - less)
+    → was ≤ now + each * (most - less)
 slower each most rest less was left now le fewer before after =
     let is : most - less - (rest - less) ≡ most - rest = omega arith in
     let moves = spread each (most - less) (rest - less) (omega arith) in

@@ -1,8 +1,14 @@
 -- How far runs are merged.
-use Rattle.merging_runs.proofs.Words.{◌≡◌, ◌+◌, ◌≤◌, ◌<◌, ℕ, zero, suc, Bool, true, false, List, [], ◌∷◌, ◌++◌, length, get_or, take, drop, map, refl, sym, ap, subst, ◌∙◌, arith, ◌||◌, RunSize, left_above, has_alike, joined, IsBegun, lasts_of}
+use Rattle.std.proofs.Common.{◌≡◌, ◌+◌, ◌≤◌, ◌<◌, ℕ, zero, suc, Bool, true, false, List, [], ◌∷◌, ◌++◌, length}
+use Rattle.std.proofs.Common.{get_or, take, drop, map, refl, sym, ap, subst, ◌∙◌, arith}
+use Rattle.std.proofs.Math.ListN.{set}
+use Rattle.std.proofs.Math.Seq.{drop-cons, drop-nil}
+use Rattle.std.proofs.lemmas.Bool.Decides.{nat_tests}
+use Rattle.std.proofs.lemmas.List.{append_assoc, at_drop_all, drop-drop, drop-map, get_or_at, get_or_read, length-map}
+use Rattle.std.proofs.lemmas.List.{length-take-le, map-append, nil_from_length, set_at, take-append-drop, take_more}
 use Rattle.std.specs.List.{remove}
-use Rattle.std.proofs.{Math.ListN.set, Math.Seq.drop-cons, Math.Seq.drop-nil, lemmas.Bool.Decides.nat_tests}
-use Rattle.std.proofs.lemmas.List.{append_assoc, at_drop_all, drop-drop, drop-map, get_or_at, get_or_read, length-map, length-take-le, map-append, nil_from_length, set_at, take-append-drop, take_more}
+use Rattle.std.specs.Prelude.{◌||◌}
+use Rattle.merging_runs.specs.RunSizes.{RunSize, left_above, has_alike, joined, IsBegun, lasts_of}
 
 -- ---- two runs beside one another
 
@@ -17,7 +23,8 @@ pub record IsOneOfTwo {R : Type 0} (rs new : List R) (first second is : R) : Typ
   pub was : rs ≡ earlier ++ (first ∷ second ∷ later)
   pub now : new ≡ earlier ++ (is ∷ later)
 
-pub one_of_two : {R : Type 0} (rs left : List R) (i j : ℕ) (a first second is : R) → i ≡ suc j → i < length rs → a ≡ get_or rs j a → left ≡ remove rs i → second ≡ get_or rs i second → first ≡ get_or left j first
+pub one_of_two : {R : Type 0} (rs left : List R) (i j : ℕ) (a first second is : R) → i ≡ suc j → i < length rs → a ≡ get_or rs j a → left ≡ remove rs i
+    → second ≡ get_or rs i second → first ≡ get_or left j first
     → (first ≡ a) × IsOneOfTwo rs (set left j is) first second is
 one_of_two {R} rs left i j a first second is next lt a_is without second_is first_is =
     let front = take j rs in
@@ -32,13 +39,15 @@ one_of_two {R} rs left i j a first second is next lt a_is without second_is firs
       record {
         earlier = front;
         later = behind;
-        was = sym (take-append-drop i rs) ∙ (λ k. taken k ++ rest k) ∙ append_assoc front (a ∷ []) (second ∷ behind) ∙ ap (λ r. front ++ r ∷ second ∷ behind) (sym same);
+        was = sym (take-append-drop i rs) ∙ (λ k. taken k ++ rest k) ∙ append_assoc front (a ∷ []) (second ∷ behind)
+            ∙ ap (λ r. front ++ r ∷ second ∷ behind) (sym same);
         now = ap (λ (l : List R). set l j is) out ∙ set_at front a behind is j at;
       },
     )
 
 -- they are alike
-pub begun : {R : Type 0} (size : R → RunSize) (alike : RunSize → RunSize → Bool) (rs new : List R) (first second is : R) → IsOneOfTwo rs new first second is → alike (size first) (size second) ≡ true → size is ≡ joined (size first) (size second)
+pub begun : {R : Type 0} (size : R → RunSize) (alike : RunSize → RunSize → Bool) (rs new : List R) (first second is : R) → IsOneOfTwo rs new first second is
+    → alike (size first) (size second) ≡ true → size is ≡ joined (size first) (size second)
     → IsBegun alike (map size rs) (map size new)
 begun size alike rs new first second is at are whole = record {
   earlier = map size at.earlier;
@@ -51,7 +60,8 @@ begun size alike rs new first second is at are whole = record {
 }
 
 -- they aren't alike
-pub unlike_at : {R : Type 0} (size : R → RunSize) (alike : RunSize → RunSize → Bool) (rs : List R) (i j : ℕ) (first second : R) → i ≡ suc j → i < length rs → first ≡ get_or rs j first → second ≡ get_or rs i second
+pub unlike_at : {R : Type 0} (size : R → RunSize) (alike : RunSize → RunSize → Bool) (rs : List R) (i j : ℕ) (first second : R) → i ≡ suc j → i < length rs
+    → first ≡ get_or rs j first → second ≡ get_or rs i second
     → alike (size first) (size second) ≡ false → has_alike alike (take 2 (drop j (map size rs))) ≡ false
 unlike_at {R} size alike rs i j first second next lt first_is second_is unlike =
     let one = drop-cons rs j first (omega arith) in
@@ -61,7 +71,8 @@ unlike_at {R} size alike rs i j first second next lt first_is second_is unlike =
     ∙ (λ k. alike (size (sym first_is k)) (size (sym (rw next at second_is) k)) || (false || false)) ∙ ap (λ b. b || (false || false)) unlike
 
 -- nor are two of those behind them
-pub unlike_from : (alike : RunSize → RunSize → Bool) (rs : List RunSize) (i j : ℕ) → i ≡ suc j → has_alike alike (take 2 (drop j rs)) ≡ false → has_alike alike (drop i rs) ≡ false → has_alike alike (drop j rs) ≡ false
+pub unlike_from : (alike : RunSize → RunSize → Bool) (rs : List RunSize) (i j : ℕ) → i ≡ suc j → has_alike alike (take 2 (drop j rs)) ≡ false
+    → has_alike alike (drop i rs) ≡ false → has_alike alike (drop j rs) ≡ false
 unlike_from alike rs i j next here behind =
     let more : j + 1 ≡ i = omega arith in
     by (drop j rs) here (ap (has_alike alike) (drop-drop 1 j rs ∙ ap (λ n. drop n rs) more) ∙ behind)
@@ -72,7 +83,8 @@ unlike_from alike rs i j next here behind =
     by (q ∷ p ∷ l) h g = grind arith
 
 -- of one run there are no two
-pub none_alike : {R : Type 0} (size : R → RunSize) (alike : RunSize → RunSize → Bool) (rs : List R) (i : ℕ) → length rs ≤ i + 1 → has_alike alike (drop i (map size rs)) ≡ false
+pub none_alike : {R : Type 0} (size : R → RunSize) (alike : RunSize → RunSize → Bool) (rs : List R) (i : ℕ) → length rs ≤ i + 1
+    → has_alike alike (drop i (map size rs)) ≡ false
 none_alike size alike [] i le = ap (has_alike alike) (drop-nil i)
 none_alike size alike (q ∷ rs) zero le = ap (λ l. has_alike alike (size q ∷ map size l)) (nil_from_length rs (omega arith))
 none_alike size alike (q ∷ rs) (suc i) le = none_alike size alike rs i (omega arith)
@@ -80,23 +92,27 @@ none_alike size alike (q ∷ rs) (suc i) le = none_alike size alike rs i (omega 
 -- ---- what is left to move
 
 -- another in the place of a run
-pub left_changed : {R : Type 0} (size : R → RunSize) (o : ℕ) (rs : List R) (i : ℕ) (was is : R) → i < length rs → was ≡ get_or rs i was → o < (size was).last → (size is).last ≡ (size was).last
+pub left_changed : {R : Type 0} (size : R → RunSize) (o : ℕ) (rs : List R) (i : ℕ) (was is : R) → i < length rs → was ≡ get_or rs i was → o < (size was).last
+    → (size is).last ≡ (size was).last
     → left_above o (map size (set rs i is)) + (size was).left ≡ left_above o (map size rs) + (size is).left
 left_changed size o [] i was is lt at above same = absurd (omega arith)
 left_changed size o (q ∷ rs) zero was is lt at above same = grind (arith, nat_tests, ap size at)
 left_changed size o (q ∷ rs) (suc i) was is lt at above same = let rest = left_changed size o rs i was is (omega arith) at above same in omega (arith, rest)
 
 -- a number of the run's size that stays
-pub number_kept : {R : Type 0} (size : R → RunSize) (number : RunSize → ℕ) (rs : List R) (i : ℕ) (was is : R) → i < length rs → was ≡ get_or rs i was → number (size is) ≡ number (size was) → map number (map size (set rs i is)) ≡ map number (map size rs)
+pub number_kept : {R : Type 0} (size : R → RunSize) (number : RunSize → ℕ) (rs : List R) (i : ℕ) (was is : R) → i < length rs → was ≡ get_or rs i was
+    → number (size is) ≡ number (size was) → map number (map size (set rs i is)) ≡ map number (map size rs)
 number_kept size number [] i was is lt at same = refl
 number_kept size number (q ∷ rs) zero was is lt at same = ap (λ n. n ∷ map number (map size rs)) (same ∙ ap (λ r. number (size r)) at)
 number_kept size number (q ∷ rs) (suc i) was is lt at same = ap (λ l. number (size q) ∷ l) (number_kept size number rs i was is (omega arith) at same)
 
-pub lasts_changed : {R : Type 0} (size : R → RunSize) (rs : List R) (i : ℕ) (was is : R) → i < length rs → was ≡ get_or rs i was → (size is).last ≡ (size was).last → lasts_of (map size (set rs i is)) ≡ lasts_of (map size rs)
+pub lasts_changed : {R : Type 0} (size : R → RunSize) (rs : List R) (i : ℕ) (was is : R) → i < length rs → was ≡ get_or rs i was
+    → (size is).last ≡ (size was).last → lasts_of (map size (set rs i is)) ≡ lasts_of (map size rs)
 lasts_changed size rs i was is lt at same = number_kept size (λ r. r.last) rs i was is lt at same
 
 -- nothing is left in a run, nor in those behind it
-pub none_left : {R : Type 0} (size : R → RunSize) (o : ℕ) (rs : List R) (i j : ℕ) (is : R) → j ≡ suc i → (size is).left ≡ 0 → left_above o (drop j (map size rs)) ≡ 0 → left_above o (drop i (map size (set rs i is))) ≡ 0
+pub none_left : {R : Type 0} (size : R → RunSize) (o : ℕ) (rs : List R) (i j : ℕ) (is : R) → j ≡ suc i → (size is).left ≡ 0
+    → left_above o (drop j (map size rs)) ≡ 0 → left_above o (drop i (map size (set rs i is))) ≡ 0
 none_left {R} size o rs i j is next none behind = by rs i (rw next at behind)
   where
     by : (rs : List R) (i : ℕ) → left_above o (drop (suc i) (map size rs)) ≡ 0 → left_above o (drop i (map size (set rs i is))) ≡ 0
@@ -105,7 +121,8 @@ none_left {R} size o rs i j is next none behind = by rs i (rw next at behind)
     by (q ∷ rs) (suc i) h = by rs i h
 
 -- a run without numbers above that one is passed over
-pub passed_left : {R : Type 0} (size : R → RunSize) (o : ℕ) (rs : List R) (i j : ℕ) (r : R) → j ≡ suc i → r ≡ get_or rs i r → (size r).last ≤ o → left_above o (drop j (map size rs)) ≡ 0 → left_above o (drop i (map size rs)) ≡ 0
+pub passed_left : {R : Type 0} (size : R → RunSize) (o : ℕ) (rs : List R) (i j : ℕ) (r : R) → j ≡ suc i → r ≡ get_or rs i r → (size r).last ≤ o
+    → left_above o (drop j (map size rs)) ≡ 0 → left_above o (drop i (map size rs)) ≡ 0
 passed_left {R} size o rs i j r next at old behind = by rs i at (rw next at behind)
   where
     by : (rs : List R) (i : ℕ) → r ≡ get_or rs i r → left_above o (drop (suc i) (map size rs)) ≡ 0 → left_above o (drop i (map size rs)) ≡ 0
@@ -117,14 +134,16 @@ pub past_left : {R : Type 0} (size : R → RunSize) (o : ℕ) (rs : List R) (i :
 past_left size o rs i le = at_drop_all (left_above o) (map size rs) i (omega (arith, length-map rs size))
 
 -- such a run is taken out
-pub left_without : {R : Type 0} (size : R → RunSize) (o : ℕ) (rs : List R) (i : ℕ) (r : R) → i < length rs → r ≡ get_or rs i r → (size r).last ≤ o → left_above o (map size (remove rs i)) ≡ left_above o (map size rs)
+pub left_without : {R : Type 0} (size : R → RunSize) (o : ℕ) (rs : List R) (i : ℕ) (r : R) → i < length rs → r ≡ get_or rs i r → (size r).last ≤ o
+    → left_above o (map size (remove rs i)) ≡ left_above o (map size rs)
 left_without size o [] i r lt at old = absurd (omega arith)
 left_without size o (q ∷ rs) zero r lt at old = grind (arith, nat_tests, ap size at)
 left_without size o (q ∷ rs) (suc i) r lt at old = let rest = left_without size o rs i r (omega arith) at old in omega (arith, rest)
 
 -- ---- what runs answer
 
-module _ {R : Type 0} (agree : List R → List R → Type 0) (between : (front xs ys behind : List R) → agree xs ys → agree (front ++ (xs ++ behind)) (front ++ (ys ++ behind))) where
+module _ {R : Type 0} (agree : List R → List R → Type 0) (between : (front xs ys behind : List R) → agree xs ys
+    → agree (front ++ (xs ++ behind)) (front ++ (ys ++ behind))) where
   -- those at one place of a list, and others in their place
   placed : (front xs ys behind rs new : List R) → rs ≡ front ++ (ys ++ behind) → new ≡ front ++ (xs ++ behind) → agree xs ys → agree new rs
   placed front xs ys behind rs new was now same =

@@ -1,16 +1,16 @@
 -- How much runs hold, and how much work it is to forget what is old.
-use Rattle.std.specs.Prelude.{◌≡◌, ℕ, ◌+◌, ◌*◌, ◌-◌, ◌^◌, ◌&&◌, min, nat_le, nat_lt, List, [], ◌∷◌, if◌then◌else◌}
 use Rattle.std.specs.List.{fold}
+use Rattle.std.specs.Prelude.{◌≡◌, ℕ, ◌+◌, ◌*◌, ◌-◌, ◌^◌, ◌&&◌, min, nat_le, nat_lt, List, [], ◌∷◌, if◌then◌else◌}
 
--- a run: a number that none of its numbers is below, one that none is above, and how much there is to give back of it, which is one more than
--- what stands in it
+-- a run: a number that none of its numbers is below, one that none is above, and how much there is to give back of it,
+-- which is one more than what stands in it
 pub record HeldRun : Type 0 where
   pub from : ℕ
   pub last : ℕ
   pub size : ℕ
 
--- the runs; how much there is still to give back of one that was taken out, of which nothing is asked any more; and how much work earlier
--- steps have left over, none of which was enough for a run
+-- the runs; how much there is still to give back of one that was taken out, of which nothing is asked any more; and how
+-- much work earlier steps have left over, none of which was enough for a run
 pub record Held : Type 0 where
   pub runs : List HeldRun
   pub taken : ℕ
@@ -25,17 +25,19 @@ abbrev pub size_upto : ℕ → List HeldRun → ℕ
 size_upto oldest [] = 0
 size_upto oldest (r ∷ rs) = (if nat_le r.last oldest then r.size else 0) + size_upto oldest rs
 
--- how much work it is to look at all that stands in the runs that may have numbers up to that one, and others above it: 8 for each element, and
--- 2^63 for one run at most
+-- how much work it is to look at all that stands in the runs that may have numbers up to that one, and others above it:
+-- 8 for each element, and 2^63 for one run at most
 abbrev pub mixed_upto : ℕ → List HeldRun → ℕ
 mixed_upto oldest [] = 0
-mixed_upto oldest (r ∷ rs) = (if nat_le r.from oldest && nat_lt oldest r.last then min (8 * r.size) (2 ^ 63) else 0) + mixed_upto oldest rs
+mixed_upto oldest (r ∷ rs) =
+    (if nat_le r.from oldest && nat_lt oldest r.last then min (8 * r.size) (2 ^ 63) else 0) + mixed_upto oldest rs
 
 -- how much is to be given back of whole runs where the numbers up to that one are forgotten
 abbrev pub whole_upto : ℕ → Held → ℕ
 whole_upto oldest h = h.taken + size_upto oldest h.runs
 
--- how much is to be done where the numbers up to that one are forgotten: what is to be given back, and what is to be looked at
+-- how much is to be done where the numbers up to that one are forgotten: what is to be given back, and what is to be
+-- looked at
 abbrev pub due_upto : ℕ → Held → ℕ
 due_upto oldest h = whole_upto oldest h + (mixed_upto oldest h.runs - h.credit)
 

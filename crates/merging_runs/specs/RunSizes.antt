@@ -1,8 +1,9 @@
 -- How runs are merged, some elements at a time.
-use Rattle.std.specs.Prelude.{◌≡◌, ◌≤◌, ◌+◌, ◌*◌, ◌-◌, ◌^◌, ◌++◌, ◌⊎◌, ◌&&◌, ◌||◌, ◌==◌, ℕ, Bool, true, false, nat_lt, nat_le, max, min, map, drop, List, [], ◌∷◌, if◌then◌else◌}
+use Rattle.std.specs.Prelude.{◌≡◌, ◌≤◌, ◌+◌, ◌*◌, ◌-◌, ◌^◌, ◌++◌, ◌⊎◌, ◌&&◌, ◌||◌, ◌==◌, ℕ, Bool, true, false, nat_lt}
+use Rattle.std.specs.Prelude.{nat_le, max, min, map, drop, List, [], ◌∷◌, if◌then◌else◌}
 
--- a run: a number that none of its numbers is above, how many elements are still to be moved of the two runs that it is being made of, and
--- how many were made
+-- a run: a number that none of its numbers is above, how many elements are still to be moved of the two runs that it is
+-- being made of, and how many were made
 pub record RunSize : Type 0 where
   pub last : ℕ
   pub left : ℕ
@@ -18,8 +19,8 @@ pub record LeavesMerges (o : ℕ) (old new : List RunSize) (was is : ℕ) : Type
   pub left : left_above o new ≤ left_above o old
   pub refused : is ≡ was
 
--- nothing is left to move in either run, the first has numbers above that one, and it has at most twice as many elements as the second, and
--- one
+-- nothing is left to move in either run, the first has numbers above that one, and it has at most twice as many
+-- elements as the second, and one
 abbrev pub are_alike : ℕ → RunSize → RunSize → Bool
 are_alike o r s = nat_lt o r.last && (r.left == 0 && (s.left == 0 && nat_le r.made (2 * s.made + 1)))
 
@@ -91,8 +92,8 @@ AtMostMoved each o n old new = left_above o old ≤ left_above o new + each * n
 abbrev pub RestsFrom : ℕ → ℕ → List RunSize → List RunSize → Type 0
 RestsFrom o place old new = left_above o (drop (place + 1) old) ≡ 0 → left_above o (drop place new) ≡ 0
 
--- What is to be moved was moved so many times, unless nothing is left to move; a move takes so many elements at most. Where it takes one
--- alone, each is kept.
+-- What is to be moved was moved so many times, unless nothing is left to move; a move takes so many elements at most.
+-- Where it takes one alone, each is kept.
 pub record IsMoved (each o most : ℕ) (old new : List RunSize) : Type 0 where
   pub lasts : lasts_of new ≡ lasts_of old
   pub wholes : each ≡ 1 → wholes_of new ≡ wholes_of old

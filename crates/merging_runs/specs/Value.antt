@@ -1,8 +1,10 @@
 -- What `Runs` holds as contracts see it.
 use Rattle.std.specs.Prelude.{◌≡◌, ◌≤◌, ◌<◌, ℕ, ◌+◌, ◌^◌, nat_le, if◌then◌else◌, List, map, Option, Some, None}
-use Rattle.merging_runs.specs.{Held.Held, Held.HeldRun, Held.mixed_upto, Held.size_upto, RunSizes.RunSize}
+use Rattle.merging_runs.specs.Held.{Held, HeldRun, mixed_upto, size_upto}
+use Rattle.merging_runs.specs.RunSizes.{RunSize}
 
--- the runs, how many more fit without memory, how far each is merged, how much they hold, and how often memory for a merge was refused
+-- the runs, how many more fit without memory, how far each is merged, how much they hold, and how often memory for a
+-- merge was refused
 pub record RunsValue (R : Type 0) : Type 0 where
   pub runs : List R
   pub places : ℕ
@@ -32,12 +34,14 @@ size_old from sizes held oldest rs = size_upto oldest (map (held_of from sizes h
 abbrev pub size_mixed : {R : Type 0} → (R → ℕ) → (R → RunSize) → (R → ℕ) → ℕ → List R → ℕ
 size_mixed from sizes held oldest rs = mixed_upto oldest (map (held_of from sizes held) rs)
 
--- Of the work of looking at runs, one of them is so much, and was done where that is no more than `most`; or there is none.
+-- Of the work of looking at runs, one of them is so much, and was done where that is no more than `most`; or there is
+-- none.
 abbrev pub LooksAt : Option ℕ → ℕ → ℕ → ℕ → Type 0
 LooksAt None most was is = (was ≡ 0) × (is ≡ 0)
 LooksAt (Some n) most was is = (0 < n) × (n ≤ 2 ^ 63) × (n ≤ was) × (was ≡ is + (if nat_le n most then n else 0))
 
--- So much of it was done as `most` is enough for: what is left of that isn't enough for another run, or there is no other.
+-- So much of it was done as `most` is enough for: what is left of that isn't enough for another run, or there is no
+-- other.
 abbrev pub LooksFor : Option ℕ → ℕ → ℕ → ℕ → Type 0
 LooksFor None most was is = (was ≤ most) × (is ≡ 0)
 LooksFor (Some n) most was is = (n < is) × (was + n ≡ is + most)

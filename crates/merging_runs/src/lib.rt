@@ -8,11 +8,13 @@
 
 mod give_back;
 mod merges;
+mod next;
 mod old;
 mod run;
 mod runs;
 mod sweeps;
 
 pub use give_back::GiveBack;
+pub use next::next_of;
 pub use run::Run;
 pub use runs::Runs;

@@ -1,12 +1,13 @@
 //! Runs of a like size made into one, some elements at a time.
 ghost use Rattle.std.specs.Prelude.{◌≡◌, ◌≤◌, ◌<◌, ◌+◌, ◌-◌, ◌*◌, [], ◌∷◌, true, false, map, take, drop};
 ghost use Rattle.std.specs.Vec.{vec_len};
-ghost use Rattle.merging_runs.specs.RunSizes.{AtMostMoved, EndsIf, IsMoved, IsTried, RestsFrom, has_alike, lasts_of, left_above, wholes_of};
+ghost use Rattle.merging_runs.specs.RunSizes.{AtMostMoved, EndsIf, IsMoved, IsTried, RestsFrom, has_alike, lasts_of};
+ghost use Rattle.merging_runs.specs.RunSizes.{left_above, wholes_of};
 
 use crate::run::Run;
 
-// Begins to make one run of that at the place and the one before it, where they are alike. It takes memory; where that is refused, it counts
-// the refusal, and the runs stay. Are they alike?
+// Begins to make one run of that at the place and the one before it, where they are alike. It takes memory; where that is refused, it
+// counts the refusal, and the runs stay. Are they alike?
 fn open_at<R: Run>(runs: &mut Vec<R>, place: usize, oldest: u64, refused: &mut u64) -> bool
     requires some { 0 < place }
     requires within { place < vec_len runs.old }
@@ -29,8 +30,8 @@ fn open_at<R: Run>(runs: &mut Vec<R>, place: usize, oldest: u64, refused: &mut u
     true
 }
 
-// Begins to make one run of the last two beside one another that are alike. It takes memory; where that is refused, it counts the refusal, and
-// the runs stay.
+// Begins to make one run of the last two beside one another that are alike. It takes memory; where that is refused, it counts the refusal,
+// and the runs stay.
 pub(crate) fn open_last<R: Run>(runs: &mut Vec<R>, oldest: u64, refused: &mut u64)
     ensures agree { R.agree oldest runs.new.items runs.old.items }
     ensures tried { IsTried (R.alike oldest) (map R.sizes runs.old.items) (map R.sizes runs.new.items) refused.old refused.new }

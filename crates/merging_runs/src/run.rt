@@ -1,5 +1,7 @@
 //! What is asked of a run.
-ghost use Rattle.std.specs.Prelude.{◌≡◌, ◌≤◌, ◌<◌, ◌+◌, ◌-◌, ◌^◌, ◌++◌, ℕ, Bool, true, false, List, [], ◌∷◌, min, IfSome, ⊤};
+ghost use Rattle.std.specs.Prelude.{◌≡◌, ◌≤◌, ◌<◌, ◌+◌, ◌-◌, ◌^◌, ◌++◌, ◌||◌, ℕ, Bool, true, false, List, [], ◌∷◌};
+ghost use Rattle.std.specs.Prelude.{min, IfSome, ⊤};
+ghost use Rattle.merging_runs.specs.Next.{IsNext};
 ghost use Rattle.merging_runs.specs.RunSizes.{IsSwept, RunSize, joined};
 
 use crate::give_back::GiveBack;
@@ -24,6 +26,9 @@ pub trait Run: Drop {
 
     /// All that it holds has a number above that one, or none.
     ghost above: { ℕ → Self → Type 0 };
+
+    /// Whether an element of it has that number.
+    ghost has: { Self → ℕ → Bool };
 
     /// For how many elements the two that it is made of have room.
     ghost room: { Self → ℕ };
@@ -54,6 +59,11 @@ pub trait Run: Drop {
     /// How many elements it holds, and one more: 2^64 - 1 where there were more. Takes no memory.
     fn size(&self) -> usize
         ensures { result ≡ min (held self.now + 1) (2 ^ 64 - 1) };
+
+    /// The number above `n` that was found, or the least above `n` that one of its elements has, where that is less. It looks at each
+    /// element, and takes no memory.
+    fn next_number(&self, found: Option<u64>, n: u64) -> Option<u64>
+        ensures { (p : ℕ → Bool) → IsNext p n found → IsNext (λ k. p k || has self.now k) n result };
 
     /// Are this and a later one of a like size? Takes no memory.
     fn is_alike(&self, second: &Self, oldest: u64) -> bool
@@ -110,7 +120,7 @@ pub trait Run: Drop {
     ghost through: { (o : ℕ) (xs ys zs : List Self) → agree o xs ys → agree o ys zs → agree o xs zs };
 
     /// So they do between others.
-    ghost between: { (o : ℕ) (front xs ys behind : List Self) → agree o xs ys → agree o (front ++ (xs ++ behind)) (front ++ (ys ++ behind)) };
+    ghost between: { (o : ℕ) (front xs ys rest : List Self) → agree o xs ys → agree o (front ++ (xs ++ rest)) (front ++ (ys ++ rest)) };
 
     /// A run without a number above that one answers as none.
     ghost old: { (o : ℕ) (r : Self) → (sizes r).last ≤ o → agree o [] (r ∷ []) };

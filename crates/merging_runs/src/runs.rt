@@ -1,11 +1,15 @@
 //! Runs, merged and given back in steps.
-ghost use Rattle.std.specs.Prelude.{◌≡◌, ◌≤◌, ◌<◌, ◌+◌, ◌-◌, ◌++◌, [], ◌∷◌, length, nat_lt, All, OnOk, None, false};
+ghost use Rattle.std.specs.Prelude.{◌≡◌, ◌≤◌, ◌<◌, ◌+◌, ◌-◌, ◌++◌, ◌||◌, ℕ, Bool, [], ◌∷◌, length, nat_lt, All, OnOk};
+ghost use Rattle.std.specs.Prelude.{None, false};
+ghost use Rattle.std.specs.List.{list_any};
 ghost use Rattle.merging_runs.specs.Held.{IsSameBut, IsSameMixed, due_upto, given_a_forget, size_in, whole_upto};
+ghost use Rattle.merging_runs.specs.Next.{IsNext};
 ghost use Rattle.merging_runs.specs.RunSizes.{IsMoved, IsTried, LeavesMerges, left_above, moves_for};
 ghost use Rattle.merging_runs.specs.Value.{size_of};
 
 use crate::give_back::GiveBack;
 use crate::merges::{move_runs, open_last};
+use crate::next::next_in;
 use crate::old::{is_one_old, take_old};
 use crate::run::Run;
 use crate::sweeps::{sweep_all, sweep_for};
@@ -81,6 +85,14 @@ impl<R: Run> Runs<R> {
         self.runs
             .iter()
             .fold(0, |sum: usize, run| sum.saturating_add(run.size()))
+    }
+
+    /// The number above `n` that was found, or the least above `n` that an element of a run has, where that is less. It looks at each
+    /// element, and takes no memory.
+    pub fn next_number(&self, found: Option<u64>, n: u64) -> Option<u64>
+        ensures { (p : ℕ → Bool) → IsNext p n found → IsNext (λ k. p k || list_any (λ r. R.has r k) self.now.runs) n result }
+    {
+        next_in(self.runs.as_slice(), found, n)
     }
 
     /// How often memory for a merge was refused, 2^64 - 1 at most: each time two runs of a like size stayed. Takes no memory.

@@ -1,9 +1,27 @@
 -- What is answered: to a COMMIT a number that is at most the begin number of a later BEGIN, and no conflict where no other has committed since its
 -- own; to a faulty request one of four faults.
-use Rattle.model.proofs.Words.{common_steps, both_ways, cases_lt, ◌≡◌, ℕ, ◌≤◌, Bool, List, [], ◌∷◌, Option, Some, None, arith, ◌<◌, true, false, refl, sym, ap, ◌∙◌, if◌then◌else◌, inl, inr, length-append, nat_lt, find, le-ltb, length, Result, Ok, IfErr, ◌==◌, Refusal, KeyWrite, Bytes, Response, Record, Commit, Number, Refused, State, Running, Input, last, record_to_commit, store, store_unless, commit, step, next, state_after, step_of, AnswersComeBefore, LastMayCommit, ConflictsAreRecent, IsOfForm, FaultsAreOfForm, verdict, is_conflict, conflict_of, HasNoDangerousPivot}
-use Rattle.model.specs.CommandTable.{◌>>=◌, arity, is_key, key_in, end_in, or_limit, alone_in, get_in, set_in, del_in, range_in, command_in}
-use Rattle.model.proofs.{Steps.running_of-with_running, Pivots.kept_above, Pivots.verdict_by_kept, SerialOrders.filter_none, Members.In, Members.at_in, Members.each_in}
+use Rattle.std.proofs.Common.{◌≡◌, ℕ, ◌≤◌, Bool, List, [], ◌∷◌, Option, Some, None, arith, ◌<◌, true, false, refl}
+use Rattle.std.proofs.Common.{sym, ap, ◌∙◌, if◌then◌else◌, inl, inr, length-append, nat_lt, find, le-ltb, length}
+use Rattle.std.proofs.Common.{Result, Ok, IfErr, ◌==◌}
+use Rattle.std.proofs.lemmas.Bool.{both_ways, cases_lt}
+use Rattle.std.proofs.lemmas.Grind.{common_steps}
 use Rattle.model.proofs.Machines.{Sound, IsTrueRunning, commit_low, reached_sound, at_found}
+use Rattle.model.proofs.Members.{In, at_in, each_in}
+use Rattle.model.proofs.Pivots.{kept_above, verdict_by_kept}
+use Rattle.model.proofs.SerialOrders.{filter_none}
+use Rattle.model.proofs.Steps.{running_of-with_running}
+use Rattle.model.specs.CommandTable.{◌>>=◌, arity, is_key, key_in, end_in, or_limit, alone_in, get_in, set_in, del_in}
+use Rattle.model.specs.CommandTable.{range_in, command_in}
+use Rattle.model.specs.History.{Record}
+use Rattle.model.specs.Laws.{AnswersComeBefore, LastMayCommit, ConflictsAreRecent, IsOfForm, FaultsAreOfForm}
+use Rattle.model.specs.Machine.{State, Running, Input, last, record_to_commit, store, store_unless, commit, step}
+use Rattle.model.specs.Machine.{next, state_after, step_of}
+use Rattle.model.specs.Map.{KeyWrite, Bytes}
+use Rattle.model.specs.Operations.{Response}
+use Rattle.model.specs.Operations.Operation.{Commit}
+use Rattle.model.specs.Operations.Response.{Number, Refused}
+use Rattle.model.specs.Verdict.{verdict, is_conflict, conflict_of, HasNoDangerousPivot}
+use Rattle.model.specs.declared.refusals.Refusal.{Refusal}
 
 pub by_case : {A : Type 0} (P : A → Type 0) (b : Bool) (x y : A) → P x → P y → P (if b then x else y)
 by_case P b x y p q = grind (arith, common_steps)
@@ -53,10 +71,13 @@ find_never [] = refl
 find_never (w ∷ ws) = find_never ws
 
 -- no record is left that could speak against it
-unopposed : (history : List Record) (r : Record) → r.begin < r.commit → ((h : Record) → In h history → h.commit ≤ r.begin) → HasNoDangerousPivot history → verdict history r ≡ None
+unopposed : (history : List Record) (r : Record) → r.begin < r.commit → ((h : Record) → In h history → h.commit ≤ r.begin) → HasNoDangerousPivot history
+    → verdict history r ≡ None
 unopposed history r begins over no_pivot =
-    let none : kept_above r.begin history ≡ [] = filter_none (λ h. nat_lt r.begin h.commit) history (each_in _ history (λ h h_in. le-ltb r.begin h.commit (over h h_in))) in
-    verdict_by_kept history r r.begin (omega arith) (λ h h_in. let le = over h h_in in omega arith) no_pivot ∙ rw none (ap (λ o. conflict_of o None) (find_never r.writes))
+    let none : kept_above r.begin history ≡ [] =
+    filter_none (λ h. nat_lt r.begin h.commit) history (each_in _ history (λ h h_in. le-ltb r.begin h.commit (over h h_in))) in
+    verdict_by_kept history r r.begin (omega arith) (λ h h_in. let le = over h h_in in omega arith) no_pivot
+    ∙ rw none (ap (λ o. conflict_of o None) (find_never r.writes))
 
 -- of a transaction that began at the last commit, or after it
 none_since : (st : State) → Sound st → (t : Running) → last st ≤ t.begin → t.begin ≤ last st → verdict st.history (record_to_commit st t) ≡ None
@@ -72,7 +93,8 @@ abbrev IsHarmless : State × Response → Type 0
 IsHarmless answer = (refusal : Refusal) → answer.1 ≡ Refused refusal → is_conflict refusal ≡ true → ⊥
 
 harmless : (st : State) (other : Refusal) → is_conflict other ≡ false → IsHarmless (st, Refused other)
-harmless st other plain refusal e named = let e' : Refused other ≡ Refused refusal = e in let same : other ≡ refusal = cc in both_ways (is_conflict refusal) (ap is_conflict (sym same) ∙ plain) named
+harmless st other plain refusal e named = let e' : Refused other ≡ Refused refusal = e in let same : other ≡ refusal =
+    cc in both_ways (is_conflict refusal) (ap is_conflict (sym same) ∙ plain) named
 
 in_commit : (st : State) (s : ℕ) (t : Running) (failed : Bool) → verdict st.history (record_to_commit st t) ≡ None → IsHarmless (commit st s t failed)
 in_commit st s t failed none = grind (arith, common_steps, by_case, harmless)

@@ -1,7 +1,21 @@
 -- One transaction on private copies of two maps that agree on what it reads: the same replies, marks and writes.
-use Rattle.model.proofs.Words.{common_steps, cases_Bool, both_ways, or_cases, or_left, or_right, and_parts, arith, ◌≡◌, Bool, true, false, ◌||◌, cond, List, [], ◌∷◌, ◌++◌, Option, Some, None, refl, sym, ap, ◌∙◌, length, take, nat_lt, list_any, FullWrites, Operation, Response, Pairs, Refused, Bytes, KeyMap, IsMap, value_at, is_same_key, after_write, after_writes, is_empty_range, pairs_in_range, Get, Set, Del, Range, Mark, mark_of_reply, covers, is_covered, is_same_end, is_same_mark, PrivateCopy, copy_of, is_written, after_read, after_put, respond, copy_after, responses, reads, writes}
+use Rattle.std.proofs.Common.{arith, ◌≡◌, Bool, true, false, ◌||◌, cond, List, [], ◌∷◌, ◌++◌, Option, Some, None}
+use Rattle.std.proofs.Common.{refl, sym, ap, ◌∙◌, length, take, nat_lt}
+use Rattle.std.proofs.lemmas.Bool.{cases_Bool, both_ways, or_cases, or_left, or_right, and_parts}
+use Rattle.std.proofs.lemmas.Grind.{common_steps}
+use Rattle.std.specs.List.{list_any}
+use Rattle.model.proofs.Lookups.{same_taken, same_key, same_key_itself, held_key, any-insert_key, value_after_write}
+use Rattle.model.proofs.Lookups.{IsMap-after_write, IsMap-after_writes, value_after_values, same_map}
+use Rattle.model.specs.Map.{Bytes, KeyMap, IsMap, value_at, is_same_key, after_write, after_writes, is_empty_range}
+use Rattle.model.specs.Map.{pairs_in_range}
+use Rattle.model.specs.Operations.{Operation, Response}
+use Rattle.model.specs.Operations.Operation.{Get, Set, Del, Range}
+use Rattle.model.specs.Operations.Response.{Pairs, Refused}
+use Rattle.model.specs.PrivateCopy.{Mark, mark_of_reply, covers, is_covered, is_same_end, is_same_mark, PrivateCopy}
+use Rattle.model.specs.PrivateCopy.{copy_of, is_written, after_read, after_put, respond, copy_after, responses, reads}
+use Rattle.model.specs.PrivateCopy.{writes}
 use Rattle.model.specs.PrivateCopy.Mark.{OfKey, OfRange, OfClosedRange}
-use Rattle.model.proofs.Lookups.{same_taken, same_key, same_key_itself, held_key, any-insert_key, value_after_write, IsMap-after_write, IsMap-after_writes, value_after_values, same_map}
+use Rattle.model.specs.declared.refusals.Refusal.TheVariants.{FullWrites}
 
 -- ---- marks
 
@@ -96,8 +110,12 @@ module _ (m n : KeyMap) (x : PrivateCopy) (d : KeyMap) (a : Alike m n x d) where
       let page : KeyMap → List (Bytes × Bytes) = λ c. take limit (pairs_in_range c lo hi) in
       both_cond (λ u v. AgreeOn m n (is_covered u.1.marks) → Stepped m n u v) (is_empty_range lo hi) _ _ _ _ (λ _ _. stays (Pairs []))
       (λ _. read_step (mark_of_reply lo hi limit (page x.contents)) (mark_of_reply lo hi limit (page d)) (Pairs (page x.contents)) (Pairs (page d))
-      (λ e. let same = same_taken x.contents d lo hi limit a.is_map_left a.is_map_right (λ k t. same_value k (e k t)) in (ap (mark_of_reply lo hi limit) same, ap (λ es. Pairs es) same))
-      (λ e. let same = same_taken d x.contents lo hi limit a.is_map_right a.is_map_left (λ k t. sym (same_value k (e k t))) in ap (mark_of_reply lo hi limit) (sym same)))
+      (λ e. let same = same_taken x.contents d lo hi limit a.is_map_left a.is_map_right (λ k t. same_value k (e k t)) in (
+        ap (mark_of_reply lo hi limit) same,
+        ap (λ es. Pairs es) same,
+      ))
+      (λ e. let same = same_taken d x.contents lo hi limit a.is_map_right a.is_map_left (λ k t. sym (same_value k (e k t))) in ap (mark_of_reply lo hi limit)
+      (sym same)))
       agree
   stepped (Set k v) agree = put_step k (Some v)
   stepped (Del k) agree = put_step k None
@@ -119,10 +137,16 @@ pub record Replayed (m n : KeyMap) (qs : List Operation) : Type 0 where
   pub replies : responses (copy_of m) qs ≡ responses (copy_of n) qs
   pub contents : (copy_after (copy_of n) qs).contents ≡ after_writes n (writes m qs)
 
-pub replayed : (m n : KeyMap) (qs : List Operation) → IsMap m → IsMap n → ((k : Bytes) → is_covered (reads m qs) k ≡ true → value_at m k ≡ value_at n k) → Replayed m n qs
+pub replayed : (m n : KeyMap) (qs : List Operation) → IsMap m → IsMap n → ((k : Bytes) → is_covered (reads m qs) k ≡ true → value_at m k ≡ value_at n k)
+    → Replayed m n qs
 replayed m n qs m_is n_is agree =
-    let r = run m n (copy_of m) n (record { is_map_left = m_is; is_map_right = n_is; written = λ q h. cc; kept_left = λ q h. refl; kept_right = λ q h. refl }) qs agree in
+    let r = run m n (copy_of m) n (record { is_map_left = m_is; is_map_right = n_is; written = λ q h. cc; kept_left = λ q h. refl; kept_right = λ q h. refl })
+    qs agree in
     let x : PrivateCopy = copy_after (copy_of m) qs in
     let value : (q : Bytes) → value_at r.right q ≡ value_at (after_writes n (writes m qs)) q =
     λ q. grind (arith, common_steps, value_after_values x.written n x.contents q, r.alike.written q, r.alike.kept_right q) in
-    record { replies = sym (ap (λ (b : List Response × PrivateCopy). b.0) r.is); contents = ap (λ (b : List Response × PrivateCopy). b.1.contents) r.is ∙ same_map r.right (after_writes n (writes m qs)) r.alike.is_map_right (IsMap-after_writes n (writes m qs) n_is) value }
+    record {
+      replies = sym (ap (λ (b : List Response × PrivateCopy). b.0) r.is);
+      contents = ap (λ (b : List Response × PrivateCopy). b.1.contents) r.is
+          ∙ same_map r.right (after_writes n (writes m qs)) r.alike.is_map_right (IsMap-after_writes n (writes m qs) n_is) value;
+    }

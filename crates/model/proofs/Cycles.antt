@@ -1,8 +1,17 @@
 -- Each cycle of dependencies has a pivot, and a dangerous one, if no two concurrent transactions write one key.
-use Rattle.model.proofs.Words.{common_steps, nat_tests, and_parts, and_from, cases_lt, ◌≡◌, ◌≢◌, ◌<◌, ◌≤◌, List, [], ◌∷◌, ◌++◌, refl, ap, length, length-append, arith, inl, inr, IsTrue, All, Contains, take, le-leb, lt-ltb, AllByRecursion, list_any, All-contains, All-contains_itself, recursion_from_All, All-from_recursion, Record, is_concurrent, write_alike, dependency, concurrent_read_write, makes_pivot, makes_dangerous_pivot, is_dangerous_pivot, NoConcurrentWriters}
-use Rattle.model.specs.Cycle.{IsPath, IsCycle, CycleLaw, DangerousPivotLaw, DangerousCycleLaw}
+use Rattle.std.proofs.Common.{◌≡◌, ◌≢◌, ◌<◌, ◌≤◌, List, [], ◌∷◌, ◌++◌, refl, ap, length, length-append, arith, inl}
+use Rattle.std.proofs.Common.{inr, IsTrue, All, Contains, take, le-leb, lt-ltb}
+use Rattle.std.proofs.lemmas.Bool.{and_parts, and_from, cases_lt}
+use Rattle.std.proofs.lemmas.Bool.Decides.{nat_tests}
+use Rattle.std.proofs.lemmas.Grind.{common_steps}
+use Rattle.std.proofs.lemmas.List.Elements.{All-contains, All-contains_itself, recursion_from_All, All-from_recursion}
+use Rattle.std.specs.List.{AllByRecursion, list_any}
 use Rattle.model.proofs.Elements.{all-append, all-back, all-each, all-front}
 use Rattle.model.proofs.Members.{In, in_from_Contains, any_from_in, any_witness}
+use Rattle.model.specs.Cycle.{IsPath, IsCycle, CycleLaw, DangerousPivotLaw, DangerousCycleLaw}
+use Rattle.model.specs.Dependency.{is_concurrent, write_alike, dependency, concurrent_read_write, makes_pivot}
+use Rattle.model.specs.Dependency.{makes_dangerous_pivot, is_dangerous_pivot, NoConcurrentWriters}
+use Rattle.model.specs.History.{Record}
 
 -- ---- the dependencies next to the one that commits first
 
@@ -46,7 +55,8 @@ module _ (Q : Record → Type 0) where
     stand : row ≡ front ++ (at.before ∷ at.pivot ∷ at.after ∷ back)
     first : AllByRecursion (λ r. at.after.commit ≤ r.commit) ts
 
-  first_here : (x p t : Record) (ts : List Record) → IsLinked (x ∷ p ∷ t ∷ ts) → AllByRecursion Q (x ∷ p ∷ t ∷ ts) → AllByRecursion (λ r. t.commit ≤ r.commit) ts → First (x ∷ p ∷ t ∷ ts) (t ∷ ts)
+  first_here : (x p t : Record) (ts : List Record) → IsLinked (x ∷ p ∷ t ∷ ts) → AllByRecursion Q (x ∷ p ∷ t ∷ ts)
+      → AllByRecursion (λ r. t.commit ≤ r.commit) ts → First (x ∷ p ∷ t ∷ ts) (t ∷ ts)
   first_here x p t ts links are least = record {
     at = record { before = x; pivot = p; after = t; into = links.0; out = links.1.0; before_is = are.0; pivot_is = are.1.0; after_is = are.1.1.0 };
     front = [];
@@ -62,7 +72,8 @@ module _ (Q : Record → Type 0) where
       let f = first_of_row p t (u ∷ us) links.1 are.1 (omega arith) in
       elim (cases_lt f.at.after.commit t.commit) [
         | inl less ↦ record { at = f.at; front = x ∷ f.front; back = f.back; stand = ap (λ rs. x ∷ rs) f.stand; first = (omega arith, f.first) }
-        | inr ge ↦ first_here x p t (u ∷ us) links are (all-each (λ r. f.at.after.commit ≤ r.commit) (λ r. t.commit ≤ r.commit) (u ∷ us) (λ r h. omega arith) f.first)
+        | inr ge ↦ first_here x p t (u
+            ∷ us) links are (all-each (λ r. f.at.after.commit ≤ r.commit) (λ r. t.commit ≤ r.commit) (u ∷ us) (λ r h. omega arith) f.first)
       ]
 
 -- the cycle's records in the row that goes round once and on to the second
@@ -73,13 +84,23 @@ turned (a ∷ b ∷ rs) cyclic =
     let cycle : List Record = a ∷ b ∷ rs in
     let inside : AllByRecursion (Contains cycle) cycle = recursion_from_All (Contains cycle) cycle (All-contains_itself cycle) in
     let are = all-append (Contains cycle) cycle (a ∷ b ∷ []) inside (inside.0, (inside.1.0, tt)) in
-    let f = first_of_row (Contains cycle) a b (rs ++ a ∷ b ∷ []) (cyclic.0, path_links b rs a b cyclic.1 cyclic.0) are (omega (arith, length-append rs (a ∷ b ∷ []))) in
+    let f = first_of_row (Contains cycle) a b (rs ++ a ∷ b ∷ []) (
+      cyclic.0,
+      path_links b rs a b cyclic.1 cyclic.0,
+    ) are (omega (arith, length-append rs (a ∷ b ∷ []))) in
     let ends = all-back (λ r. f.at.after.commit ≤ r.commit) rs (a ∷ b ∷ []) f.first in
-    record { at = f.at; front = f.front; back = f.back; stand = f.stand; first = (ends.0, (ends.1.0, all-front (λ r. f.at.after.commit ≤ r.commit) rs (a ∷ b ∷ []) f.first)) }
+    record {
+      at = f.at;
+      front = f.front;
+      back = f.back;
+      stand = f.stand;
+      first = (ends.0, (ends.1.0, all-front (λ r. f.at.after.commit ≤ r.commit) rs (a ∷ b ∷ []) f.first));
+    }
 
 -- ---- the law
 
-module _ (history cycle : List Record) (begins : All (λ r. r.begin < r.commit) history) (apart : NoConcurrentWriters history) (are : All (Contains history) cycle)
+module _ (history cycle : List Record) (begins : All (λ r. r.begin < r.commit) history) (apart : NoConcurrentWriters history)
+    (are : All (Contains history) cycle)
     (m : Middle (Contains cycle)) (first : All (λ r. m.after.commit ≤ r.commit) cycle) where
   in_history : (r : Record) → Contains cycle r → Contains history r
   in_history r r_in = All-contains (Contains history) cycle r are r_in
@@ -93,9 +114,11 @@ module _ (history cycle : List Record) (begins : All (λ r. r.begin < r.commit) 
   makes : IsTrue (makes_pivot m.before m.pivot m.after)
   makes =
       let y_before_x : m.after.commit ≤ m.before.commit = ends_behind m.before m.before_is in
-      let out : IsTrue (concurrent_read_write m.pivot m.after) = dependency_out m.pivot m.after (begins_before m.after m.after_is) (ends_behind m.pivot m.pivot_is) m.out in
+      let out : IsTrue (concurrent_read_write m.pivot m.after) =
+      dependency_out m.pivot m.after (begins_before m.after m.after_is) (ends_behind m.pivot m.pivot_is) m.out in
       let since : m.pivot.begin < m.after.commit = grind (arith, nat_tests) in
-      and_from _ _ (dependency_in m.before m.pivot (begins_before m.before m.before_is) (omega arith) (apart m.before m.pivot (in_history m.before m.before_is) (in_history m.pivot m.pivot_is)) m.into) out
+      and_from _ _ (dependency_in m.before m.pivot (begins_before m.before m.before_is) (omega arith)
+      (apart m.before m.pivot (in_history m.before m.before_is) (in_history m.pivot m.pivot_is)) m.into) out
 
   dangerous : IsTrue (is_dangerous_pivot history m.pivot)
   dangerous =
@@ -109,7 +132,14 @@ pub cycle_law : CycleLaw
 cycle_law history cycle rise begins apart are cyclic =
     let f = turned cycle cyclic in
     let first = All-from_recursion (λ r. f.at.after.commit ≤ r.commit) cycle f.first in
-    record { before = f.at.before; pivot = f.at.pivot; after = f.at.after; in_row = (f.front, f.back, f.stand); makes = makes history cycle begins apart are f.at first; first = first }
+    record {
+      before = f.at.before;
+      pivot = f.at.pivot;
+      after = f.at.after;
+      in_row = (f.front, f.back, f.stand);
+      makes = makes history cycle begins apart are f.at first;
+      first = first;
+    }
 
 pub dangerous_cycle_law : DangerousCycleLaw
 dangerous_cycle_law history cycle rise begins apart are cyclic =

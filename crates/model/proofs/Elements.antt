@@ -1,5 +1,11 @@
 -- A fact of each element of a list.
-use Rattle.model.proofs.Words.{filter, ◌≡◌, Bool, true, ◌||◌, ℕ, zero, suc, ◌+◌, ◌<◌, List, [], ◌∷◌, ◌++◌, length, map, take, drop, get_or, set, refl, sym, ap, subst, ◌∙◌, arith, remove, drop-cons, AllByRecursion, list_all, list_any, and_parts, set-get_or, All-append, All-drop, All-filter, All-from_recursion, All-get_or, All-map, All-set, All-take, All-weaker, recursion_from_All}
+use Rattle.std.proofs.Common.{filter, ◌≡◌, Bool, true, ◌||◌, ℕ, zero, suc, ◌+◌, ◌<◌, List, [], ◌∷◌, ◌++◌, length, map}
+use Rattle.std.proofs.Common.{take, drop, get_or, set, refl, sym, ap, subst, ◌∙◌, arith, remove, drop-cons}
+use Rattle.std.proofs.lemmas.Bool.{and_parts}
+use Rattle.std.proofs.lemmas.List.{set-get_or}
+use Rattle.std.proofs.lemmas.List.Elements.{All-append, All-drop, All-filter, All-from_recursion, All-get_or, All-map}
+use Rattle.std.proofs.lemmas.List.Elements.{All-set, All-take, All-weaker, recursion_from_All}
+use Rattle.std.specs.List.{AllByRecursion, list_all, list_any}
 
 module _ {X : Type 0} (P : X → Type 0) where
   pub all-each : (Q : X → Type 0) (xs : List X) → ((x : X) → P x → Q x) → AllByRecursion P xs → AllByRecursion Q xs

@@ -1,9 +1,18 @@
 -- What a binary search by key finds among entries that stand by strictly rising key.
-use Rattle.model.proofs.Words.{common_steps, exact_bytes, tied_itself, ◌≡◌, ℕ, zero, suc, ◌-◌, ◌<◌, ◌≤◌, true, false, T, not, List, [], ◌∷◌, length, take, drop, get_or, Result, Ok, Err, IfOk, IfErr, refl, ap, subst, arith, Less, Greater, is_lt, nat_cmp, ordering_reverse, slice_cmp, nat_list_cmp_total, where_key, is_sorted, below_all, Bytes, key_cmp}
+use Rattle.std.proofs.Common.{◌≡◌, ℕ, zero, suc, ◌-◌, ◌<◌, ◌≤◌, true, false, T, not, List, [], ◌∷◌, length, take}
+use Rattle.std.proofs.Common.{drop, get_or, Result, Ok, Err, IfOk, IfErr, refl, ap, subst, arith, Less, Greater}
+use Rattle.std.proofs.Common.{is_lt, nat_cmp}
+use Rattle.std.proofs.lemmas.Cmp.{tied_itself}
+use Rattle.std.proofs.lemmas.Grind.{common_steps}
+use Rattle.std.proofs.lemmas.Map.Lookups.{exact_bytes}
+use Rattle.std.specs.Cmp.Lexicographic.{slice_cmp, nat_list_cmp_total}
+use Rattle.std.specs.FinMap.Entries.{where_key, is_sorted, below_all}
 use Rattle.std.specs.List.Sorted.{IsSearchInRange, IsBinarySearchResult}
-use Rattle.model.specs.Entries.{IsAt, IsGap, IsSplit}
-pub use Rattle.model.proofs.InOrder.{parts}
+use Rattle.std.specs.Ordering.{ordering_reverse}
 use Rattle.model.proofs.InOrder.{below_at, rise}
+pub use Rattle.model.proofs.InOrder.{parts}
+use Rattle.model.specs.Entries.{IsAt, IsGap, IsSplit}
+use Rattle.model.specs.Map.{Bytes, key_cmp}
 
 pub turned : (j k : Bytes) → key_cmp k j ≡ ordering_reverse (key_cmp j k)
 turned j k = nat_list_cmp_total.antisymm k j
@@ -27,7 +36,12 @@ module _ {X : Type 0} where
       record { in_range = lt; found = λ d. grind (arith, common_steps); key = key; written = λ c. grind (arith, common_steps) }
   at_key (e ∷ es) k (suc i) h lt key =
       let is = key e in let rest = at_key es k i (parts (below_all (slice_cmp nat_cmp) e.0 es) _ h).1 (omega arith) key in
-      record { in_range = lt; found = λ d. grind (arith, common_steps, turned, below_at, rest.found d); key = key; written = λ c. grind (arith, common_steps, turned, below_at, rest.written c) }
+      record {
+        in_range = lt;
+        found = λ d. grind (arith, common_steps, turned, below_at, rest.found d);
+        key = key;
+        written = λ c. grind (arith, common_steps, turned, below_at, rest.written c);
+      }
 
   -- ---- the key isn't there
 
@@ -51,7 +65,8 @@ module _ {X : Type 0} where
   -- ---- what the binary search asks and answers
 
   -- a binary search by key ends at the key's chain or at the gap for it
-  pub searched : (es : List (Bytes × X)) (k : Bytes) → IsSorted es → (r : Result ℕ ℕ) → IsSearchInRange r (length es) → IsBinarySearchResult (λ e. key_cmp e.0 k) es r
+  pub searched : (es : List (Bytes × X)) (k : Bytes) → IsSorted es → (r : Result ℕ ℕ) → IsSearchInRange r (length es)
+      → IsBinarySearchResult (λ e. key_cmp e.0 k) es r
       → record { found : IfOk r (IsAt es k); absent : IfErr r (IsGap es k) }
   searched es k h (Ok i) within equal =
       let key : (d : Bytes × X) → key_at es i d ≡ k = λ d. exact_bytes (key_at es i d) k (equal d) in
@@ -61,7 +76,8 @@ module _ {X : Type 0} where
       record { found = tt; absent = gap es k i within (λ j d lt. p.0 j d (omega arith) lt) (λ j d le lt. p.1 j d le lt) }
 
   -- a key above the last one has its gap behind it
-  pub gap_behind : (es : List (Bytes × X)) (k : Bytes) (n : ℕ) (last : Bytes × X) → IsSorted es → ((d : Bytes × X) → last ≡ get_or es (length es - 1) d) → is_lt (key_cmp last.0 k) ≡ true → n ≡ length es → IsGap es k n
+  pub gap_behind : (es : List (Bytes × X)) (k : Bytes) (n : ℕ) (last : Bytes × X) → IsSorted es → ((d : Bytes × X) → last ≡ get_or es (length es - 1) d)
+      → is_lt (key_cmp last.0 k) ≡ true → n ≡ length es → IsGap es k n
   gap_behind es k n last h at lt end = gap es k n (omega arith) before (λ j d le below. absurd (omega arith))
     where
       before : LessBefore es k n
@@ -71,8 +87,12 @@ module _ {X : Type 0} where
 
   -- ---- a list in two parts by a key
 
-  split_by : (es : List (Bytes × X)) (k : Bytes) (i : ℕ) → i ≤ length es → LessBefore es k i → ((j : ℕ) (d : Bytes × X) → i ≤ j → j < length es → is_lt (key_cmp (key_at es j d) k) ≡ false)
-      → record { before : take i es ≡ where_key (slice_cmp nat_cmp) (λ q. is_lt (key_cmp q k)) es; from : drop i es ≡ where_key (slice_cmp nat_cmp) (λ q. not (is_lt (key_cmp q k))) es }
+  split_by : (es : List (Bytes × X)) (k : Bytes) (i : ℕ) → i ≤ length es → LessBefore es k i
+      → ((j : ℕ) (d : Bytes × X) → i ≤ j → j < length es → is_lt (key_cmp (key_at es j d) k) ≡ false)
+      → record {
+        before : take i es ≡ where_key (slice_cmp nat_cmp) (λ q. is_lt (key_cmp q k)) es;
+        from : drop i es ≡ where_key (slice_cmp nat_cmp) (λ q. not (is_lt (key_cmp q k))) es;
+      }
   split_by (e ∷ es) k zero le less more =
       let rest = split_by es k 0 (omega arith) (λ j d lt. absurd (omega arith)) (λ j d le' lt. more (suc j) d (omega arith) (omega arith)) in
       let not_less : is_lt (key_cmp e.0 k) ≡ false = more 0 e (omega arith) (omega arith) in
@@ -84,7 +104,8 @@ module _ {X : Type 0} where
   split_by es k i le less more = grind (arith, common_steps)
 
   -- where the binary search ends, the list splits
-  pub split_at : (es : List (Bytes × X)) (k : Bytes) → IsSorted es → (r : Result ℕ ℕ) → IsSearchInRange r (length es) → IsBinarySearchResult (λ e. key_cmp e.0 k) es r
+  pub split_at : (es : List (Bytes × X)) (k : Bytes) → IsSorted es → (r : Result ℕ ℕ) → IsSearchInRange r (length es)
+      → IsBinarySearchResult (λ e. key_cmp e.0 k) es r
       → record { found : IfOk r (IsSplit es k); absent : IfErr r (IsSplit es k) }
   split_at es k h (Ok i) within equal =
       let key : (d : Bytes × X) → key_at es i d ≡ k = λ d. exact_bytes (key_at es i d) k (equal d) in

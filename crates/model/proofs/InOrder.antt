@@ -1,6 +1,12 @@
 -- Entries by strictly rising key, whatever the keys and their order: parts of such a list, and what it has at a key.
-use Rattle.model.proofs.Words.{common_steps, ◌≡◌, ℕ, suc, ◌<◌, ◌≤◌, Bool, T, cond, ◌&&◌, List, [], ◌∷◌, ◌++◌, length, take, drop, get_or, None, Some, refl, sym, ap, subst, ◌∙◌, arith, Ordering, Less, Equal, is_eq, is_lt, take-append-drop, ordering_index, below_all, is_sorted}
-use Rattle.std.specs.{Cmp.IsTotalOrder, List.Sorted.IsNonDecreasingBy, FinMap.Entries.find}
+use Rattle.std.proofs.Common.{◌≡◌, ℕ, suc, ◌<◌, ◌≤◌, Bool, T, cond, ◌&&◌, List, [], ◌∷◌, ◌++◌, length, take, drop}
+use Rattle.std.proofs.Common.{get_or, None, Some, refl, sym, ap, subst, ◌∙◌, arith, Ordering, Less, Equal, is_eq}
+use Rattle.std.proofs.Common.{is_lt, take-append-drop}
+use Rattle.std.proofs.lemmas.Grind.{common_steps}
+use Rattle.std.specs.Cmp.{IsTotalOrder}
+use Rattle.std.specs.FinMap.Entries.{below_all, is_sorted, find}
+use Rattle.std.specs.List.Sorted.{IsNonDecreasingBy}
+use Rattle.std.specs.Ordering.{ordering_index}
 
 pub parts : (a b : Bool) → T (a && b) → T a × T b
 parts a b h = grind (arith, common_steps)

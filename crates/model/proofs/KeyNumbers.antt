@@ -1,6 +1,10 @@
 -- The first bytes of two keys as numbers, the highest first: where these differ, the keys stand as they do, and else as the bytes after them.
-use Rattle.model.proofs.Words.{◌≡◌, ℕ, zero, suc, ◌+◌, ◌*◌, ◌^◌, ◌<◌, ◌≤◌, ◌≢◌, List, ◌∷◌, length, drop, slice_index, refl, ap, arith, add-mul, mul-le-mul_right, nat_cmp, nat_tests, key_cmp}
-use Rattle.byteorder.specs.{Endian.big_number, Numbers.big_from-cons, Numbers.big_from-lt}
+use Rattle.std.proofs.Common.{◌≡◌, ℕ, zero, suc, ◌+◌, ◌*◌, ◌^◌, ◌<◌, ◌≤◌, ◌≢◌, List, ◌∷◌, length, drop, slice_index}
+use Rattle.std.proofs.Common.{refl, ap, arith, add-mul, mul-le-mul_right, nat_cmp}
+use Rattle.std.proofs.lemmas.Bool.Decides.{nat_tests}
+use Rattle.byteorder.specs.Endian.{big_number}
+use Rattle.byteorder.specs.Numbers.{big_from-cons, big_from-lt}
+use Rattle.model.specs.Map.{key_cmp}
 
 abbrev pub AreBytes : List ℕ → Type 0
 AreBytes xs = (k : ℕ) → slice_index xs k < 256

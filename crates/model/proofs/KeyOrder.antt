@@ -1,6 +1,12 @@
 -- The order of keys by its tests.
-use Rattle.model.proofs.Words.{common_steps, tied_itself, exact_bytes, arith, ◌≡◌, true, false, not, ap, ◌∙◌, Ordering, Less, Equal, Greater, is_lt, is_le, ordering_reverse, nat_list_cmp_total, Bytes, key_cmp}
+use Rattle.std.proofs.Common.{arith, ◌≡◌, true, false, not, ap, ◌∙◌, Ordering, Less, Equal, Greater, is_lt, is_le}
+use Rattle.std.proofs.lemmas.Cmp.{tied_itself}
+use Rattle.std.proofs.lemmas.Grind.{common_steps}
+use Rattle.std.proofs.lemmas.Map.Lookups.{exact_bytes}
+use Rattle.std.specs.Cmp.Lexicographic.{nat_list_cmp_total}
+use Rattle.std.specs.Ordering.{ordering_reverse}
 use Rattle.model.proofs.Entries.{turned}
+use Rattle.model.specs.Map.{Bytes, key_cmp}
 
 pub less : (o : Ordering) → is_lt o ≡ true → o ≡ Less
 less o h = grind (arith, common_steps)

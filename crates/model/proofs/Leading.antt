@@ -3,7 +3,8 @@ use Rattle.std.proofs.Common.{◌≡◌, sym, subst, ap}
 use Rattle.model.specs.Leading.{LeadsBy}
 
 module _ {V S : Type 0} (StandsFor : V → S → Type 0) where
-  pub weaken : (a b : V) (P Q : S → S → Type 0) → LeadsBy StandsFor a b P → ((m n : S) → StandsFor a m → StandsFor b n → P m n → Q m n) → LeadsBy StandsFor a b Q
+  pub weaken : (a b : V) (P Q : S → S → Type 0) → LeadsBy StandsFor a b P → ((m n : S) → StandsFor a m → StandsFor b n → P m n → Q m n)
+      → LeadsBy StandsFor a b Q
   weaken a b P Q p f = λ m h. let n = p m h in (n.0, n.1, f m n.0 h n.1 n.2)
 
   -- one after the other

@@ -1,9 +1,26 @@
 -- What a map has at a key after writes, when two maps are one, a map without a pair, and the first pairs of a range.
-use Rattle.model.proofs.Words.{common_steps, exact_bytes, tied_itself, eq_by_cmp_equiv, nat_tests, take-append-le, arith, ◌≡◌, Bool, true, false, not, cond, ◌||◌, List, [], ◌∷◌, Option, Some, None, unwrap_or, refl, sym, ap, is_eq, nat_cmp, ℕ, suc, ◌<◌, T, get_or, ◌∙◌, length, remove, zero, ◌≤◌, ◌&&◌, ◌++◌, subst, take, Less, is_le, is_lt, slice_cmp, nat_list_cmp_total, list_any, find-put, find-where_key, is_sorted-put, is_sorted-where_key, same_entries, put, where_key, below_all, cases_Bool, or_cases, or_parts, and_parts, and_from, Bytes, KeyMap, KeyWrite, IsMap, value_at, is_same_key, after_write, after_writes, is_in_range, pairs_in_range, IsInBounds, key_cmp, values_at, covers, last_key, page_end, mark_up_to, mark_of_reply}
+use Rattle.std.proofs.Common.{arith, ◌≡◌, Bool, true, false, not, cond, ◌||◌, List, [], ◌∷◌, Option, Some, None}
+use Rattle.std.proofs.Common.{unwrap_or, refl, sym, ap, is_eq, nat_cmp, ℕ, suc, ◌<◌, T, get_or, ◌∙◌, length, remove}
+use Rattle.std.proofs.Common.{zero, ◌≤◌, ◌&&◌, ◌++◌, subst, take, Less, is_le, is_lt}
+use Rattle.std.proofs.lemmas.Bool.{cases_Bool, or_cases, or_parts, and_parts, and_from}
+use Rattle.std.proofs.lemmas.Bool.Decides.{nat_tests}
+use Rattle.std.proofs.lemmas.Cmp.{tied_itself, eq_by_cmp_equiv}
+use Rattle.std.proofs.lemmas.Grind.{common_steps}
+use Rattle.std.proofs.lemmas.List.{take-append-le}
+use Rattle.std.proofs.lemmas.Map.Lookups.{exact_bytes}
 use Rattle.std.specs.BTreeSet.{insert_key}
-use Rattle.model.specs.{Key.IsKey, Key.IsValue, Entries.IsAt}
-use Rattle.model.proofs.{Entries.turned, InOrder.parts, InOrder.less, InOrder.below_at}
+use Rattle.std.specs.Cmp.Lexicographic.{slice_cmp, nat_list_cmp_total}
+use Rattle.std.specs.FinMap.Entries.{find-put, find-where_key, is_sorted-put, is_sorted-where_key, same_entries, put}
+use Rattle.std.specs.FinMap.Entries.{where_key, below_all}
+use Rattle.std.specs.List.{list_any}
+use Rattle.model.proofs.Entries.{turned}
+use Rattle.model.proofs.InOrder.{parts, less, below_at}
 use Rattle.model.proofs.KeyOrder.{less as less_by_test, itself, same_keys, lt_le_trans}
+use Rattle.model.specs.Entries.{IsAt}
+use Rattle.model.specs.Key.{IsKey, IsValue}
+use Rattle.model.specs.Map.{Bytes, KeyMap, KeyWrite, IsMap, value_at, is_same_key, after_write, after_writes}
+use Rattle.model.specs.Map.{is_in_range, pairs_in_range, IsInBounds, key_cmp}
+use Rattle.model.specs.PrivateCopy.{values_at, covers, last_key, page_end, mark_up_to, mark_of_reply}
 
 -- what is there is one
 pub some_same : {X : Type 0} {x y : X} → Some x ≡ Some y → x ≡ y
@@ -21,15 +38,18 @@ pub same_key_comm : (j k : Bytes) → is_same_key j k ≡ is_same_key k j
 same_key_comm j k = (eq_by_cmp_equiv nat_list_cmp_total).symm j k
 
 -- a test at some key of the list that ties with k
-pub any_at_key : (f : Bytes → Bool) (k : Bytes) (ws : List KeyWrite) → list_any (λ w. is_same_key k w.0) ws ≡ true → f k ≡ true → list_any (λ w. f w.0) ws ≡ true
+pub any_at_key : (f : Bytes → Bool) (k : Bytes) (ws : List KeyWrite) → list_any (λ w. is_same_key k w.0) ws ≡ true → f k ≡ true
+    → list_any (λ w. f w.0) ws ≡ true
 any_at_key f k [] h t = h
 any_at_key f k (w ∷ ws) h t = grind (arith, common_steps, or_cases, same_key k w.0, any_at_key f k ws)
 
 -- a key of the list joins it once more
-pub held_key : (q k : Bytes) (ks : List Bytes) → list_any (is_same_key k) ks ≡ true → list_any (is_same_key q) ks ≡ (is_same_key q k || list_any (is_same_key q) ks)
+pub held_key : (q k : Bytes) (ks : List Bytes) → list_any (is_same_key k) ks ≡ true
+    → list_any (is_same_key q) ks ≡ (is_same_key q k || list_any (is_same_key q) ks)
 held_key q k ks h = grind (arith, common_steps, cases_Bool, same_key q k)
 
-pub any-insert_key : (q k : Bytes) (ks : List Bytes) → list_any (is_same_key q) (insert_key (slice_cmp nat_cmp) ks k) ≡ (is_same_key q k || list_any (is_same_key q) ks)
+pub any-insert_key : (q k : Bytes) (ks : List Bytes)
+    → list_any (is_same_key q) (insert_key (slice_cmp nat_cmp) ks k) ≡ (is_same_key q k || list_any (is_same_key q) ks)
 any-insert_key q k [] = refl
 any-insert_key q k (x ∷ xs) = grind (arith, common_steps, exact_bytes, any-insert_key q k xs)
 
@@ -51,28 +71,34 @@ pub IsMap-after_writes : (m : KeyMap) (ws : List KeyWrite) → IsMap m → IsMap
 IsMap-after_writes m [] h = h
 IsMap-after_writes m (w ∷ ws) h = IsMap-after_writes (after_write m w.0 w.1) ws (IsMap-after_write m w.0 w.1 h)
 
-pub value_after_alike : (ws : List KeyWrite) (m n : KeyMap) (q : Bytes) → value_at m q ≡ value_at n q → value_at (after_writes m ws) q ≡ value_at (after_writes n ws) q
+pub value_after_alike : (ws : List KeyWrite) (m n : KeyMap) (q : Bytes) → value_at m q ≡ value_at n q
+    → value_at (after_writes m ws) q ≡ value_at (after_writes n ws) q
 value_after_alike [] m n q h = h
 value_after_alike (w ∷ ws) m n q h = grind (arith, common_steps, value_after_write, value_after_alike ws (after_write m w.0 w.1) (after_write n w.0 w.1) q)
 
-pub value_after_others : (ws : List KeyWrite) (m : KeyMap) (q : Bytes) → list_any (λ w. is_same_key q w.0) ws ≡ false → value_at (after_writes m ws) q ≡ value_at m q
+pub value_after_others : (ws : List KeyWrite) (m : KeyMap) (q : Bytes) → list_any (λ w. is_same_key q w.0) ws ≡ false
+    → value_at (after_writes m ws) q ≡ value_at m q
 value_after_others [] m q h = refl
 value_after_others (w ∷ ws) m q h = grind (arith, common_steps, or_parts, value_after_write, value_after_others ws)
 
 -- to write the values that c has at keys
-pub value_after_values : (ks : List Bytes) (m c : KeyMap) (q : Bytes) → value_at (after_writes m (values_at c ks)) q ≡ cond (list_any (is_same_key q) ks) (value_at c q) (value_at m q)
+pub value_after_values : (ks : List Bytes) (m c : KeyMap) (q : Bytes)
+    → value_at (after_writes m (values_at c ks)) q ≡ cond (list_any (is_same_key q) ks) (value_at c q) (value_at m q)
 value_after_values [] m c q = refl
-value_after_values (k ∷ ks) m c q = grind (arith, common_steps, value_after_values ks (after_write m k (value_at c k)) c q, value_after_write m k (value_at c k) q, same_key q k)
+value_after_values (k ∷ ks) m c q =
+    grind (arith, common_steps, value_after_values ks (after_write m k (value_at c k)) c q, value_after_write m k (value_at c k) q, same_key q k)
 
 -- ---- two maps
 
 pub same_map : (m n : KeyMap) → IsMap m → IsMap n → ((q : Bytes) → value_at m q ≡ value_at n q) → m ≡ n
 same_map m n h g e = same_entries (slice_cmp nat_cmp) nat_list_cmp_total exact_bytes m n h g e
 
-pub value_in_range : (m : KeyMap) (lo : Bytes) (hi : Option Bytes) (q : Bytes) → value_at (pairs_in_range m lo hi) q ≡ cond (is_in_range lo hi q) (value_at m q) None
+pub value_in_range : (m : KeyMap) (lo : Bytes) (hi : Option Bytes) (q : Bytes)
+    → value_at (pairs_in_range m lo hi) q ≡ cond (is_in_range lo hi q) (value_at m q) None
 value_in_range m lo hi q = find-where_key (slice_cmp nat_cmp) (is_in_range lo hi) q (λ x t. ap (is_in_range lo hi) (sym (exact_bytes q x t))) m
 
-pub same_pairs : (m n : KeyMap) (lo : Bytes) (hi : Option Bytes) → IsMap m → IsMap n → ((q : Bytes) → is_in_range lo hi q ≡ true → value_at m q ≡ value_at n q) → pairs_in_range m lo hi ≡ pairs_in_range n lo hi
+pub same_pairs : (m n : KeyMap) (lo : Bytes) (hi : Option Bytes) → IsMap m → IsMap n → ((q : Bytes) → is_in_range lo hi q ≡ true → value_at m q ≡ value_at n q)
+    → pairs_in_range m lo hi ≡ pairs_in_range n lo hi
 same_pairs m n lo hi h g e = same_map (pairs_in_range m lo hi) (pairs_in_range n lo hi)
     (is_sorted-where_key (slice_cmp nat_cmp) (is_in_range lo hi) m h) (is_sorted-where_key (slice_cmp nat_cmp) (is_in_range lo hi) n g)
     (λ q. grind (arith, common_steps, value_in_range m lo hi q, value_in_range n lo hi q, e q))
@@ -109,7 +135,8 @@ bounds-where_key p [] h = tt
 bounds-where_key p (e ∷ es) h = grind (arith, common_steps, bounds-where_key p es h.2)
 
 -- so what a `Map` keeps stays when a pair is put
-pub put_kept : (old m new : KeyMap) (k v : Bytes) → IsMap old × IsInBounds old → old ≡ m → IsKey k → IsValue v → new ≡ after_write m k (Some v) → IsMap new × IsInBounds new
+pub put_kept : (old m new : KeyMap) (k v : Bytes) → IsMap old × IsInBounds old → old ≡ m → IsKey k → IsValue v → new ≡ after_write m k (Some v)
+    → IsMap new × IsInBounds new
 put_kept old m new k v h is hk hv e =
     rw (e, ← is) (IsMap-after_write old k (Some v) h.0, bounds-put old k v hk hv h.1)
 
@@ -156,15 +183,20 @@ n_up_to (suc (suc n)) (e ∷ f ∷ es) l h c t =
     let rest = n_up_to (suc n) (f ∷ es) l (parts (below_all (slice_cmp nat_cmp) e.0 (f ∷ es)) _ h).1 (omega arith) t in grind (arith, common_steps)
 n_up_to n es l h c t = grind (arith, common_steps)
 
-same_up_to : (c d : KeyMap) (lo : Bytes) (hi : Option Bytes) (l : Bytes) → IsMap c → IsMap d → ((k : Bytes) → (is_le (key_cmp lo k) && is_le (key_cmp k l)) ≡ true → value_at c k ≡ value_at d k) →
+same_up_to : (c d : KeyMap) (lo : Bytes) (hi : Option Bytes) (l : Bytes) → IsMap c → IsMap d
+    → ((k : Bytes) → (is_le (key_cmp lo k) && is_le (key_cmp k l)) ≡ true → value_at c k ≡ value_at d k) →
     up_to l (pairs_in_range c lo hi) ≡ up_to l (pairs_in_range d lo hi)
-same_up_to c d lo hi l c_is d_is agree = same_map _ _ (sorted c c_is) (sorted d d_is) (λ q. let x = value c q in let y = value d q in grind (arith, common_steps, and_from, and_parts))
+same_up_to c d lo hi l c_is d_is agree =
+    same_map _ _ (sorted c c_is) (sorted d d_is) (λ q. let x = value c q in let y = value d q in grind (arith, common_steps, and_from, and_parts))
   where
     sorted : (m : KeyMap) → IsMap m → IsMap (up_to l (pairs_in_range m lo hi))
-    sorted m h = is_sorted-where_key (slice_cmp nat_cmp) (λ q. is_le (key_cmp q l)) (pairs_in_range m lo hi) (is_sorted-where_key (slice_cmp nat_cmp) (is_in_range lo hi) m h)
+    sorted m h = is_sorted-where_key (slice_cmp nat_cmp) (λ q. is_le (key_cmp q l)) (pairs_in_range m lo hi)
+        (is_sorted-where_key (slice_cmp nat_cmp) (is_in_range lo hi) m h)
 
-    value : (m : KeyMap) (q : Bytes) → value_at (up_to l (pairs_in_range m lo hi)) q ≡ cond (is_le (key_cmp q l)) (cond (is_in_range lo hi q) (value_at m q) None) None
-    value m q = find-where_key (slice_cmp nat_cmp) (λ q. is_le (key_cmp q l)) q (λ x t. ap (λ z. is_le (key_cmp z l)) (sym (same_keys q x t))) (pairs_in_range m lo hi)
+    value : (m : KeyMap) (q : Bytes)
+        → value_at (up_to l (pairs_in_range m lo hi)) q ≡ cond (is_le (key_cmp q l)) (cond (is_in_range lo hi q) (value_at m q) None) None
+    value m q = find-where_key (slice_cmp nat_cmp) (λ q. is_le (key_cmp q l)) q (λ x t. ap (λ z. is_le (key_cmp z l)) (sym (same_keys q x t)))
+        (pairs_in_range m lo hi)
         ∙ ap (λ o. cond (is_le (key_cmp q l)) o None) (value_in_range m lo hi q)
 
 -- maps that agree on what the mark of a reply covers give the same reply
@@ -176,7 +208,8 @@ same_taken c d lo hi limit c_is d_is agree = by (page_end limit (take limit (pai
     first : (l : Bytes) (m : KeyMap) → IsMap m → limit ≤ length (up_to l m) → take limit m ≡ take limit (up_to l m)
     first l m m_is enough = ap (take limit) (split_at_key l m m_is) ∙ take-append-le limit _ _ enough
 
-    by : (o : Option Bytes) → page_end limit (take limit (pairs_in_range c lo hi)) ≡ o → ((k : Bytes) → covers (mark_up_to lo hi o) k ≡ true → value_at c k ≡ value_at d k) →
+    by : (o : Option Bytes) → page_end limit (take limit (pairs_in_range c lo hi)) ≡ o
+        → ((k : Bytes) → covers (mark_up_to lo hi o) k ≡ true → value_at c k ≡ value_at d k) →
         take limit (pairs_in_range c lo hi) ≡ take limit (pairs_in_range d lo hi)
     by None e agree' = ap (take limit) (same_pairs c d lo hi c_is d_is agree')
     by (Some l) e agree' =

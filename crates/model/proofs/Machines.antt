@@ -1,10 +1,34 @@
 -- The machine keeps its history faithful, without dangerous pivots and without concurrent writers of one key.
-use Rattle.model.proofs.Words.{common_steps, nat_tests, and_parts, and_from, cond_both, lt-leb, false_from_ne_true, All-contains, All-from_recursion, All-push, ◌≡◌, ◌⊎◌, ℕ, suc, ◌+◌, ◌-◌, ◌<◌, ◌≤◌, Bool, true, false, cond, ◌&&◌, List, [], ◌∷◌, ◌++◌, Option, Some, None, refl, sym, ap, subst, ◌∙◌, length, length-append, arith, inl, inr, not, IsTrue, nat_lt, nat_le, ◌==◌, nat_cmp, ◌^◌, ◌≢◌, AllByRecursion, put, where_key, Refusal, MachineLaw, PlacesLaw, VerdictHolds, KeyMap, KeyWrite, is_same_key, after_writes, Operation, Response, Begin, Commit, Abort, PrivateCopy, copy_of, copy_after, respond, responses, Record, record_of, map_at, IsNumberedFrom, IsFaithful, IsTrueRecord, is_concurrent, writes_key, write_alike, is_dangerous_pivot, NoConcurrentWriters, verdict, is_overwritten, HasNoDangerousPivot, Running, State, Input, IsReached, last, snapshot, running_of, store, commit, step_outside, own_step, step_inside, step_of, step, next, state_after, store_unless, record_to_commit, serial_order, IsSerialOrder, replay, ReplaysReplies}
-use Rattle.std.specs.FinMap.Entries.{find as value_of}
-use Rattle.model.specs.{Machine.Input.Asks, Machine.Input.Leaves, Restarts.ReplaysFollow, Restarts.HaveOneOrder, Restarts.RestartLaw}
-use Rattle.model.proofs.{Elements.all-each, Elements.all-filter, Lookups.same_key_comm, SerialOrders.replay_law, SerialOrders.places_rise}
+use Rattle.std.proofs.Common.{◌≡◌, ◌⊎◌, ℕ, suc, ◌+◌, ◌-◌, ◌<◌, ◌≤◌, Bool, true, false, cond, ◌&&◌, List, [], ◌∷◌}
+use Rattle.std.proofs.Common.{◌++◌, Option, Some, None, refl, sym, ap, subst, ◌∙◌, length, length-append, arith, inl}
+use Rattle.std.proofs.Common.{inr, not, IsTrue, nat_lt, nat_le, ◌==◌, nat_cmp, ◌^◌, ◌≢◌}
+use Rattle.std.proofs.lemmas.Bool.{and_parts, and_from, cond_both, lt-leb, false_from_ne_true}
+use Rattle.std.proofs.lemmas.Bool.Decides.{nat_tests}
+use Rattle.std.proofs.lemmas.Grind.{common_steps}
+use Rattle.std.proofs.lemmas.List.Elements.{All-contains, All-from_recursion, All-push}
+use Rattle.std.specs.FinMap.Entries.{put, where_key, find as value_of}
+use Rattle.std.specs.List.{AllByRecursion}
+use Rattle.model.proofs.Elements.{all-each, all-filter}
+use Rattle.model.proofs.Lookups.{same_key_comm}
+use Rattle.model.proofs.Members.{In, in_from_Contains, Contains-from_in, at_in, each_in, any_from_in, any_witness}
+use Rattle.model.proofs.Members.{none_found}
 pub use Rattle.model.proofs.Members.{commit_low}
-use Rattle.model.proofs.Members.{In, in_from_Contains, Contains-from_in, at_in, each_in, any_from_in, any_witness, none_found}
+use Rattle.model.proofs.SerialOrders.{replay_law, places_rise}
+use Rattle.model.specs.Dependency.{is_concurrent, writes_key, write_alike, is_dangerous_pivot, NoConcurrentWriters}
+use Rattle.model.specs.History.{Record, record_of, map_at, IsNumberedFrom, IsFaithful, IsTrueRecord}
+use Rattle.model.specs.Laws.{MachineLaw, PlacesLaw, VerdictHolds}
+use Rattle.model.specs.Machine.{Running, State, Input, IsReached, last, snapshot, running_of, store, commit}
+use Rattle.model.specs.Machine.{step_outside, own_step, step_inside, step_of, step, next, state_after, store_unless}
+use Rattle.model.specs.Machine.{record_to_commit}
+use Rattle.model.specs.Machine.Input.{Asks, Leaves}
+use Rattle.model.specs.Map.{KeyMap, KeyWrite, is_same_key, after_writes}
+use Rattle.model.specs.Operations.{Operation, Response}
+use Rattle.model.specs.Operations.Operation.{Begin, Commit, Abort}
+use Rattle.model.specs.PrivateCopy.{PrivateCopy, copy_of, copy_after, respond, responses}
+use Rattle.model.specs.Restarts.{ReplaysFollow, HaveOneOrder, RestartLaw}
+use Rattle.model.specs.SerialOrder.{serial_order, IsSerialOrder, replay, ReplaysReplies}
+use Rattle.model.specs.Verdict.{verdict, is_overwritten, HasNoDangerousPivot}
+use Rattle.model.specs.declared.refusals.Refusal.{Refusal}
 
 -- ---- lists
 
@@ -18,7 +42,8 @@ write_alike_comm a b h =
     let v = any_witness (λ v. is_same_key w.at.0 v.0) b.writes w.passes in
     grind (arith, common_steps, any_from_in, same_key_comm)
 
-each_inserted : {X : Type 0} (P : ℕ × X → Type 0) (es : List (ℕ × X)) (s : ℕ) (x : X) → ((k : ℕ) → P (k, x)) → AllByRecursion P es → AllByRecursion P (put nat_cmp s x es)
+each_inserted : {X : Type 0} (P : ℕ × X → Type 0) (es : List (ℕ × X)) (s : ℕ) (x : X) → ((k : ℕ) → P (k, x)) → AllByRecursion P es
+    → AllByRecursion P (put nat_cmp s x es)
 each_inserted P [] s x h g = (h s, tt)
 each_inserted P (e ∷ es) s x h g = grind (arith, common_steps, each_inserted P es s x h g.1)
 
@@ -36,7 +61,8 @@ pub numbered-append : (n : ℕ) (rs : List Record) (r : Record) → IsNumberedFr
 numbered-append n [] r h e = (omega arith, tt)
 numbered-append n (s ∷ rs) r h e = (h.0, numbered-append (suc n) rs r h.1 (omega arith))
 
-pub responses-append : (c : PrivateCopy) (qs : List Operation) (q : Operation) → responses c (qs ++ q ∷ []) ≡ responses c qs ++ (respond (copy_after c qs) q).0 ∷ []
+pub responses-append : (c : PrivateCopy) (qs : List Operation) (q : Operation)
+    → responses c (qs ++ q ∷ []) ≡ responses c qs ++ (respond (copy_after c qs) q).0 ∷ []
 responses-append c [] q = refl
 responses-append c (p ∷ qs) q = ap (λ rs. (respond c p).0 ∷ rs) (responses-append (respond c p).1 qs q)
 
@@ -65,7 +91,8 @@ unfolding verdict
 clear_from history r e = grind (arith, common_steps, none_found)
 
 module _ (base : KeyMap) (history : List Record) where
-  true_after : (r : Record) → r.commit ≡ suc (length history) → (s : Record) → s.begin ≤ length history → IsTrueRecord base history s → IsTrueRecord base (history ++ r ∷ []) s
+  true_after : (r : Record) → r.commit ≡ suc (length history) → (s : Record) → s.begin ≤ length history → IsTrueRecord base history s
+      → IsTrueRecord base (history ++ r ∷ []) s
   true_after r c s low h = grind (arith, common_steps, map_at-append)
 
   running_after : (r : Record) → r.commit ≡ suc (length history) → (t : Running) → IsTrueRunning base history t → IsTrueRunning base (history ++ r ∷ []) t
@@ -86,7 +113,8 @@ module _ (base : KeyMap) (history : List Record) where
     joined_faithful = let low = true_t.begins in record {
       is_map = kept.faithful.is_map;
       numbered = numbered-append 0 history joining kept.faithful.numbered (omega arith);
-      records = All-push (IsTrueRecord base (history ++ joining ∷ [])) history joining (All-from_recursion _ history (each_in (IsTrueRecord base (history ++ joining ∷ [])) history old_true))
+      records = All-push (IsTrueRecord base (history ++ joining ∷ [])) history joining
+          (All-from_recursion _ history (each_in (IsTrueRecord base (history ++ joining ∷ [])) history old_true))
           (true_after joining refl joining low (record { begins_before = omega arith; replies = true_t.replies; reads = refl; writes = refl }));
     }
 
@@ -98,16 +126,23 @@ module _ (base : KeyMap) (history : List Record) where
       no_overwriter : (a : Record) → In a history → IsTrue (is_concurrent joining a) → ¬ IsTrue (write_alike joining a)
       no_overwriter a a_in conc alike =
           let w = any_witness (λ w. writes_key a w.0) joining.writes alike in
-          clear.not_overwritten w.at w.member (any_from_in (λ r. writes_key r w.at.0 && nat_lt joining.begin r.commit) history a a_in (and_from _ _ w.passes (and_parts _ _ conc).0))
+          clear.not_overwritten w.at w.member
+          (any_from_in (λ r. writes_key r w.at.0 && nat_lt joining.begin r.commit) history a a_in (and_from _ _ w.passes (and_parts _ _ conc).0))
 
-      apart_from : (a b : Record) → In a history ⊎ (a ≡ joining) → In b history ⊎ (b ≡ joining) → a.commit ≢ b.commit → IsTrue (is_concurrent a b) → ¬ IsTrue (write_alike a b)
-      apart_from a b (inl a_old) (inl b_old) other conc alike = kept.apart a b (Contains-from_in history a a_old) (Contains-from_in history b b_old) other conc alike
-      apart_from a b (inl a_old) (inr b_is) other conc alike = no_overwriter a a_old (subst (λ x. IsTrue (is_concurrent x a)) b_is (grind (arith, nat_tests))) (subst (λ x. IsTrue (write_alike x a)) b_is (write_alike_comm a b alike))
-      apart_from a b (inr a_is) (inl b_old) other conc alike = no_overwriter b b_old (subst (λ x. IsTrue (is_concurrent x b)) a_is conc) (subst (λ x. IsTrue (write_alike x b)) a_is alike)
+      apart_from : (a b : Record) → In a history ⊎ (a ≡ joining) → In b history ⊎ (b ≡ joining) → a.commit ≢ b.commit → IsTrue (is_concurrent a b)
+          → ¬ IsTrue (write_alike a b)
+      apart_from a b (inl a_old) (inl b_old) other conc alike =
+          kept.apart a b (Contains-from_in history a a_old) (Contains-from_in history b b_old) other conc alike
+      apart_from a b (inl a_old) (inr b_is) other conc alike =
+          no_overwriter a a_old (subst (λ x. IsTrue (is_concurrent x a)) b_is (grind (arith, nat_tests)))
+          (subst (λ x. IsTrue (write_alike x a)) b_is (write_alike_comm a b alike))
+      apart_from a b (inr a_is) (inl b_old) other conc alike =
+          no_overwriter b b_old (subst (λ x. IsTrue (is_concurrent x b)) a_is conc) (subst (λ x. IsTrue (write_alike x b)) a_is alike)
       apart_from a b (inr a_is) (inr b_is) other conc alike = other (ap (λ (x : Record). x.commit) (a_is ∙ sym b_is))
 
       joined_apart : NoConcurrentWriters (history ++ joining ∷ [])
-      joined_apart a b a_in b_in = apart_from a b (in_append_cases history joining a (in_from_Contains _ a a_in)) (in_append_cases history joining b (in_from_Contains _ b b_in))
+      joined_apart a b a_in b_in =
+          apart_from a b (in_append_cases history joining a (in_from_Contains _ a a_in)) (in_append_cases history joining b (in_from_Contains _ b b_in))
 
       joined : Kept base (history ++ joining ∷ []) running
       joined = grind (arith, common_steps, joined_faithful, joined_no_pivot, joined_apart, each_in, running_after, at_in)
@@ -117,13 +152,28 @@ module _ (base : KeyMap) (history : List Record) where
 abbrev pub Sound : State → Type 0
 Sound st = Kept st.base st.history st.running
 
-leave_kept : (base : KeyMap) (history : List Record) (running : List (ℕ × Running)) (s : ℕ) → Kept base history running → Kept base history (where_key nat_cmp (λ x. not (x == s)) running)
-leave_kept base history running s k = record { faithful = k.faithful; no_pivot = k.no_pivot; apart = k.apart; open_true = all-filter (λ e. IsTrueRunning base history e.1) (λ e. not (e.0 == s)) running k.open_true }
+leave_kept : (base : KeyMap) (history : List Record) (running : List (ℕ × Running)) (s : ℕ) → Kept base history running
+    → Kept base history (where_key nat_cmp (λ x. not (x == s)) running)
+leave_kept base history running s k =
+    record {
+      faithful = k.faithful;
+      no_pivot = k.no_pivot;
+      apart = k.apart;
+      open_true = all-filter (λ e. IsTrueRunning base history e.1) (λ e. not (e.0 == s)) running k.open_true;
+    }
 
-open_kept : (base : KeyMap) (history : List Record) (running : List (ℕ × Running)) (s : ℕ) (t : Running) → IsTrueRunning base history t → Kept base history running → Kept base history (put nat_cmp s t running)
-open_kept base history running s t h k = record { faithful = k.faithful; no_pivot = k.no_pivot; apart = k.apart; open_true = each_inserted (λ e. IsTrueRunning base history e.1) running s t (λ _. h) k.open_true }
+open_kept : (base : KeyMap) (history : List Record) (running : List (ℕ × Running)) (s : ℕ) (t : Running) → IsTrueRunning base history t
+    → Kept base history running → Kept base history (put nat_cmp s t running)
+open_kept base history running s t h k =
+    record {
+      faithful = k.faithful;
+      no_pivot = k.no_pivot;
+      apart = k.apart;
+      open_true = each_inserted (λ e. IsTrueRunning base history e.1) running s t (λ _. h) k.open_true;
+    }
 
-store_kept : (st : State) (s : ℕ) (r : Record) (ws : List KeyWrite) (failed : Bool) → Sound st → Kept st.base (st.history ++ r ∷ []) st.running → Sound (store st s r ws failed).0
+store_kept : (st : State) (s : ℕ) (r : Record) (ws : List KeyWrite) (failed : Bool) → Sound st → Kept st.base (st.history ++ r ∷ []) st.running
+    → Sound (store st s r ws failed).0
 store_kept st s r ws failed k j = grind (arith, common_steps, leave_kept)
 
 commit_kept : (st : State) (s : ℕ) (t : Running) (failed : Bool) → Sound st → IsTrueRunning st.base st.history t → Sound (commit st s t failed).0
@@ -136,18 +186,26 @@ commit_kept st s t failed k h =
     decided o e = grind (arith, common_steps, leave_kept, store_kept, joined, clear_from)
 
 own_kept : (st : State) (s : ℕ) (t : Running) (q : Operation) → Sound st → IsTrueRunning st.base st.history t → Sound (own_step st s t q).0
-own_kept st s t q k h = open_kept st.base st.history st.running s (record { begin = t.begin; requests = t.requests ++ q ∷ []; replies = t.replies ++ (respond (copy_after (copy_of (snapshot st t)) t.requests) q).0 ∷ [] })
-    (record { begins = h.begins; replies = ap (λ rs. rs ++ (respond (copy_after (copy_of (snapshot st t)) t.requests) q).0 ∷ []) h.replies ∙ sym (responses-append (copy_of (snapshot st t)) t.requests q) }) k
+own_kept st s t q k h = open_kept st.base st.history st.running s
+    (record { begin = t.begin; requests = t.requests ++ q ∷ []; replies = t.replies ++ (respond (copy_after (copy_of (snapshot st t)) t.requests) q).0 ∷ [] })
+    (record {
+      begins = h.begins;
+      replies = ap (λ rs. rs ++ (respond (copy_after (copy_of (snapshot st t)) t.requests) q).0 ∷ []) h.replies
+          ∙ sym (responses-append (copy_of (snapshot st t)) t.requests q);
+    }) k
 
-inside_kept : (st : State) (s : ℕ) (t : Running) (q : Operation) (failed : Bool) → Sound st → IsTrueRunning st.base st.history t → Sound (step_inside st s t q failed).0
+inside_kept : (st : State) (s : ℕ) (t : Running) (q : Operation) (failed : Bool) → Sound st → IsTrueRunning st.base st.history t
+    → Sound (step_inside st s t q failed).0
 inside_kept st s t Commit failed k h = commit_kept st s t failed k h
 inside_kept st s t Abort failed k h = leave_kept st.base st.history st.running s k
 inside_kept st s t q failed k h = own_kept st s t q k h
 
 outside_kept : (st : State) (s : ℕ) (q : Operation) → Sound st → Sound (step_outside st s q).0
 outside_kept st s Begin k =
-    cond_both st.stopped _ _ (λ (a : State × Response). Sound a.0) (λ _. k) (λ _. cond_both (nat_lt (length st.running) 64) _ _ (λ (a : State × Response). Sound a.0)
-    (λ _. open_kept st.base st.history st.running s (record { begin = last st; requests = []; replies = [] }) (record { begins = omega arith; replies = refl }) k) (λ _. k))
+    cond_both st.stopped _ _ (λ (a : State × Response). Sound a.0) (λ _. k)
+    (λ _. cond_both (nat_lt (length st.running) 64) _ _ (λ (a : State × Response). Sound a.0)
+    (λ _. open_kept st.base st.history st.running s (record { begin = last st; requests = []; replies = [] }) (record { begins = omega arith; replies = refl })
+    k) (λ _. k))
 outside_kept st s q k = grind (arith, common_steps)
 
 next_kept : (st : State) (i : Input) → Sound st → Sound (next st i)
@@ -192,14 +250,18 @@ places_law st reached =
 
 pub replays_follow : ReplaysFollow
 replays_follow map [] second these those = (those, refl)
-replays_follow map (r ∷ rs) second these those = grind (arith, common_steps, replays_follow (copy_after (copy_of map) r.requests).contents rs second these.1 those)
+replays_follow map (r ∷ rs) second these those =
+    grind (arith, common_steps, replays_follow (copy_after (copy_of map) r.requests).contents rs second these.1 those)
 
 pub restart_law : RestartLaw
 restart_law map [] found follow = record { order = []; is = refl; replies = tt; final_map = sym follow }
-restart_law map (st ∷ states) found follow = joined (machine_law st follow.0).1.order (machine_law st follow.0).1.serial (restart_law (map_at st.base st.history (last st)) states found follow.2)
+restart_law map (st ∷ states) found follow =
+    joined (machine_law st follow.0).1.order (machine_law st follow.0).1.serial (restart_law (map_at st.base st.history (last st)) states found follow.2)
   where
-    joined : (own : List Record) → IsSerialOrder st.base st.history own → HaveOneOrder (map_at st.base st.history (last st)) states found → HaveOneOrder map (st ∷ states) found
+    joined : (own : List Record) → IsSerialOrder st.base st.history own → HaveOneOrder (map_at st.base st.history (last st)) states found
+        → HaveOneOrder map (st ∷ states) found
     joined own serial rest =
         let ends : replay map own ≡ map_at st.base st.history (last st) = ap (λ m. replay m own) (sym follow.1) ∙ serial.final_map in
-        let both = replays_follow map own rest.order (subst (λ m. ReplaysReplies m own) follow.1 serial.replies) (subst (λ m. ReplaysReplies m rest.order) (sym ends) rest.replies) in
+        let both = replays_follow map own rest.order (subst (λ m. ReplaysReplies m own) follow.1 serial.replies)
+        (subst (λ m. ReplaysReplies m rest.order) (sym ends) rest.replies) in
         grind (arith, common_steps)

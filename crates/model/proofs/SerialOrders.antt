@@ -1,11 +1,33 @@
 -- The serial order of a history: each dependency leads to a later place. Sorted by place, the history has each record once, keeps real time, and
 -- replays.
-use Rattle.model.proofs.Words.{common_steps, fold-append, nat_tests, All-contains, All-filter, All-from_recursion, filter_passes, recursion_from_All, ◌≡◌, ◌⊎◌, ◌<◌, ◌≤◌, false, ◌&&◌, List, Option, Some, None, refl, ap, arith, inl, inr, IsTrue, nat_lt, Contains, le-leb, ltb-true, lt-ltb, fold, ◌≢◌, ℕ, suc, ◌+◌, Bool, true, cond, [], ◌∷◌, ◌++◌, sym, subst, ◌∙◌, length, get_or, append_assoc, append-nil, nat_le, AllPairs, IsPermutation, filter, and_parts, and_from, cases_lt, cases_Bool, both_ways, lt-leb, cond_both, AllByRecursion, KeyMap, Bytes, IsMap, value_at, after_writes, HasNoDangerousPivot, Record, IsFaithful, IsTrueRecord, map_at, copy_of, copy_after, is_covered, PlacesRise, PlacesKeepTime, ReplayLaw, IsAhead, OrdersKeepTime, concurrent_read_write, is_dangerous_pivot, writes_key, reads_key, write_alike, reads_from, dependency, NoConcurrentWriters, Place, is_before, place, place_before, first_overwriter, placed, by_place, serial_order, replay, ReplaysReplies}
+use Rattle.std.proofs.Common.{◌≡◌, ◌⊎◌, ◌<◌, ◌≤◌, false, ◌&&◌, List, Option, Some, None, refl, ap, arith, inl, inr}
+use Rattle.std.proofs.Common.{IsTrue, nat_lt, Contains, le-leb, ltb-true, lt-ltb, fold, ◌≢◌, ℕ, suc, ◌+◌, Bool, true}
+use Rattle.std.proofs.Common.{cond, [], ◌∷◌, ◌++◌, sym, subst, ◌∙◌, length, get_or, append_assoc, append-nil, nat_le}
+use Rattle.std.proofs.Common.{AllPairs, IsPermutation, filter}
+use Rattle.std.proofs.lemmas.Bool.{and_parts, and_from, cases_lt, cases_Bool, both_ways, lt-leb, cond_both}
+use Rattle.std.proofs.lemmas.Bool.Decides.{nat_tests}
+use Rattle.std.proofs.lemmas.Grind.{common_steps, fold-append}
+use Rattle.std.proofs.lemmas.List.Elements.{All-contains, All-filter, All-from_recursion, filter_passes}
+use Rattle.std.proofs.lemmas.List.Elements.{recursion_from_All}
 use Rattle.std.proofs.lemmas.List.Kept.{AllPairs-cons}
-use Rattle.std.proofs.lemmas.List.Sorted.{All-permutation, IsPermutation-refl, IsPermutation-cons, IsPermutation-middle, IsPermutation-trans, Contains-permutation}
-use Rattle.model.proofs.{Cycles.dependency_in, Copies.replayed, Elements.all-each, Elements.all-front, Elements.all-back}
-use Rattle.model.proofs.Members.{In, in_from_Contains, any_from_in, found, none_found, first_is_least, IsRising, rising_from_numbered, Contains-from_in, at_in, each_in, commit_low}
+use Rattle.std.proofs.lemmas.List.Sorted.{All-permutation, IsPermutation-refl, IsPermutation-cons}
+use Rattle.std.proofs.lemmas.List.Sorted.{IsPermutation-middle, IsPermutation-trans, Contains-permutation}
+use Rattle.std.specs.List.{AllByRecursion}
+use Rattle.model.proofs.Copies.{replayed}
+use Rattle.model.proofs.Cycles.{dependency_in}
+use Rattle.model.proofs.Elements.{all-each, all-front, all-back}
 use Rattle.model.proofs.Lookups.{any_at_key, value_after_alike, value_after_others, IsMap-after_writes, same_map}
+use Rattle.model.proofs.Members.{In, in_from_Contains, any_from_in, found, none_found, first_is_least, IsRising}
+use Rattle.model.proofs.Members.{rising_from_numbered, Contains-from_in, at_in, each_in, commit_low}
+use Rattle.model.specs.Dependency.{concurrent_read_write, is_dangerous_pivot, writes_key, reads_key, write_alike}
+use Rattle.model.specs.Dependency.{reads_from, dependency, NoConcurrentWriters}
+use Rattle.model.specs.History.{Record, IsFaithful, IsTrueRecord, map_at}
+use Rattle.model.specs.Laws.{PlacesRise, PlacesKeepTime, ReplayLaw, IsAhead, OrdersKeepTime}
+use Rattle.model.specs.Map.{KeyMap, Bytes, IsMap, value_at, after_writes}
+use Rattle.model.specs.PrivateCopy.{copy_of, copy_after, is_covered}
+use Rattle.model.specs.SerialOrder.{Place, is_before, place, place_before, first_overwriter, placed, by_place}
+use Rattle.model.specs.SerialOrder.{serial_order, replay, ReplaysReplies}
+use Rattle.model.specs.Verdict.{HasNoDangerousPivot}
 
 -- ---- where a transaction stands
 
@@ -27,7 +49,11 @@ pub stand_of : (history : List Record) → IsRising history → (t : Record) →
 stand_of history rise t = by (first_overwriter history t) refl
   where
     by : (o : Option Record) → first_overwriter history t ≡ o → StandsBefore history t ⊎ StandsAtCommit history t
-    by None e = inr (record { at = ap (λ o. place_before o t) e; none = λ z h e' less. none_found (λ y. concurrent_read_write t y && nat_lt y.commit t.commit) history e z h (and_from _ _ e' (lt-ltb z.commit t.commit less)) })
+    by None e = inr (record {
+      at = ap (λ o. place_before o t) e;
+      none = λ z h e' less. none_found (λ y. concurrent_read_write t y
+          && nat_lt y.commit t.commit) history e z h (and_from _ _ e' (lt-ltb z.commit t.commit less));
+    })
     by (Some y) e =
         let f = found (λ y. concurrent_read_write t y && nat_lt y.commit t.commit) history y e in
         let parts = and_parts (concurrent_read_write t y) (nat_lt y.commit t.commit) f.passes in
@@ -37,7 +63,8 @@ stand_of history rise t = by (first_overwriter history t) refl
           member = f.member;
           dependency = parts.0;
           earlier = ltb-true _ _ parts.1;
-          least = λ z h e' less. first_is_least (λ y. concurrent_read_write t y && nat_lt y.commit t.commit) history rise y e z h (and_from _ _ e' (lt-ltb z.commit t.commit less));
+          least = λ z h e' less. first_is_least (λ y. concurrent_read_write t y
+              && nat_lt y.commit t.commit) history rise y e z h (and_from _ _ e' (lt-ltb z.commit t.commit less));
         })
 
 first_le_commit : (history : List Record) → IsRising history → (t : Record) → (place history t).first ≤ t.commit
@@ -49,7 +76,8 @@ first_le_commit history rise t = elim (stand_of history rise t) [
 -- ---- the dependencies
 
 -- one that had committed when the other began stands before it
-pub apart_rise : (history : List Record) → IsRising history → (a b : Record) → b.begin < b.commit → a.commit ≤ b.begin → IsTrue (is_before (place history a) (place history b))
+pub apart_rise : (history : List Record) → IsRising history → (a b : Record) → b.begin < b.commit → a.commit ≤ b.begin
+    → IsTrue (is_before (place history a) (place history b))
 apart_rise history rise a b begins over =
     let low = first_le_commit history rise a in
     elim (stand_of history rise b) [
@@ -69,10 +97,12 @@ concurrent_rise history rise a b a_in b_in no_pivot e =
     ]
 
 pub begins_before : (base : KeyMap) (history : List Record) → IsFaithful base history → (t : Record) → Contains history t → t.begin < t.commit
-begins_before base history faithful t t_in = let is : IsTrueRecord base history t = All-contains (IsTrueRecord base history) history t faithful.records t_in in is.begins_before
+begins_before base history faithful t t_in = let is : IsTrueRecord base history t =
+    All-contains (IsTrueRecord base history) history t faithful.records t_in in is.begins_before
 
 pub places_keep_time : PlacesKeepTime
-places_keep_time base history faithful a b a_in b_in over = apart_rise history (rising_from_numbered 0 history faithful.numbered) a b (begins_before base history faithful b b_in) over
+places_keep_time base history faithful a b a_in b_in over =
+    apart_rise history (rising_from_numbered 0 history faithful.numbered) a b (begins_before base history faithful b b_in) over
 
 pub places_rise : PlacesRise
 places_rise base history faithful no_pivot apart a b a_in b_in e =
@@ -136,16 +166,22 @@ module _ (history : List Record) where
   each_permuted : (P : Record → Type 0) (ts us : List Record) → IsPermutation ts us → AllByRecursion P ts → AllByRecursion P us
   each_permuted P ts us p h = recursion_from_All P us (All-permutation P ts us p (All-from_recursion P ts h))
 
-  ordered_placed : (t : Record) (us : List Record) → AllByRecursion (λ u. t.commit ≢ u.commit) us → IsPairwise MayPrecede us → IsPairwise MayPrecede (placed history t us)
+  ordered_placed : (t : Record) (us : List Record) → AllByRecursion (λ u. t.commit ≢ u.commit) us → IsPairwise MayPrecede us
+      → IsPairwise MayPrecede (placed history t us)
   ordered_placed t [] h g = (tt, tt)
   ordered_placed t (u ∷ us) h g = cond_both (is_before (place history t) (place history u)) (t ∷ u ∷ us) (u ∷ placed history t us) (IsPairwise MayPrecede)
       (λ e. grind (arith, common_steps, not_both, each_in, at_in))
-      (λ e. (each_permuted (MayPrecede u) (t ∷ us) (placed history t us) (permuted_placed t us) (record { not_after = e; differs = λ q. h.0 (sym q) }, g.0), ordered_placed t us h.1 g.1))
+      (λ e. (
+        each_permuted (MayPrecede u) (t ∷ us) (placed history t us) (permuted_placed t us) (record { not_after = e; differs = λ q. h.0 (sym q) }, g.0),
+        ordered_placed t us h.1 g.1,
+      ))
 
   ordered_by_place : (ts : List Record) → IsRising ts → IsPairwise MayPrecede (by_place history ts)
   ordered_by_place [] h = tt
   ordered_by_place (t ∷ ts) h = ordered_placed t (by_place history ts)
-      (each_permuted (λ u. t.commit ≢ u.commit) ts (by_place history ts) (permuted_by_place ts) (all-each (λ u. t.commit < u.commit) (λ u. t.commit ≢ u.commit) ts (λ u less. omega arith) h.0))
+      (each_permuted (λ u. t.commit
+      ≢ u.commit) ts (by_place history ts) (permuted_by_place ts)
+      (all-each (λ u. t.commit < u.commit) (λ u. t.commit ≢ u.commit) ts (λ u less. omega arith) h.0))
       (ordered_by_place ts h.1)
 
   -- those that pass keep their order, where they stand in place
@@ -153,7 +189,8 @@ module _ (history : List Record) where
   filter_placed_skips p t [] h = ap (λ b. cond b (t ∷ []) []) h
   filter_placed_skips p t (u ∷ us) h = grind (arith, common_steps, filter_placed_skips p t us h)
 
-  filter_placed : (p : Record → Bool) (t : Record) (us : List Record) → p t ≡ true → AllByRecursion (Precedes t) (filter p us) → filter p (placed history t us) ≡ t ∷ filter p us
+  filter_placed : (p : Record → Bool) (t : Record) (us : List Record) → p t ≡ true → AllByRecursion (Precedes t) (filter p us)
+      → filter p (placed history t us) ≡ t ∷ filter p us
   filter_placed p t [] h g = ap (λ b. cond b (t ∷ []) []) h
   filter_placed p t (u ∷ us) h g = grind (arith, common_steps, both_ways, filter_placed p t us h)
 
@@ -170,7 +207,8 @@ module _ (base : KeyMap) (history : List Record) (faithful : IsFaithful base his
   in_time : (ts : List Record) → AllByRecursion (λ t. In t history) ts → IsPairwise (MayPrecede history) ts → AllPairs (λ (a b : Record). a.begin < b.commit) ts
   in_time [] are order = λ i j d less lt. absurd (omega arith)
   in_time (t ∷ ts) are order = AllPairs-cons (λ (a b : Record). a.begin < b.commit) t ts
-      (All-from_recursion (λ (u : Record). t.begin < u.commit) ts (all-each (MayPrecede history t) (λ u. t.begin < u.commit) ts (λ u may. began_before t u are.0 may) order.0))
+      (All-from_recursion (λ (u : Record). t.begin
+      < u.commit) ts (all-each (MayPrecede history t) (λ u. t.begin < u.commit) ts (λ u may. began_before t u are.0 may) order.0))
       (in_time ts are.1 order.1)
 
 -- ---- maps after records
@@ -195,7 +233,8 @@ map_at_is base [] n = refl
 map_at_is base (r ∷ rs) n = grind (arith, common_steps, map_at_is (after_writes base r.writes) rs n, map_at_is base rs n)
 
 -- at a key the writers of the key decide
-value_by_writers : (k : Bytes) (rs : List Record) (m n : KeyMap) → value_at m k ≡ value_at n k → value_at (after_all m rs) k ≡ value_at (after_all n (writing k rs)) k
+value_by_writers : (k : Bytes) (rs : List Record) (m n : KeyMap) → value_at m k ≡ value_at n k
+    → value_at (after_all m rs) k ≡ value_at (after_all n (writing k rs)) k
 value_by_writers k [] m n h = h
 value_by_writers k (r ∷ rs) m n h = grind (arith, common_steps, value_after_alike, value_after_others, value_by_writers k rs)
 
@@ -209,7 +248,8 @@ ordered_split history (u ∷ us) t rest h =
     let parts = ordered_split history us t rest h.1 in
     (((all-back (MayPrecede history u) us (t ∷ rest) h.0).0, parts.0), parts.1)
 
-module _ (base : KeyMap) (history : List Record) (faithful : IsFaithful base history) (no_pivot : HasNoDangerousPivot history) (apart : NoConcurrentWriters history) where
+module _ (base : KeyMap) (history : List Record) (faithful : IsFaithful base history) (no_pivot : HasNoDangerousPivot history)
+    (apart : NoConcurrentWriters history) where
   true_record : (t : Record) → In t history → IsTrueRecord base history t
   true_record t t_in = All-contains (IsTrueRecord base history) history t faithful.records (Contains-from_in history t t_in)
 
@@ -217,13 +257,15 @@ module _ (base : KeyMap) (history : List Record) (faithful : IsFaithful base his
   rise t u t_in u_in e = places_rise base history faithful no_pivot apart t u (Contains-from_in history t t_in) (Contains-from_in history u u_in) e
 
   -- of two writers of a key the one that committed first stands first
-  writers_rise : (k : Bytes) (t u : Record) → In t history → In u history → writes_key t k ≡ true → writes_key u k ≡ true → t.commit < u.commit → Precedes history t u
+  writers_rise : (k : Bytes) (t u : Record) → In t history → In u history → writes_key t k ≡ true → writes_key u k ≡ true → t.commit < u.commit
+      → Precedes history t u
   writers_rise k t u t_in u_in w v less =
       let alike : write_alike t u ≡ true = any_at_key (λ x. writes_key u x) k t.writes w v in
       let e : dependency t u ≡ true = grind (arith, nat_tests) in rise t u t_in u_in e
 
   -- a reader of a key stands behind no writer that its begin didn't see
-  seen : (k : Bytes) (u t : Record) → In u history → In t history → MayPrecede history u t → reads_key t k ≡ true → writes_key u k ≡ true → nat_le u.commit t.begin ≡ true
+  seen : (k : Bytes) (u t : Record) → In u history → In t history → MayPrecede history u t → reads_key t k ≡ true → writes_key u k ≡ true
+      → nat_le u.commit t.begin ≡ true
   seen k u t u_in t_in may read w =
       let reads : reads_from t u ≡ true = any_at_key (λ x. reads_key t x) k u.writes w read in
       let back : dependency t u ≡ true → ⊥ = λ e. both_ways _ may.not_after (rise t u t_in u_in e) in
@@ -245,10 +287,12 @@ module _ (base : KeyMap) (history : List Record) (faithful : IsFaithful base his
 
   -- the writers of a key stand in the order of their commits
   writers_kept : (k : Bytes) → writing k (by_place history history) ≡ writing k history
-  writers_kept k = filter_by_place history (λ r. writes_key r k) history (writers_in_place k history (each_in (λ t. In t history) history (λ t h. h)) (rising_from_numbered 0 history faithful.numbered))
+  writers_kept k = filter_by_place history (λ r. writes_key r k) history
+      (writers_in_place k history (each_in (λ t. In t history) history (λ t h. h)) (rising_from_numbered 0 history faithful.numbered))
 
   in_order : AllByRecursion (λ t. In t history) (by_place history history)
-  in_order = each_permuted history (λ t. In t history) history (by_place history history) (permuted_by_place history history) (each_in (λ t. In t history) history (λ t h. h))
+  in_order = each_permuted history (λ t. In t history) history (by_place history history) (permuted_by_place history history)
+      (each_in (λ t. In t history) history (λ t h. h))
 
   ordered : IsPairwise (MayPrecede history) (by_place history history)
   ordered = ordered_by_place history history (rising_from_numbered 0 history faithful.numbered)
@@ -262,12 +306,16 @@ module _ (base : KeyMap) (history : List Record) (faithful : IsFaithful base his
       let order = ordered_split history front t rest (subst (IsPairwise (MayPrecede history)) split ordered) in
       let begins : t.begin < t.commit = (true_record t t_in).begins_before in
       let early : AllByRecursion (λ u. writes_key u k ≡ true → nat_le u.commit t.begin ≡ true) front =
-      each_in _ front (λ u u_in w. seen k u t (at_in (λ v. In v history) front u (all-front (λ v. In v history) front (t ∷ rest) are) u_in) t_in (at_in (λ v. MayPrecede history v t) front u order.0 u_in) read w) in
-      let late : AllByRecursion (λ u. nat_le u.commit t.begin ≡ false) (t ∷ rest) =
-      (lt-leb t.commit t.begin begins, all-each (MayPrecede history t) _ rest (λ u may. lt-leb u.commit t.begin (began_before base history faithful t u t_in may)) order.1) in
+      each_in _ front (λ u u_in w. seen k u t (at_in (λ v. In v history) front u (all-front (λ v. In v history) front (t ∷ rest) are) u_in) t_in
+      (at_in (λ v. MayPrecede history v t) front u order.0 u_in) read w) in
+      let late : AllByRecursion (λ u. nat_le u.commit t.begin ≡ false) (t ∷ rest) = (
+        lt-leb t.commit t.begin begins,
+        all-each (MayPrecede history t) _ rest (λ u may. lt-leb u.commit t.begin (began_before base history faithful t u t_in may)) order.1,
+      ) in
       ap (λ m. value_at m k) (map_at_is base history t.begin)
       ∙ value_by_writers k (up_to t.begin history) base base refl
-      ∙ ap (λ rs. value_at (after_all base rs) k) (filter_swap (λ r. writes_key r k) (λ r. nat_le r.commit t.begin) history ∙ ap (up_to t.begin) (sym (writers_kept k) ∙ ap (writing k) split)
+      ∙ ap (λ rs. value_at (after_all base rs) k) (filter_swap (λ r. writes_key r k) (λ r. nat_le r.commit t.begin) history
+      ∙ ap (up_to t.begin) (sym (writers_kept k) ∙ ap (writing k) split)
       ∙ filter_before (λ r. nat_le r.commit t.begin) (λ r. writes_key r k) front (t ∷ rest) early late)
       ∙ sym (value_by_writers k front base base refl)
 
@@ -277,10 +325,13 @@ module _ (base : KeyMap) (history : List Record) (faithful : IsFaithful base his
   walk front (t ∷ rest) split =
       let t_in : In t history = (all-back (λ u. In u history) front (t ∷ rest) (subst (AllByRecursion (λ u. In u history)) split in_order)).0 in
       let is = true_record t t_in in
-      let was : IsMap (map_at base history t.begin) = subst IsMap (sym (map_at_is base history t.begin)) (IsMap-after_all base (up_to t.begin history) faithful.is_map) in
-      let here = replayed (map_at base history t.begin) (after_all base front) t.requests was (IsMap-after_all base front faithful.is_map) (λ k h. agrees front t rest split k (ap (λ ms. is_covered ms k) is.reads ∙ h)) in
+      let was : IsMap (map_at base history t.begin) =
+      subst IsMap (sym (map_at_is base history t.begin)) (IsMap-after_all base (up_to t.begin history) faithful.is_map) in
+      let here = replayed (map_at base history t.begin) (after_all base front) t.requests was (IsMap-after_all base front faithful.is_map)
+      (λ k h. agrees front t rest split k (ap (λ ms. is_covered ms k) is.reads ∙ h)) in
       let left : (copy_after (copy_of (after_all base front)) t.requests).contents ≡ after_all base (front ++ t ∷ []) =
-      here.contents ∙ ap (after_writes (after_all base front)) (sym is.writes) ∙ sym (fold-append (λ (b : KeyMap) (r : Record). after_writes b r.writes) base front (t ∷ [])) in
+      here.contents ∙ ap (after_writes (after_all base front)) (sym is.writes)
+      ∙ sym (fold-append (λ (b : KeyMap) (r : Record). after_writes b r.writes) base front (t ∷ [])) in
       let next = walk (front ++ t ∷ []) rest (split ∙ sym (append_assoc front (t ∷ []) rest)) in (
         (sym here.replies ∙ sym is.replies, subst (λ m. ReplaysReplies m rest) (sym left) next.0),
         ap (λ m. replay m rest) left ∙ next.1 ∙ ap (after_all base) (append_assoc front (t ∷ []) rest),
@@ -288,10 +339,13 @@ module _ (base : KeyMap) (history : List Record) (faithful : IsFaithful base his
 
   same_end_map : after_all base (by_place history history) ≡ map_at base history (length history)
   same_end_map =
-      same_map (after_all base (by_place history history)) (after_all base history) (IsMap-after_all base (by_place history history) faithful.is_map) (IsMap-after_all base history faithful.is_map)
-      (λ k. value_by_writers k (by_place history history) base base refl ∙ ap (λ rs. value_at (after_all base rs) k) (writers_kept k) ∙ sym (value_by_writers k history base base refl))
+      same_map (after_all base (by_place history history)) (after_all base history) (IsMap-after_all base (by_place history history) faithful.is_map)
+      (IsMap-after_all base history faithful.is_map)
+      (λ k. value_by_writers k (by_place history history) base base refl ∙ ap (λ rs. value_at (after_all base rs) k) (writers_kept k)
+      ∙ sym (value_by_writers k history base base refl))
       ∙ ap (after_all base) (sym (filter_all (λ r. nat_le r.commit (length history)) history
-      (all-each (λ r. r.commit ≤ 0 + length history) _ history (λ r low. le-leb r.commit (length history) (omega arith)) (commit_low 0 history faithful.numbered))))
+      (all-each (λ r. r.commit
+      ≤ 0 + length history) _ history (λ r low. le-leb r.commit (length history) (omega arith)) (commit_low 0 history faithful.numbered))))
       ∙ sym (map_at_is base history (length history))
 
 pub replay_law : ReplayLaw
@@ -299,7 +353,8 @@ unfolding serial_order
 replay_law base history faithful no_pivot apart =
     let w = walk base history faithful no_pivot apart [] (by_place history history) refl in record {
       each_once = permuted_by_place history history;
-      real_time = in_time base history faithful (by_place history history) (in_order base history faithful no_pivot apart) (ordered base history faithful no_pivot apart);
+      real_time = in_time base history faithful (by_place history history) (in_order base history faithful no_pivot apart)
+          (ordered base history faithful no_pivot apart);
       replies = w.0;
       final_map = w.1 ∙ same_end_map base history faithful no_pivot apart;
     }
@@ -317,8 +372,10 @@ Began a b = a.begin < b.commit
 
 ahead : (order : List Record) (a b : Record) → AllPairs Began order → b.begin < b.commit → a.commit ≤ b.begin → In a order → In b order → IsAhead order a b
 ahead [] a b time begins over a_in b_in = absurd a_in
-ahead (x ∷ xs) a b time begins over (inl a_is) (inl b_is) = let same : a.commit ≡ b.commit = ap (λ (r : Record). r.commit) (a_is ∙ sym b_is) in absurd (omega arith)
-ahead (x ∷ xs) a b time begins over (inl a_is) (inr b_later) = let s = split_at xs b b_later in ([], s.0, s.1, ap (λ z. z ∷ xs) (sym a_is) ∙ ap (λ l. a ∷ l) s.2)
+ahead (x ∷ xs) a b time begins over (inl a_is) (inl b_is) = let same : a.commit ≡ b.commit =
+    ap (λ (r : Record). r.commit) (a_is ∙ sym b_is) in absurd (omega arith)
+ahead (x ∷ xs) a b time begins over (inl a_is) (inr b_later) = let s =
+    split_at xs b b_later in ([], s.0, s.1, ap (λ z. z ∷ xs) (sym a_is) ∙ ap (λ l. a ∷ l) s.2)
 ahead (x ∷ xs) a b time begins over (inr a_later) (inl b_is) =
     let none : x.begin < a.commit = All-contains (Began x) xs a (λ k d lt. time 0 (suc k) d (omega arith) (omega arith)) (Contains-from_in xs a a_later) in
     let same : b.begin ≡ x.begin = ap (λ (r : Record). r.begin) b_is in absurd (omega arith)
@@ -328,4 +385,5 @@ ahead (x ∷ xs) a b time begins over (inr a_later) (inr b_later) =
 
 pub orders_keep_time : OrdersKeepTime
 orders_keep_time base history order faithful serial a b a_in b_in over = ahead order a b serial.real_time (begins_before base history faithful b b_in) over
-    (in_from_Contains order a (Contains-permutation history order a serial.each_once a_in)) (in_from_Contains order b (Contains-permutation history order b serial.each_once b_in))
+    (in_from_Contains order a (Contains-permutation history order a serial.each_once a_in))
+    (in_from_Contains order b (Contains-permutation history order b serial.each_once b_in))

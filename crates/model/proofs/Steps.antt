@@ -1,5 +1,12 @@
 -- What one more request adds to a transaction, and what a step leaves of the sessions: for those who show that an engine steps as the machine does.
-use Rattle.model.proofs.Words.{◌≡◌, ℕ, not, cond, List, [], ◌∷◌, ◌++◌, Some, None, refl, sym, ap, ◌==◌, nat_cmp, eq_by_cmp, find-put, find-where_key, nat_cmp_total, exact_unsigned, Operation, PrivateCopy, copy_after, respond, Running, State, running_of, with_running, leave}
+use Rattle.std.proofs.Common.{◌≡◌, ℕ, not, cond, List, [], ◌∷◌, ◌++◌, Some, None, refl, sym, ap, ◌==◌, nat_cmp}
+use Rattle.std.proofs.lemmas.Cmp.{nat_cmp_total}
+use Rattle.std.proofs.lemmas.Map.Lookups.{exact_unsigned}
+use Rattle.std.specs.FinMap.Entries.{find-put, find-where_key}
+use Rattle.std.specs.Ordering.{eq_by_cmp}
+use Rattle.model.specs.Machine.{Running, State, running_of, with_running, leave}
+use Rattle.model.specs.Operations.{Operation}
+use Rattle.model.specs.PrivateCopy.{PrivateCopy, copy_after, respond}
 
 -- ---- a transaction after one more request
 
@@ -9,7 +16,8 @@ copy_after-push c (p ∷ qs) q = copy_after-push (respond c p).1 qs q
 
 -- ---- the sessions after a step
 
-pub running_of-with_running : (st : State) (s : ℕ) (t : Running) (q : ℕ) → running_of (with_running st s t) q ≡ cond (eq_by_cmp nat_cmp q s) (Some t) (running_of st q)
+pub running_of-with_running : (st : State) (s : ℕ) (t : Running) (q : ℕ)
+    → running_of (with_running st s t) q ≡ cond (eq_by_cmp nat_cmp q s) (Some t) (running_of st q)
 running_of-with_running st s t q = find-put nat_cmp nat_cmp_total q s t st.running
 
 pub running_of-leave : (st : State) (s q : ℕ) → running_of (leave st s) q ≡ cond (not (q == s)) (running_of st q) None

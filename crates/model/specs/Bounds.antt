@@ -1,4 +1,5 @@
--- The bounds of keys and values, which are this project's own, and what follows from them for all that holds keys and values.
+-- The bounds of keys and values, which are this project's own, and what follows from them for all that holds keys and
+-- values.
 use Rattle.std.specs.Prelude.{ℕ, ◌+◌, ◌*◌, ◌/◌}
 
 -- the most bytes of a key, and the digits of this number
@@ -15,7 +16,8 @@ value_max = 16384
 abbrev pub value_digits : ℕ
 value_digits = 5
 
--- how long a bulk string of so many bytes is: `$`, its length in so many digits, the line's end, the bytes, the line's end
+-- how long a bulk string of so many bytes is: `$`, its length in so many digits, the line's end, the bytes, the line's
+-- end
 abbrev pub bulk_size : ℕ → ℕ → ℕ
 bulk_size digits n = 1 + digits + 2 + n + 2
 
@@ -35,7 +37,8 @@ inbox_max = 8 * value_max
 abbrev pub range_reply_max : ℕ
 range_reply_max = 1 + 3 + 2 + 128 * (bulk_size key_digits key_max + part_max)
 
--- the longest entry of a log record over values of so many bytes: the key's length, the key, what it is, the value's length, the value
+-- the longest entry of a log record over values of so many bytes: the key's length, the key, what it is, the value's
+-- length, the value
 abbrev pub entry_bound : ℕ → ℕ
 entry_bound value = 2 + key_max + 1 + 4 + value
 

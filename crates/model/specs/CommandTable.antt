@@ -1,10 +1,12 @@
--- The table of commands: which operation a request's parts ask for, or which refusal they get. It is this project's own. Of several
--- faults the first is refused: the name, the number of parts, the keys from left to right, the limit.
-use Rattle.std.specs.Prelude.{ℕ, zero, suc, ◌==◌, ◌&&◌, nat_le, Bool, if◌then◌else◌, List, [], length, slice_index_or, codes, Option, Some, None, Result, Ok, Err, decimal}
-use Rattle.std.specs.Str.{bytes_eq, str_eq_ignore_ascii_case}
-use Rattle.model.specs.{declared.refusals.Refusal.Refusal, Operations.Operation}
+-- The table of commands: which operation a request's parts ask for, or which refusal they get. It is this project's
+-- own. Of several faults the first is refused: the name, the number of parts, the keys from left to right, the limit.
 use Rattle.model.specs.declared.refusals.Refusal.TheVariants as refusals
+use Rattle.std.specs.Prelude.{ℕ, zero, suc, ◌==◌, ◌&&◌, nat_le, Bool, if◌then◌else◌, List, [], length, slice_index_or}
+use Rattle.std.specs.Prelude.{codes, Option, Some, None, Result, Ok, Err, decimal}
+use Rattle.std.specs.Str.{bytes_eq, str_eq_ignore_ascii_case}
+use Rattle.model.specs.Operations.{Operation}
 use Rattle.model.specs.Operations.Operation.{Begin, Get, Set, Del, Range, Commit, Abort, Ping}
+use Rattle.model.specs.declared.refusals.Refusal.{Refusal}
 
 -- the first refusal ends it
 infixl 10 ◌>>=◌

@@ -1,8 +1,8 @@
--- Cycles of dependencies. That each one has a pivot, and that the one after it committed first of all, is the theorem of Fekete et al.
--- (2005), here for this project's dependencies.
+-- Cycles of dependencies. That each one has a pivot, and that the one after it committed first of all, is the theorem
+-- of Fekete et al. (2005), here for this project's dependencies.
 use Rattle.std.specs.Prelude.{◌≡◌, ◌≤◌, ◌<◌, ◌++◌, ◌∷◌, [], List, IsTrue, All, AllPairs, Contains, take}
-use Rattle.model.specs.History.{Record}
 use Rattle.model.specs.Dependency.{dependency, makes_pivot, is_pivot, is_dangerous_pivot, NoConcurrentWriters}
+use Rattle.model.specs.History.{Record}
 
 -- a dependency from a to the first of rs, from each of rs to the next, and from the last to z
 abbrev pub IsPath : Record → List Record → Record → Type 0
@@ -31,16 +31,19 @@ pub record PivotInCycle (cycle : List Record) : Type 0 where
 -- without concurrent writers of one key each cycle has a pivot
 abbrev pub CycleLaw : Type 0
 CycleLaw = (history cycle : List Record) →
-    AllPairs (λ a b. a.commit < b.commit) history → All (λ r. r.begin < r.commit) history → NoConcurrentWriters history →
+    AllPairs (λ a b. a.commit < b.commit) history → All (λ r. r.begin < r.commit) history → NoConcurrentWriters history
+    →
     All (Contains history) cycle → IsCycle cycle → PivotInCycle cycle
 
 -- a dangerous pivot is a pivot
 abbrev pub DangerousPivotLaw : Type 0
-DangerousPivotLaw = (history : List Record) (p : Record) → IsTrue (is_dangerous_pivot history p) → IsTrue (is_pivot history p)
+DangerousPivotLaw = (history : List Record) (p : Record) → IsTrue (is_dangerous_pivot history p)
+    → IsTrue (is_pivot history p)
 
 -- without concurrent writers of one key each cycle has a dangerous pivot
 abbrev pub DangerousCycleLaw : Type 0
 DangerousCycleLaw = (history cycle : List Record) →
-    AllPairs (λ a b. a.commit < b.commit) history → All (λ r. r.begin < r.commit) history → NoConcurrentWriters history →
+    AllPairs (λ a b. a.commit < b.commit) history → All (λ r. r.begin < r.commit) history → NoConcurrentWriters history
+    →
     All (Contains history) cycle → IsCycle cycle →
     (p : Record) × Contains cycle p × IsTrue (is_dangerous_pivot history p)

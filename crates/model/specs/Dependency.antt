@@ -1,10 +1,12 @@
--- Which committed transactions are concurrent, and which depend on which. The three kinds of dependency are Adya's (1999); which pairs
--- count is this project's profile. Concurrency is that of Fekete et al. (2005). The pivot is theirs, and that of Cahill, Röhm, Fekete
--- (2008): the middle of a dangerous structure. That a structure is dangerous only where its target committed first is the test of commit order
--- of Ports and Grittner (2012).
-use Rattle.std.specs.Prelude.{◌≢◌, Bool, ◌&&◌, ◌||◌, not, List, Contains, nat_lt, nat_le, ◌==◌, IsTrue}
+-- Which committed transactions are concurrent, and which depend on which. The three kinds of dependency are Adya's
+-- (1999); which pairs count is this project's profile. Concurrency is that of Fekete et al. (2005). The pivot is
+-- theirs, and that of Cahill, Röhm, Fekete (2008): the middle of a dangerous structure. That a structure is dangerous
+-- only where its target committed first is the test of commit order of Ports and Grittner (2012).
 use Rattle.std.specs.List.{list_any}
-use Rattle.model.specs.{Map.Bytes, Map.is_same_key, PrivateCopy.is_covered, History.Record}
+use Rattle.std.specs.Prelude.{◌≢◌, Bool, ◌&&◌, ◌||◌, not, List, Contains, nat_lt, nat_le, ◌==◌, IsTrue}
+use Rattle.model.specs.History.{Record}
+use Rattle.model.specs.Map.{Bytes, is_same_key}
+use Rattle.model.specs.PrivateCopy.{is_covered}
 
 -- each began before the other committed
 abbrev pub is_concurrent : Record → Record → Bool

@@ -1,6 +1,9 @@
 -- Where a key's entry stands among entries by rising key, or would stand: what a binary search finds.
-use Rattle.std.specs.Prelude.{◌≡◌, ℕ, ◌<◌, ◌≤◌, not, List, length, take, drop, Some, None, slice_index_or, slice_set, insert}
-use Rattle.std.specs.{Ordering.nat_cmp, Ordering.is_lt, Cmp.Lexicographic.slice_cmp, FinMap.Entries.find, FinMap.Entries.put, FinMap.Entries.where_key}
+use Rattle.std.specs.Cmp.Lexicographic.{slice_cmp}
+use Rattle.std.specs.FinMap.Entries.{find, put, where_key}
+use Rattle.std.specs.Ordering.{nat_cmp, is_lt}
+use Rattle.std.specs.Prelude.{◌≡◌, ℕ, ◌<◌, ◌≤◌, not, List, length, take, drop, Some, None, slice_index_or, slice_set}
+use Rattle.std.specs.Prelude.{insert}
 use Rattle.model.specs.Map.{Bytes, key_cmp}
 
 -- the key's entry stands at place i

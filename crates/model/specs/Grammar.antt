@@ -1,5 +1,5 @@
--- The grammar of requests: which byte strings spell which list of parts. The framing is RESP2's: a request is an array of bulk
--- strings. The bounds are this project's own.
+-- The grammar of requests: which byte strings spell which list of parts. The framing is RESP2's: a request is an array
+-- of bulk strings. The bounds are this project's own.
 use Rattle.std.specs.Prelude.{◌≡◌, ℕ, ◌<◌, ◌≤◌, List, [], ◌∷◌, ◌++◌, length, take, All, flat_map, decimal}
 use Rattle.model.specs.Bounds.{value_max}
 

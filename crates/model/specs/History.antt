@@ -1,5 +1,5 @@
--- Histories: committed transactions in the order of their commits, and the map at each commit number. The records are this project's
--- profile of multiversion histories (Adya 1999).
+-- Histories: committed transactions in the order of their commits, and the map at each commit number. The records are
+-- this project's profile of multiversion histories (Adya 1999).
 use Rattle.std.specs.Prelude.{◌≡◌, ℕ, suc, ◌<◌, List, [], ◌∷◌, nat_le, if◌then◌else◌, ⊤, All}
 use Rattle.model.specs.Map.{KeyMap, KeyWrite, IsMap, after_writes}
 use Rattle.model.specs.Operations.{Operation, Response}
@@ -18,7 +18,14 @@ pub record Record : Type 0 where
 
 -- the transaction that began at b, committed at c and made these requests of its private copy of m
 abbrev pub record_of : ℕ → ℕ → KeyMap → List Operation → List Response → Record
-record_of b c m qs rs = record { begin = b; commit = c; requests = qs; replies = rs; reads = reads m qs; writes = writes m qs }
+record_of b c m qs rs = record {
+  begin = b;
+  commit = c;
+  requests = qs;
+  replies = rs;
+  reads = reads m qs;
+  writes = writes m qs;
+}
 
 -- the map with the writes of the records up to commit number n
 abbrev pub map_at : KeyMap → List Record → ℕ → KeyMap

@@ -1,6 +1,6 @@
 -- The bytes that lent keys and lent pairs show.
-use Rattle.std.specs.Prelude.{List, ℕ, Option, option_map}
 use Rattle.std.specs.Borrow.{Bor}
+use Rattle.std.specs.Prelude.{List, ℕ, Option, option_map}
 use Rattle.model.specs.declared.keys.KeyRef.{KeyRef}
 
 -- the bytes of a lent key

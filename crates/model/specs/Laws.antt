@@ -1,11 +1,18 @@
 -- The laws of histories and of the machine's runs.
 use Rattle.std.specs.Prelude.{◌≡◌, ◌<◌, ◌≤◌, ℕ, Bool, List, ◌∷◌, ◌++◌, Some, None, IsTrue, IfErr, All, Contains}
-use Rattle.model.specs.{declared.refusals.Refusal.Refusal, Map.Bytes, Map.KeyMap, CommandTable.command_in, Operations.Operation.Begin, Operations.Operation.Commit}
-use Rattle.model.specs.declared.refusals.Refusal.TheVariants.{UnknownCommand, BadArguments, BadKey, BadLimit}
-use Rattle.model.specs.{Operations.Response.Number, Operations.Response.Refused, PrivateCopy.copy_of, PrivateCopy.responses, History.Record, History.IsFaithful}
-use Rattle.model.specs.{Dependency.dependency, Dependency.NoConcurrentWriters, Verdict.verdict, Verdict.is_conflict, Verdict.HasNoDangerousPivot}
-use Rattle.model.specs.Machine.{State, Running, Input, IsReached, last, snapshot, running_of, record_to_commit, step, state_after}
+use Rattle.model.specs.CommandTable.{command_in}
+use Rattle.model.specs.Dependency.{dependency, NoConcurrentWriters}
+use Rattle.model.specs.History.{Record, IsFaithful}
+use Rattle.model.specs.Machine.{State, Running, Input, IsReached, last, snapshot, running_of, record_to_commit, step}
+use Rattle.model.specs.Machine.{state_after}
+use Rattle.model.specs.Map.{Bytes, KeyMap}
+use Rattle.model.specs.Operations.Operation.{Begin, Commit}
+use Rattle.model.specs.Operations.Response.{Number, Refused}
+use Rattle.model.specs.PrivateCopy.{copy_of, responses}
 use Rattle.model.specs.SerialOrder.{IsSerialOrder, place, is_before, serial_order}
+use Rattle.model.specs.Verdict.{verdict, is_conflict, HasNoDangerousPivot}
+use Rattle.model.specs.declared.refusals.Refusal.{Refusal}
+use Rattle.model.specs.declared.refusals.Refusal.TheVariants.{UnknownCommand, BadArguments, BadKey, BadLimit}
 
 -- each dependency leads to a later place
 abbrev pub DependenciesRise : List Record → Type 0
@@ -35,19 +42,20 @@ IsAhead order a b = (front middle back : List Record) × (order ≡ front ++ a �
 
 -- in a serial order one that had committed when another began stands before that
 abbrev pub OrdersKeepTime : Type 0
-OrdersKeepTime = (base : KeyMap) (history order : List Record) → IsFaithful base history → IsSerialOrder base history order →
+OrdersKeepTime = (base : KeyMap) (history order : List Record) → IsFaithful base history
+    → IsSerialOrder base history order →
     (a b : Record) → Contains history a → Contains history b → a.commit ≤ b.begin → IsAhead order a b
 
--- Where a COMMIT was answered a number, and some inputs later a BEGIN opens a transaction, that number is at most the begin number. So who was
--- answered before another's BEGIN is executed stands before it in a serial order.
+-- Where a COMMIT was answered a number, and some inputs later a BEGIN opens a transaction, that number is at most the
+-- begin number. So who was answered before another's BEGIN is executed stands before it in a serial order.
 abbrev pub AnswersComeBefore : Type 0
 AnswersComeBefore = (st : State) (s n : ℕ) (failed : Bool) → (step st s Commit failed).1 ≡ Number n →
     (inputs : List Input) (s' : ℕ) (failed' : Bool) (t : Running) →
     let later : State = state_after (step st s Commit failed).0 inputs in
     running_of later s' ≡ None → running_of (step later s' Begin failed').0 s' ≡ Some t → n ≤ t.begin
 
--- each committed transaction was answered as a private copy of the map committed at its begin answers its own requests alone, and the
--- committed transactions have a serial order
+-- each committed transaction was answered as a private copy of the map committed at its begin answers its own requests
+-- alone, and the committed transactions have a serial order
 pub record IsSerializable (st : State) : Type 0 where
   pub faithful : IsFaithful st.base st.history
   pub order : List Record
@@ -94,7 +102,9 @@ abbrev pub LastMayCommit : Type 0
 LastMayCommit = (st : State) → IsReached st → (s : ℕ) (t : Running) → running_of st s ≡ Some t → t.begin ≡ last st →
     verdict st.history (record_to_commit st t) ≡ None
 
--- So where a COMMIT is refused for a conflict, another transaction has committed since its BEGIN: of those that contend one gets through.
+-- So where a COMMIT is refused for a conflict, another transaction has committed since its BEGIN: of those that contend
+-- one gets through.
 abbrev pub ConflictsAreRecent : Type 0
-ConflictsAreRecent = (st : State) → IsReached st → (s : ℕ) (t : Running) → running_of st s ≡ Some t → (failed : Bool) (refusal : Refusal) →
+ConflictsAreRecent = (st : State) → IsReached st → (s : ℕ) (t : Running) → running_of st s ≡ Some t
+    → (failed : Bool) (refusal : Refusal) →
     (step st s Commit failed).1 ≡ Refused refusal → IsTrue (is_conflict refusal) → t.begin < last st

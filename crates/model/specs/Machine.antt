@@ -1,12 +1,18 @@
 -- The store as a machine that takes one request of one session at a time. It is this project's own.
-use Rattle.std.specs.Prelude.{◌≡◌, ℕ, suc, ◌+◌, ◌-◌, ◌/◌, ◌^◌, Bool, true, false, List, [], ◌∷◌, ◌++◌, Option, Some, None, length, not, nat_lt, nat_le, ◌==◌, if◌then◌else◌}
-use Rattle.std.specs.{Ordering.nat_cmp, FinMap.Entries.find, FinMap.Entries.put, FinMap.Entries.where_key}
-use Rattle.model.specs.{declared.refusals.Refusal.Refusal, Operations.Operation, Operations.Response, PrivateCopy.answer, Verdict.verdict}
-use Rattle.model.specs.declared.refusals.Refusal.TheVariants.{NotOpen, FullTransactions, FullLog, StoreFault, StoreStopped, FullNumbers}
+use Rattle.std.specs.FinMap.Entries.{find, put, where_key}
+use Rattle.std.specs.Ordering.{nat_cmp}
+use Rattle.std.specs.Prelude.{◌≡◌, ℕ, suc, ◌+◌, ◌-◌, ◌/◌, ◌^◌, Bool, true, false, List, [], ◌∷◌, ◌++◌, Option, Some}
+use Rattle.std.specs.Prelude.{None, length, not, nat_lt, nat_le, ◌==◌, if◌then◌else◌}
+use Rattle.model.specs.History.{Record, record_of, map_at}
 use Rattle.model.specs.Map.{Bytes, KeyMap, KeyWrite, IsMap}
+use Rattle.model.specs.Operations.{Operation, Response}
 use Rattle.model.specs.Operations.Operation.{Begin, Get, Set, Del, Range, Commit, Abort, Ping, Faulty}
 use Rattle.model.specs.Operations.Response.{Done, Pong, Number, Refused}
-use Rattle.model.specs.History.{Record, record_of, map_at}
+use Rattle.model.specs.PrivateCopy.{answer}
+use Rattle.model.specs.Verdict.{verdict}
+use Rattle.model.specs.declared.refusals.Refusal.{Refusal}
+use Rattle.model.specs.declared.refusals.Refusal.TheVariants.{NotOpen, FullTransactions, FullLog, StoreFault}
+use Rattle.model.specs.declared.refusals.Refusal.TheVariants.{StoreStopped, FullNumbers}
 
 -- an open transaction: its begin number, and its own requests with the replies to them
 pub record Running : Type 0 where
@@ -72,7 +78,8 @@ refuse st s refusal = (leave st s, Refused refusal)
 
 -- the record joins the history, and its sectors the log
 abbrev pub join_history : State → ℕ → Record → ℕ → State × Response
-join_history st s r sectors = (record (leave st s) { history = st.history ++ r ∷ []; used = st.used + sectors }, Number r.commit)
+join_history st s r sectors =
+    (record (leave st s) { history = st.history ++ r ∷ []; used = st.used + sectors }, Number r.commit)
 
 -- a commit without conflict, where `failed` says that the device failed in the call. Without writes nothing is stored
 abbrev pub store : State → ℕ → Record → List KeyWrite → Bool → State × Response
@@ -97,7 +104,8 @@ commit st s t failed =
 abbrev pub step_outside : State → ℕ → Operation → State × Response
 step_outside st s Begin =
     if st.stopped then (st, Refused StoreStopped)
-    else (if nat_lt (length st.running) 64 then (with_running st s (record { begin = last st; requests = []; replies = [] }), Done)
+    else (if nat_lt (length st.running) 64 then
+    (with_running st s (record { begin = last st; requests = []; replies = [] }), Done)
     else (st, Refused FullTransactions))
 step_outside st s Ping = (st, Pong)
 step_outside st s (Faulty refusal) = (st, Refused refusal)
@@ -110,7 +118,11 @@ step_outside st s Abort = (st, Refused NotOpen)
 
 -- an own request of the transaction t
 abbrev pub own_step : State → ℕ → Running → Operation → State × Response
-own_step st s t q = (with_running st s (record { begin = t.begin; requests = t.requests ++ q ∷ []; replies = t.replies ++ reply ∷ [] }), reply)
+own_step st s t q = (
+  with_running st s
+      (record { begin = t.begin; requests = t.requests ++ q ∷ []; replies = t.replies ++ reply ∷ [] }),
+  reply,
+)
   where
     reply : Response
     reply = answer (snapshot st t) t.requests q
@@ -129,7 +141,8 @@ step_of (Some t) st s q failed = step_inside st s t q failed
 unfoldable pub step : State → ℕ → Operation → Bool → State × Response
 step st s q failed = step_of (running_of st s) st s q failed
 
--- what the machine is given: a request of a session, with whether the device failed in the call, or the end of a session
+-- what the machine is given: a request of a session, with whether the device failed in the call, or the end of a
+-- session
 pub data Input : Type 0 where
   Asks : ℕ → Operation → Bool → Input
   Leaves : ℕ → Input

@@ -1,9 +1,10 @@
--- Keys, ranges of keys, and finite maps from keys to values. Keys stand in the order of their bytes, a shorter key before its
--- extensions.
-use Rattle.std.specs.Prelude.{ℕ, ⊤, Bool, T, true, not, ◌&&◌, List, [], ◌∷◌, Option, Some, None}
-use Rattle.std.specs.{declared.cmp.Ordering.Ordering, Cmp.Lexicographic.slice_cmp}
-use Rattle.std.specs.Ordering.{is_eq, is_lt, is_le, nat_cmp}
+-- Keys, ranges of keys, and finite maps from keys to values. Keys stand in the order of their bytes, a shorter key
+-- before its extensions.
+use Rattle.std.specs.Cmp.Lexicographic.{slice_cmp}
 use Rattle.std.specs.FinMap.Entries.{find, put, where_key, is_sorted}
+use Rattle.std.specs.Ordering.{is_eq, is_lt, is_le, nat_cmp}
+use Rattle.std.specs.Prelude.{ℕ, ⊤, Bool, T, true, not, ◌&&◌, List, [], ◌∷◌, Option, Some, None}
+use Rattle.std.specs.declared.cmp.Ordering.{Ordering}
 use Rattle.model.specs.Key.{IsKey, IsValue}
 
 abbrev pub Bytes : Type 0

@@ -1,7 +1,11 @@
 -- What a session asks and what it is answered, as plain values. The commands are this project's own.
 use Rattle.std.specs.Prelude.{ℕ, ◌≤◌, List, Option, option_copied}
-use Rattle.model.specs.{declared.refusals.Refusal.Refusal, declared.commands.Command.Command, declared.commands.Reply.Reply, Key.IsValue, Map.Bytes}
+use Rattle.model.specs.Key.{IsValue}
 use Rattle.model.specs.KeyBytes.{key_bytes, end_bytes}
+use Rattle.model.specs.Map.{Bytes}
+use Rattle.model.specs.declared.commands.Command.{Command}
+use Rattle.model.specs.declared.commands.Reply.{Reply}
+use Rattle.model.specs.declared.refusals.Refusal.{Refusal}
 
 -- a request: a command, or one that is refused for its form
 pub data Operation : Type 0 where

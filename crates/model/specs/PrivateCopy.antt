@@ -1,13 +1,18 @@
--- A transaction alone: its private copy of a map, as in snapshot isolation (Fekete et al. 2005), the keys that it has written, and
--- the marks of what it has read. The marks are this project's profile: a range marks all its keys, present or not, up to the last key of a
--- reply that reached its limit.
-use Rattle.std.specs.Prelude.{ℕ, ◌∷◌, [], ◌++◌, List, Bool, true, false, ◌&&◌, length, take, Option, Some, None, nat_lt, ◌==◌, if◌then◌else◌}
-use Rattle.std.specs.{List.list_any, BTreeSet.insert_key, Ordering.is_le, Ordering.nat_cmp, Cmp.Lexicographic.slice_cmp}
-use Rattle.model.specs.declared.refusals.Refusal.TheVariants.{AlreadyOpen, NotOpen, FullWrites, FullMarks}
-use Rattle.model.specs.Map.{Bytes, key_cmp, is_same_key, KeyMap, KeyWrite, value_at, after_write, is_in_range, is_empty_range, pairs_in_range}
+-- A transaction alone: its private copy of a map, as in snapshot isolation (Fekete et al. 2005), the keys that it has
+-- written, and the marks of what it has read. The marks are this project's profile: a range marks all its keys, present
+-- or not, up to the last key of a reply that reached its limit.
+use Rattle.std.specs.BTreeSet.{insert_key}
+use Rattle.std.specs.Cmp.Lexicographic.{slice_cmp}
+use Rattle.std.specs.List.{list_any}
+use Rattle.std.specs.Ordering.{is_le, nat_cmp}
+use Rattle.std.specs.Prelude.{ℕ, ◌∷◌, [], ◌++◌, List, Bool, true, false, ◌&&◌, length, take, Option, Some, None}
+use Rattle.std.specs.Prelude.{nat_lt, ◌==◌, if◌then◌else◌}
+use Rattle.model.specs.Map.{Bytes, key_cmp, is_same_key, KeyMap, KeyWrite, value_at, after_write, is_in_range}
+use Rattle.model.specs.Map.{is_empty_range, pairs_in_range}
 use Rattle.model.specs.Operations.{Operation, Response}
 use Rattle.model.specs.Operations.Operation.{Begin, Get, Set, Del, Range, Commit, Abort, Ping, Faulty}
 use Rattle.model.specs.Operations.Response.{Done, Pong, Value, Pairs, Refused}
+use Rattle.model.specs.declared.refusals.Refusal.TheVariants.{AlreadyOpen, NotOpen, FullWrites, FullMarks}
 
 -- what a read marks: a key, all keys of a range, or those from a first to a last key, both included
 pub data Mark : Type 0 where
@@ -56,8 +61,8 @@ mark_up_to lo hi (Some last) = OfClosedRange lo last
 abbrev pub page_end : ℕ → List (Bytes × Bytes) → Option Bytes
 page_end limit pairs = if length pairs == limit then last_key pairs else None
 
--- what a RANGE marks whose reply has these pairs: up to the last of them where they are as many as its limit, else the whole range.
--- (A limit of 0, which no command has, gets no pairs and marks the whole range.)
+-- what a RANGE marks whose reply has these pairs: up to the last of them where they are as many as its limit, else the
+-- whole range. (A limit of 0, which no command has, gets no pairs and marks the whole range.)
 abbrev pub mark_of_reply : Bytes → Option Bytes → ℕ → List (Bytes × Bytes) → Mark
 mark_of_reply lo hi limit pairs = mark_up_to lo hi (page_end limit pairs)
 
@@ -90,7 +95,10 @@ after_read c mark response =
 abbrev pub after_put : PrivateCopy → Bytes → Option Bytes → Response × PrivateCopy
 after_put c k v =
     if is_written c k then (Done, record c { contents = after_write c.contents k v })
-    else (if nat_lt (length c.written) 64 then (Done, record c { contents = after_write c.contents k v; written = insert_key (slice_cmp nat_cmp) c.written k })
+    else (if nat_lt (length c.written) 64 then (
+      Done,
+      record c { contents = after_write c.contents k v; written = insert_key (slice_cmp nat_cmp) c.written k },
+    )
     else (Refused FullWrites, c))
 
 -- the response to one request inside the transaction, and the copy after it

@@ -1,9 +1,12 @@
--- The text of each reply. The forms are RESP2's: simple string, error, integer, bulk string, null bulk string, array. The words of
--- the errors are this project's own.
-use Rattle.std.specs.Prelude.{ℕ, ◌*◌, ◌/◌, ◌%◌, List, [], ◌∷◌, ◌++◌, length, slice_index, codes, Some, None, flat_map, decimal}
-use Rattle.model.specs.{Grammar.crlf, Grammar.bulk, Operations.Response, declared.refusals.Refusal.Refusal}
-use Rattle.model.specs.Operations.Response.{Done, Pong, Number, Value, Pairs, Refused}
+-- The text of each reply. The forms are RESP2's: simple string, error, integer, bulk string, null bulk string, array.
+-- The words of the errors are this project's own.
 use Rattle.model.specs.declared.refusals.Refusal.TheVariants as refusals
+use Rattle.std.specs.Prelude.{ℕ, ◌*◌, ◌/◌, ◌%◌, List, [], ◌∷◌, ◌++◌, length, slice_index, codes, Some, None, flat_map}
+use Rattle.std.specs.Prelude.{decimal}
+use Rattle.model.specs.Grammar.{crlf, bulk}
+use Rattle.model.specs.Operations.{Response}
+use Rattle.model.specs.Operations.Response.{Done, Pong, Number, Value, Pairs, Refused}
+use Rattle.model.specs.declared.refusals.Refusal.{Refusal}
 
 -- a byte as two hex digits in lower case
 abbrev pub hex_digit : ℕ → ℕ

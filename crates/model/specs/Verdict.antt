@@ -1,8 +1,13 @@
--- Whether a transaction may commit: the first committer wins (snapshot isolation, Fekete et al. 2005), and no dangerous pivot may
--- appear (Cahill, Röhm, Fekete 2008; Ports, Grittner 2012). Which conflict is named is this project's profile.
-use Rattle.std.specs.Prelude.{Bool, true, false, ◌&&◌, List, [], ◌∷◌, ◌++◌, Option, Some, None, find, nat_lt, if◌then◌else◌, Contains, IsFalse}
+-- Whether a transaction may commit: the first committer wins (snapshot isolation, Fekete et al. 2005), and no dangerous
+-- pivot may appear (Cahill, Röhm, Fekete 2008; Ports, Grittner 2012). Which conflict is named is this project's
+-- profile.
 use Rattle.std.specs.List.{list_any}
-use Rattle.model.specs.{declared.refusals.Refusal.Refusal, Map.Bytes, Map.KeyWrite, History.Record, Dependency.writes_key, Dependency.is_dangerous_pivot}
+use Rattle.std.specs.Prelude.{Bool, true, false, ◌&&◌, List, [], ◌∷◌, ◌++◌, Option, Some, None, find, nat_lt}
+use Rattle.std.specs.Prelude.{if◌then◌else◌, Contains, IsFalse}
+use Rattle.model.specs.Dependency.{writes_key, is_dangerous_pivot}
+use Rattle.model.specs.History.{Record}
+use Rattle.model.specs.Map.{Bytes, KeyWrite}
+use Rattle.model.specs.declared.refusals.Refusal.{Refusal}
 use Rattle.model.specs.declared.refusals.Refusal.TheVariants.{Overwritten, PivotSelf, Pivot}
 
 -- whether the refusal names a conflict
@@ -26,9 +31,9 @@ abbrev pub conflict_of : Option KeyWrite → Option Refusal → Option Refusal
 conflict_of None other = other
 conflict_of (Some w) other = Some (Overwritten w.0)
 
--- the conflict for which t, which would commit next, is refused: the least key of its writes that is overwritten; else t
--- itself, where t is a dangerous pivot; else the dangerous pivot of least commit number. Writes stand by rising key, records by rising
--- commit number.
+-- the conflict for which t, which would commit next, is refused: the least key of its writes that is overwritten; else
+-- t itself, where t is a dangerous pivot; else the dangerous pivot of least commit number. Writes stand by rising key,
+-- records by rising commit number.
 unfoldable pub verdict : List Record → Record → Option Refusal
 verdict history t =
     conflict_of (find (λ w. is_overwritten history t w.0) t.writes)

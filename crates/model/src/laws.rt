@@ -1,6 +1,7 @@
 //! The laws of histories and of the machine. Each is the contract of a function that does nothing.
 ghost use Rattle.model.specs.Cycle.{CycleLaw, DangerousCycleLaw, DangerousPivotLaw};
-ghost use Rattle.model.specs.Laws.{AnswersComeBefore, ConflictsAreRecent, FaultsAreOfForm, LastMayCommit, VerdictHolds};
+ghost use Rattle.model.specs.Laws.{AnswersComeBefore, ConflictsAreRecent, FaultsAreOfForm, LastMayCommit};
+ghost use Rattle.model.specs.Laws.{VerdictHolds};
 ghost use Rattle.model.specs.Laws.{MachineLaw, OrdersKeepTime, PlacesKeepTime, PlacesLaw, PlacesRise, ReplayLaw};
 ghost use Rattle.model.specs.Restarts.{ReplaysFollow, RestartLaw};
 

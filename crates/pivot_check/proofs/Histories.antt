@@ -1,11 +1,33 @@
 -- What is kept decides the verdict over the whole history, and stays what is kept of it.
-use Rattle.pivot_check.proofs.Words.{all-filter, ◌≡◌, ℕ, ◌+◌, ◌<◌, ◌≤◌, Bool, true, cond, ◌&&◌, List, [], ◌∷◌, ◌++◌, Option, Some, None, refl, sym, ap, ◌∙◌, length, map, arith, nat_lt, find, All, list_any, filter, AllByRecursion, option_map, or_left, lt-ltb, ltb-true, false_from_ne_true, nat_tests, common_steps, All-append, All-contains, All-from_recursion, filter-append, map-append, Bytes, is_same_key, is_covered, Record, IsNumberedFrom, In, at_in, each_in, Contains-from_in, in_from_Contains, IsRising, rising_from_numbered, any_filter, any_same, find_alike, find_same, read_write_kept, has_earlier_target, stands_between, earlier_target-push, own_earlier_target, verdict_by_kept, View, KeptRecord, Facts, key_of, keys_of, is_written, leads_to, follows, becomes_pivot, first_number, last_that, last_number, are_in_order, is_own_pivot, own_record, IsInReach, StandsFor, IsRecordOf, kept_of, kept_above}
 use Rattle.model.specs.declared.refusals.Refusal.TheVariants as refusal
-use Rattle.model.specs.Dependency.{writes_key, concurrent_read_write}
-use Rattle.model.specs.Verdict.{verdict, conflict_of, pivot_refusal, is_overwritten, HasNoDangerousPivot}
+use Rattle.std.proofs.Common.{◌≡◌, ℕ, ◌+◌, ◌<◌, ◌≤◌, Bool, true, cond, ◌&&◌, List, [], ◌∷◌, ◌++◌, Option, Some, None}
+use Rattle.std.proofs.Common.{refl, sym, ap, ◌∙◌, length, map, arith}
+use Rattle.std.proofs.lemmas.Bool.{or_left, lt-ltb, ltb-true, false_from_ne_true}
+use Rattle.std.proofs.lemmas.Bool.Decides.{nat_tests}
+use Rattle.std.proofs.lemmas.Grind.{common_steps}
+use Rattle.std.proofs.lemmas.List.{map-append}
+use Rattle.std.proofs.lemmas.List.Elements.{All-append, All-contains, All-from_recursion, filter-append}
+use Rattle.std.specs.List.{list_any, filter, AllByRecursion}
+use Rattle.std.specs.Option.{option_map}
+use Rattle.std.specs.Prelude.{nat_lt, find, All}
+use Rattle.model.proofs.Elements.{all-filter}
 use Rattle.model.proofs.Machines.{in_append_cases, numbered-append, commit_low, clear_from}
-use Rattle.pivot_check.proofs.Lists.{any-map, find-map, filter-map, last_that-map, last_that_same, map_same}
+use Rattle.model.proofs.Members.{In, at_in, each_in, Contains-from_in, in_from_Contains, IsRising}
+use Rattle.model.proofs.Members.{rising_from_numbered}
+use Rattle.model.proofs.Pivots.{any_filter, any_same, find_alike, find_same, read_write_kept, has_earlier_target}
+use Rattle.model.proofs.Pivots.{stands_between, earlier_target-push, own_earlier_target, verdict_by_kept}
+use Rattle.model.specs.Dependency.{writes_key, concurrent_read_write}
+use Rattle.model.specs.History.{Record, IsNumberedFrom}
+use Rattle.model.specs.Map.{Bytes, is_same_key}
+use Rattle.model.specs.PrivateCopy.{is_covered}
+use Rattle.model.specs.Verdict.{verdict, conflict_of, pivot_refusal, is_overwritten, HasNoDangerousPivot}
+use Rattle.snapshot.specs.View.{View}
 use Rattle.pivot_check.proofs.Ends.{number_of, by_ends}
+use Rattle.pivot_check.proofs.Lists.{any-map, find-map, filter-map, last_that-map, last_that_same, map_same}
+use Rattle.pivot_check.specs.Kept.{KeptRecord, Facts, key_of, keys_of, is_written, leads_to, follows, becomes_pivot}
+use Rattle.pivot_check.specs.Kept.{first_number, last_that, last_number, are_in_order, is_own_pivot, own_record}
+use Rattle.pivot_check.specs.Kept.{IsInReach}
+use Rattle.pivot_check.specs.StandsFor.{StandsFor, IsRecordOf, kept_of, kept_above}
 
 in_filter : {X : Type 0} (p : X → Bool) (xs : List X) (x : X) → In x (filter p xs) → In x xs × (p x ≡ true)
 in_filter p [] x h = absurd h
@@ -59,9 +81,12 @@ module _ (f : Facts) (history : List Record) (s : StandsFor f history) (t : View
       grind (arith, nat_tests, begins_low p p_in, before_new p p_in, any-map (is_covered t.marks) key_of p.writes)
 
   -- a test of concurrent records by what is kept of them
-  module _ (test : Record → Bool) (passes : KeptRecord → Bool) (same : (p : Record) → In p history → t.begin < p.commit → test p ≡ passes (kept_of history p)) where
+  module _ (test : Record → Bool) (passes : KeptRecord → Bool) (same : (p : Record) → In p history → t.begin < p.commit
+      → test p ≡ passes (kept_of history p)) where
     alike : AllByRecursion (λ p. test p ≡ passes (kept_of history p)) late
-    alike = each_in (λ p. test p ≡ passes (kept_of history p)) late (λ p p_in. let i = in_filter (λ p. nat_lt t.begin p.commit) history p p_in in same p i.0 (ltb-true t.begin p.commit i.1))
+    alike = each_in (λ p. test p
+        ≡ passes (kept_of history p)) late (λ p p_in. let i =
+        in_filter (λ p. nat_lt t.begin p.commit) history p p_in in same p i.0 (ltb-true t.begin p.commit i.1))
 
     any_kept : list_any test late ≡ list_any passes records
     any_kept = any_same test (λ p. passes (kept_of history p)) late alike ∙ sym (any-map passes (kept_of history) late)
@@ -78,19 +103,25 @@ module _ (f : Facts) (history : List Record) (s : StandsFor f history) (t : View
 
   written : (k : Bytes) → is_overwritten late r k ≡ is_written records k
   written k =
-      any_kept (λ p. writes_key p k && nat_lt r.begin p.commit) (λ q. list_any (is_same_key k) q.keys) (λ p p_in above. grind (arith, nat_tests, any-map (is_same_key k) key_of p.writes))
+      any_kept (λ p. writes_key p k
+      && nat_lt r.begin p.commit) (λ q. list_any (is_same_key k) q.keys) (λ p p_in above. grind (arith, nat_tests, any-map (is_same_key k) key_of p.writes))
 
   overwritten : find (λ w. is_overwritten late r w.0) r.writes ≡ find (λ w. is_written records w.0) t.writes
-  overwritten = find_alike (λ w. is_overwritten late r w.0) (λ w. is_written records w.0) (λ w. written w.0) r.writes ∙ ap (find (λ w. is_written records w.0)) own.writes
+  overwritten = find_alike (λ w. is_overwritten late r w.0) (λ w. is_written records w.0) (λ w. written w.0) r.writes
+      ∙ ap (find (λ w. is_written records w.0)) own.writes
 
   between : stands_between late r ≡ is_own_pivot records t
   between = by_ends (λ x. concurrent_read_write x r) (λ y. concurrent_read_write r y) late (history_rises t.begin 0 history s.numbered)
-      ∙ (λ i. are_in_order (first_kept (concurrent_read_write r) (λ k. follows k t) from_new i) (last_kept (λ x. concurrent_read_write x r) (λ k. leads_to k t) into_new i))
+      ∙ (λ i. are_in_order (first_kept (concurrent_read_write r) (λ k. follows k t) from_new i)
+      (last_kept (λ x. concurrent_read_write x r) (λ k. leads_to k t) into_new i))
 
-  first_pivot : pivot_refusal (find (λ p. concurrent_read_write r p && has_earlier_target history p) late) ≡ option_map refusal.Pivot (first_number (becomes_pivot t) records)
+  first_pivot : pivot_refusal (find (λ p. concurrent_read_write r p && has_earlier_target history p) late)
+      ≡ option_map refusal.Pivot (first_number (becomes_pivot t) records)
   first_pivot =
       refusal_of (find (λ p. concurrent_read_write r p && has_earlier_target history p) late)
-      ∙ ap (option_map refusal.Pivot) (first_kept (λ p. concurrent_read_write r p && has_earlier_target history p) (becomes_pivot t) (λ p p_in above. ap (λ b. b && has_earlier_target history p) (from_new p p_in above)))
+      ∙ ap (option_map refusal.Pivot)
+      (first_kept (λ p. concurrent_read_write r p
+      && has_earlier_target history p) (becomes_pivot t) (λ p p_in above. ap (λ b. b && has_earlier_target history p) (from_new p p_in above)))
 
   -- the verdict over the whole history is one over what is kept
   pub verdict_is : verdict history r ≡ conflict_of (find (λ w. is_written records w.0) t.writes)
@@ -117,12 +148,19 @@ module _ (f : Facts) (history : List Record) (s : StandsFor f history) (t : View
       (λ i. record { begin = p.begin; commit = p.commit; marks = p.reads; keys = keys_of p.writes; has_earlier_target = flag i })))
 
   own_kept : own_record records t (f.last + 1) ≡ kept_of (history ++ r ∷ []) r
-  own_kept = sym (λ i. record { begin = own.begin i; commit = own.commit i; marks = own.reads i; keys = keys_of (own.writes i); has_earlier_target = own_flag i })
+  own_kept = sym (λ i. record {
+    begin = own.begin i;
+    commit = own.commit i;
+    marks = own.reads i;
+    keys = keys_of (own.writes i);
+    has_earlier_target = own_flag i;
+  })
 
   pub all_kept : kept_above f.oldest history ++ own_record records t (f.last + 1) ∷ [] ≡ kept_above f.oldest (history ++ r ∷ [])
   all_kept =
       let passes = lt-ltb f.oldest r.commit (omega arith) in
-      let grown = filter-append (λ p. nat_lt f.oldest p.commit) history (r ∷ []) ∙ ap (λ b. filter (λ p. nat_lt f.oldest p.commit) history ++ cond b (r ∷ []) []) passes in
+      let grown = filter-append (λ p. nat_lt f.oldest p.commit) history (r ∷ [])
+      ∙ ap (λ b. filter (λ p. nat_lt f.oldest p.commit) history ++ cond b (r ∷ []) []) passes in
       (λ i. others_stay i ++ own_kept i ∷ [])
       ∙ sym (ap (map (kept_of (history ++ r ∷ []))) grown ∙ map-append (kept_of (history ++ r ∷ [])) (filter (λ p. nat_lt f.oldest p.commit) history) (r ∷ []))
 

@@ -1,8 +1,14 @@
 -- What a mark covers is an interval from its start on.
-use Rattle.pivot_check.proofs.Words.{◌≡◌, false, arith, is_lt, common_steps, Bytes, key_cmp, Mark, covers, start_of}
+use Rattle.std.proofs.Common.{◌≡◌, false, arith}
+use Rattle.std.proofs.lemmas.Grind.{common_steps}
+use Rattle.std.specs.Ordering.{is_lt}
 use Rattle.std.specs.declared.cmp.Ordering.TheVariants.{Less}
+use Rattle.model.proofs.Entries.{turned}
+use Rattle.model.proofs.KeyOrder.{less_trans, same_keys}
+use Rattle.model.specs.Map.{Bytes, key_cmp}
+use Rattle.model.specs.PrivateCopy.{Mark, covers}
 use Rattle.model.specs.PrivateCopy.Mark.{OfKey, OfRange, OfClosedRange}
-use Rattle.model.proofs.{Entries.turned, KeyOrder.less_trans, KeyOrder.same_keys}
+use Rattle.marks.specs.Marked.{start_of}
 
 -- none of the keys below the start
 pub covers_below : (m : Mark) (q : Bytes) → key_cmp q (start_of m) ≡ Less → covers m q ≡ false

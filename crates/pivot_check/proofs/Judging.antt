@@ -1,18 +1,37 @@
 -- What is kept decides the verdict over the whole history, and goes on standing for it.
-use Rattle.pivot_check.proofs.Words.{◌≡◌, ◌≤◌, ◌<◌, ◌+◌, ℕ, Bool, true, false, cond, List, [], ◌∷◌, ◌++◌, Option, Some, None, map, length, refl, sym, ap, subst, ◌∙◌, arith, nat_lt, is_some, find, not, list_any, filter, position, Bytes, KeyWrite, Mark, Record, IsRising as RecordsRise, rising_from_numbered, all-map, find_alike, length_push, nil_from_length, View, KeptRecord, Facts, keys_of, is_written, leads_to, follows, becomes_pivot, first_number, last_number, are_in_order, own_record, IsInReach, Posting, postings_by, least, lesser, covered_of, are_upto, StandsFor, IsRecordOf, Says, AreWriters, verdict_found, kept_of, kept_above, Readers, last_reader, IsNoted, IsForgotten}
-use Rattle.std.specs.Prelude.{option_map, ◌&&◌}
-use Rattle.model.specs.Dependency.{concurrent_read_write}
-use Rattle.pivot_check.specs.declared.verdict.Cleared.{Cleared}
-use Rattle.pivot_check.specs.StandsFor.{IsCleared, IsClearedBy, IsVerdict}
-use Rattle.model.specs.{declared.refusals.Refusal.Refusal, Verdict.verdict, Verdict.conflict_of}
 use Rattle.model.specs.declared.refusals.Refusal.TheVariants as refusal
+use Rattle.std.proofs.Common.{◌≡◌, ◌≤◌, ◌<◌, ◌+◌, ℕ, Bool, true, false, cond, List, [], ◌∷◌, ◌++◌, Option, Some, None}
+use Rattle.std.proofs.Common.{map, length, refl, sym, ap, subst, ◌∙◌, arith}
+use Rattle.std.proofs.lemmas.List.{length_push, nil_from_length}
+use Rattle.std.specs.List.{list_any, filter, position}
+use Rattle.std.specs.Prelude.{nat_lt, is_some, find, not, option_map, ◌&&◌}
+use Rattle.model.proofs.Elements.{all-map}
+use Rattle.model.proofs.Members.{IsRising as RecordsRise, rising_from_numbered}
+use Rattle.model.proofs.Pivots.{find_alike}
+use Rattle.model.specs.Dependency.{concurrent_read_write}
+use Rattle.model.specs.History.{Record}
+use Rattle.model.specs.Map.{Bytes, KeyWrite}
+use Rattle.model.specs.PrivateCopy.{Mark}
+use Rattle.model.specs.Verdict.{verdict, conflict_of}
+use Rattle.model.specs.declared.refusals.Refusal.{Refusal}
+use Rattle.last_readers.specs.Readers.{Readers, last_reader, IsNoted, IsForgotten}
+use Rattle.snapshot.specs.View.{View}
+use Rattle.pivot_check.proofs.Histories.{flag_is, history_rises, kept_later, verdict_is, all_kept, numbered, begun}
+use Rattle.pivot_check.proofs.Histories.{no_pivot}
+use Rattle.pivot_check.proofs.LastSources.{source_found, noted_readers, forgotten_readers}
+use Rattle.pivot_check.proofs.Lists.{found_at, found_nowhere}
+use Rattle.pivot_check.proofs.Writers.{IsRising, any_is_found, written as written_by, target as target_by}
+use Rattle.pivot_check.proofs.Writers.{pivot as pivot_by, noted as writers_noted, forgotten as writers_forgotten}
+use Rattle.pivot_check.proofs.Writers.{by_upto}
 use Rattle.pivot_check.specs.Index.{is_written_since, target, source, other_pivot, answer_found}
+use Rattle.pivot_check.specs.Kept.{KeptRecord, Facts, keys_of, is_written, leads_to, follows, becomes_pivot}
+use Rattle.pivot_check.specs.Kept.{first_number, last_number, are_in_order, own_record, IsInReach}
+use Rattle.pivot_check.specs.Postings.{Posting, postings_by, least, lesser, covered_of, are_upto}
+use Rattle.pivot_check.specs.StandsFor.{StandsFor, IsRecordOf, Says, AreWriters, verdict_found, kept_of, kept_above}
+use Rattle.pivot_check.specs.StandsFor.{IsCleared, IsClearedBy, IsVerdict}
+use Rattle.pivot_check.specs.declared.verdict.Cleared.{Cleared}
 use Rattle.pivot_check.specs.declared.verdict.Verdict.{Verdict}
 use Rattle.pivot_check.specs.declared.verdict.Verdict.TheVariants.{Clear, Overwritten, PivotSelf, Pivot}
-use Rattle.pivot_check.proofs.{Lists.found_at, Lists.found_nowhere, LastSources.source_found, LastSources.noted_readers, LastSources.forgotten_readers}
-use Rattle.pivot_check.proofs.Histories.{flag_is}
-use Rattle.pivot_check.proofs.Histories.{history_rises, kept_later, verdict_is, all_kept, numbered, begun, no_pivot}
-use Rattle.pivot_check.proofs.Writers.{IsRising, any_is_found, written as written_by, target as target_by, pivot as pivot_by, noted as writers_noted, forgotten as writers_forgotten, by_upto}
 
 rising_map : (h rs : List Record) → RecordsRise rs → IsRising (map (kept_of h) rs)
 rising_map h [] rise = tt
@@ -84,7 +103,8 @@ module _ (f : Facts) (history : List Record) (s : StandsFor f history) where
             begun = begun f history s t reach r own;
             no_pivot = no_pivot f history s t reach r own clear;
             last = len ∙ sym (length_push history r);
-            readers = noted_readers f.oldest (last_reader f.readers) (last_reader readers) history r t.marks n s.readers s.numbered above len own.commit own.reads read;
+            readers = noted_readers f.oldest (last_reader f.readers) (last_reader readers) history r t.marks n s.readers s.numbered above len own.commit
+                own.reads read;
             writers = subst (λ ks. AreWriters f.oldest postings ks) (all_kept f history s t reach r own)
                 (writers_noted f.oldest f.postings postings kept (own_record records t n) s.writers above
                 (λ c. has c ∙ ap (λ x. lesser (least c f.postings) (least c (postings_by n x (keys_of t.writes)))) (flag_is f history s t reach r own)));
@@ -96,11 +116,13 @@ module _ (f : Facts) (history : List Record) (s : StandsFor f history) where
       → StandsFor (record { readers = readers; postings = postings; oldest = newer; last = f.last }) history
   forgotten newer above readers cut_to postings same =
       let read = forgotten_readers f.oldest newer (last_reader f.readers) (last_reader readers) history s.readers above cut_to in
-      let wrote = subst (λ ks. AreWriters newer postings ks) (kept_later f.oldest newer history above) (writers_forgotten f.oldest newer f.postings postings kept s.writers above same) in
+      let wrote = subst (λ ks. AreWriters newer postings ks) (kept_later f.oldest newer history above)
+      (writers_forgotten f.oldest newer f.postings postings kept s.writers above same) in
       assumption (read, wrote)
 
   -- some that are as old are left out
-  pub shortened : (postings : List Posting) → ((c : Posting → Bool) → least (λ p. nat_lt f.oldest p.number && c p) postings ≡ least (λ p. nat_lt f.oldest p.number && c p) f.postings)
+  pub shortened : (postings : List Posting)
+      → ((c : Posting → Bool) → least (λ p. nat_lt f.oldest p.number && c p) postings ≡ least (λ p. nat_lt f.oldest p.number && c p) f.postings)
       → StandsFor (record { readers = f.readers; postings = postings; oldest = f.oldest; last = f.last }) history
   shortened postings same = let wrote = λ (c : Posting → Bool). same c ∙ s.writers c in assumption wrote
 
@@ -144,5 +166,8 @@ clears f t PivotSelf says v_is = tt
 clears f t (Pivot n) says v_is = tt
 
 -- the keys of one transaction alone
-pub upto_own : (n : ℕ) (flag : Bool) (ks : List Bytes) (ps qs : List Posting) → length ps ≡ 0 → ((c : Posting → Bool) → least c qs ≡ lesser (least c ps) (least c (postings_by n flag ks))) → are_upto n qs ≡ true
-upto_own n flag ks ps qs none added = ap (λ o. not (is_some o)) (added (λ p. nat_lt n p.number) ∙ (λ i. lesser (least (λ p. nat_lt n p.number) (nil_from_length ps none i)) (by_upto n flag ks i)))
+pub upto_own : (n : ℕ) (flag : Bool) (ks : List Bytes) (ps qs : List Posting) → length ps ≡ 0
+    → ((c : Posting → Bool) → least c qs ≡ lesser (least c ps) (least c (postings_by n flag ks))) → are_upto n qs ≡ true
+upto_own n flag ks ps qs none added =
+    ap (λ o. not (is_some o)) (added (λ p. nat_lt n p.number)
+    ∙ (λ i. lesser (least (λ p. nat_lt n p.number) (nil_from_length ps none i)) (by_upto n flag ks i)))

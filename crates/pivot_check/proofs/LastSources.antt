@@ -1,7 +1,21 @@
 -- The last of the concurrent records that has read a key of the transaction's own, found by looking up the last reader of each key.
-use Rattle.pivot_check.proofs.Words.{◌≡◌, ◌≤◌, ◌<◌, ◌+◌, ℕ, suc, Bool, false, cond, ◌||◌, List, [], ◌∷◌, ◌++◌, length, map, refl, sym, ap, ◌∙◌, arith, nat_lt, max, list_any, filter, AllByRecursion, nat_tests, Bytes, Mark, is_covered, Record, IsNumberedFrom, IsRising, View, cut, after, keys_of, leads_to, AreAbove, last_that, last_number, greater, last_source, kept_of, greatest, last_reader_in, AreReaders}
+use Rattle.std.proofs.Common.{◌≡◌, ◌≤◌, ◌<◌, ◌+◌, ℕ, suc, Bool, false, cond, ◌||◌, List, [], ◌∷◌, ◌++◌, length, map}
+use Rattle.std.proofs.Common.{refl, sym, ap, ◌∙◌, arith}
+use Rattle.std.proofs.lemmas.Bool.Decides.{nat_tests}
+use Rattle.std.specs.List.{list_any, filter, AllByRecursion}
+use Rattle.std.specs.Prelude.{nat_lt, max}
+use Rattle.model.proofs.Members.{IsRising}
+use Rattle.model.specs.History.{Record, IsNumberedFrom}
+use Rattle.model.specs.Map.{Bytes}
+use Rattle.model.specs.PrivateCopy.{Mark, is_covered}
 use Rattle.last_readers.proofs.Cuts.{cut_twice}
-use Rattle.pivot_check.proofs.{Lists.last_that-map, Ends.number_of}
+use Rattle.last_readers.specs.Readers.{after}
+use Rattle.last_readers.specs.Steps.{cut}
+use Rattle.snapshot.specs.View.{View}
+use Rattle.pivot_check.proofs.Ends.{number_of}
+use Rattle.pivot_check.proofs.Lists.{last_that-map}
+use Rattle.pivot_check.specs.Kept.{keys_of, leads_to, AreAbove, last_that, last_number, greater, last_source}
+use Rattle.pivot_check.specs.StandsFor.{kept_of, greatest, last_reader_in, AreReaders}
 
 -- ---- numbers above another
 
@@ -32,7 +46,8 @@ greatest_above p n [] h some = absurd (omega arith)
 greatest_above p n (s ∷ rs) h some = let low = h.0 in grind (arith, greatest_above p n rs h.1)
 
 -- the last record that passes has the greatest number
-last_is_greatest : (p : Record → Bool) (b : ℕ) (rs : List Record) → IsRising rs → number_of (last_that p (filter (λ r. nat_lt b r.commit) rs)) ≡ after b (greatest p rs)
+last_is_greatest : (p : Record → Bool) (b : ℕ) (rs : List Record) → IsRising rs
+    → number_of (last_that p (filter (λ r. nat_lt b r.commit) rs)) ≡ after b (greatest p rs)
 last_is_greatest p b [] rise = grind (arith, nat_tests)
 last_is_greatest p b (r ∷ rs) rise = grind (arith, nat_tests, greatest_above p r.commit rs rise.0, last_is_greatest p b rs rise.1)
 
@@ -43,7 +58,8 @@ by_keys b h [] = grind (arith, nat_tests, greatest_none h)
 by_keys b h (k ∷ ks) =
     grind (arith, nat_tests, by_keys b h ks, greatest_or (λ r. is_covered r.reads k) (λ r. list_any (is_covered r.reads) ks) h)
 
-looked_up : (o b : ℕ) (readers : Bytes → ℕ) (h : List Record) → o ≤ b → AreReaders o readers h → (ks : List Bytes) → last_source readers b ks ≡ last_source (last_reader_in h) b ks
+looked_up : (o b : ℕ) (readers : Bytes → ℕ) (h : List Record) → o ≤ b → AreReaders o readers h → (ks : List Bytes)
+    → last_source readers b ks ≡ last_source (last_reader_in h) b ks
 looked_up o b readers h le are [] = refl
 looked_up o b readers h le are (k ∷ ks) = λ i. greater ((ap (after b) (are k) ∙ after_cut o b (last_reader_in h k) le) i) (looked_up o b readers h le are ks i)
 
@@ -58,19 +74,31 @@ source_found o readers h t le are rise =
 
 -- ---- the last readers once a transaction has committed, and once older ones are forgotten
 
-pub noted_readers : (o : ℕ) (readers next : Bytes → ℕ) (h : List Record) (r : Record) (marks : List Mark) (n : ℕ) → AreReaders o readers h → IsNumberedFrom 0 h → o < n → n ≡ length h + 1 → r.commit ≡ n → r.reads ≡ marks
+pub noted_readers : (o : ℕ) (readers next : Bytes → ℕ) (h : List Record) (r : Record) (marks : List Mark) (n : ℕ) → AreReaders o readers h → IsNumberedFrom 0 h
+    → o < n → n ≡ length h + 1 → r.commit ≡ n → r.reads ≡ marks
     → ((k : Bytes) → next k ≡ cond (is_covered marks k) n (readers k)) → AreReaders o next (h ++ r ∷ [])
 noted_readers o readers next h r marks n are numbered above is number reads noted k =
-    grind (arith, nat_tests, greatest_push (λ s. is_covered s.reads k) h r, noted k, are k, greatest_low (λ s. is_covered s.reads k) 0 h numbered, ap (λ ms. is_covered ms k) reads)
+    grind (
+      arith,
+      nat_tests,
+      greatest_push (λ s. is_covered s.reads k) h r,
+      noted k,
+      are k,
+      greatest_low (λ s. is_covered s.reads k) 0 h numbered,
+      ap (λ ms. is_covered ms k) reads,
+    )
 
-pub forgotten_readers : (o newer : ℕ) (readers next : Bytes → ℕ) (h : List Record) → AreReaders o readers h → o ≤ newer → ((k : Bytes) → next k ≡ cut newer (readers k)) → AreReaders newer next h
+pub forgotten_readers : (o newer : ℕ) (readers next : Bytes → ℕ) (h : List Record) → AreReaders o readers h → o ≤ newer
+    → ((k : Bytes) → next k ≡ cut newer (readers k)) → AreReaders newer next h
 forgotten_readers o newer readers next h are le cut_to k = cut_to k ∙ ap (cut newer) (are k) ∙ cut_twice o newer (last_reader_in h k) le
 
 -- no number comes in but n
-pub noted_upto : (readers next : Bytes → ℕ) (marks : List Mark) (last n : ℕ) → n ≡ last + 1 → ((k : Bytes) → readers k ≤ last) → ((k : Bytes) → next k ≡ cond (is_covered marks k) n (readers k)) → (k : Bytes) → next k ≤ n
+pub noted_upto : (readers next : Bytes → ℕ) (marks : List Mark) (last n : ℕ) → n ≡ last + 1 → ((k : Bytes) → readers k ≤ last)
+    → ((k : Bytes) → next k ≡ cond (is_covered marks k) n (readers k)) → (k : Bytes) → next k ≤ n
 noted_upto readers next marks last n is upto noted k = grind (arith, noted k, upto k)
 
-pub noted_above : (readers next : Bytes → ℕ) (marks : List Mark) (oldest n : ℕ) → oldest < n → AreAbove oldest readers → ((k : Bytes) → next k ≡ cond (is_covered marks k) n (readers k)) → AreAbove oldest next
+pub noted_above : (readers next : Bytes → ℕ) (marks : List Mark) (oldest n : ℕ) → oldest < n → AreAbove oldest readers
+    → ((k : Bytes) → next k ≡ cond (is_covered marks k) n (readers k)) → AreAbove oldest next
 noted_above readers next marks oldest n lt above noted k some = grind (arith, noted k, above k)
 
 -- what is left of a number that is above a

@@ -11,5 +11,4 @@ pub mod PlacedMarks
 pub mod Judging
 pub mod SameHistories
 pub mod Joined
-pub mod Words
 pub mod Sweeps

@@ -1,6 +1,13 @@
 -- Tests of lists.
-use Rattle.pivot_check.proofs.Words.{◌≡◌, ℕ, ◌<◌, Bool, ◌||◌, List, [], ◌∷◌, Some, None, refl, ap, ◌∙◌, length, get_or, map, arith, find, slice_get, list_any, filter, AllByRecursion, position, position_or_len, option_map, nat_tests, find_at, last_that}
+use Rattle.std.proofs.Common.{◌≡◌, ℕ, ◌<◌, Bool, ◌||◌, List, [], ◌∷◌, Some, None, refl, ap, ◌∙◌, length, get_or, map}
+use Rattle.std.proofs.Common.{arith}
+use Rattle.std.proofs.lemmas.Bool.Decides.{nat_tests}
+use Rattle.std.proofs.lemmas.List.Folds.{find_at}
 use Rattle.std.proofs.lemmas.Option.{slice_get_past, slice_get-get_or}
+use Rattle.std.specs.List.{list_any, filter, AllByRecursion, position, position_or_len}
+use Rattle.std.specs.Option.{option_map}
+use Rattle.std.specs.Prelude.{find, slice_get}
+use Rattle.pivot_check.specs.Kept.{last_that}
 
 pub any-map : {A B : Type 0} (p : B → Bool) (v : A → B) (xs : List A) → list_any p (map v xs) ≡ list_any (λ x. p (v x)) xs
 any-map p v [] = refl

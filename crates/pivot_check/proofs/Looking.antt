@@ -1,6 +1,12 @@
 -- Postings that were looked at, and those behind them.
-use Rattle.pivot_check.proofs.Words.{true, ◌≡◌, ◌≤◌, ◌-◌, ℕ, Bool, List, [], ◌∷◌, ◌++◌, Option, Some, sym, ap, subst, ◌∙◌, arith, min, all-each, all-append, Posting, least, lesser, is_asked, between, KeepsFound, lesser_assoc, least-append}
-use Rattle.pivot_check.proofs.{Passing.passed_over, Passing.kept_part, Passing.split_at}
+use Rattle.std.proofs.Common.{true, ◌≡◌, ◌≤◌, ◌-◌, ℕ, Bool, List, [], ◌∷◌, ◌++◌, Option, Some, sym, ap, subst, ◌∙◌}
+use Rattle.std.proofs.Common.{arith}
+use Rattle.std.specs.Prelude.{min}
+use Rattle.model.proofs.Elements.{all-each, all-append}
+use Rattle.pivot_check.proofs.Passing.{passed_over, kept_part, split_at}
+use Rattle.pivot_check.specs.Agreeing.{lesser_assoc, least-append}
+use Rattle.pivot_check.specs.Bounds.{KeepsFound}
+use Rattle.pivot_check.specs.Postings.{Posting, least, lesser, is_asked, between}
 
 -- ---- what was found
 
@@ -10,17 +16,20 @@ kept_if found b flagged (p ∷ ps) h =
     grind (arith, kept_if found b flagged ps)
 
 -- none of them is below what was found with them
-pub looked_anew : (found next : Option ℕ) (b : ℕ) (flagged : Bool) (ps : List Posting) → next ≡ lesser found (least (is_asked b flagged) ps) → KeepsFound next b flagged ps
+pub looked_anew : (found next : Option ℕ) (b : ℕ) (flagged : Bool) (ps : List Posting) → next ≡ lesser found (least (is_asked b flagged) ps)
+    → KeepsFound next b flagged ps
 looked_anew found next b flagged ps is = kept_if next b flagged ps (grind arith)
 
 -- a lesser number stays, too
 kept_more : (found x : Option ℕ) (b : ℕ) (flagged : Bool) (ps : List Posting) → KeepsFound found b flagged ps → KeepsFound (lesser found x) b flagged ps
-kept_more found x b flagged ps h = all-each _ (λ p. is_asked b flagged p ≡ true → lesser (lesser found x) (Some p.number) ≡ lesser found x) ps (λ p stays e. grind (arith, stays e)) h
+kept_more found x b flagged ps h =
+    all-each _ (λ p. is_asked b flagged p ≡ true → lesser (lesser found x) (Some p.number) ≡ lesser found x) ps (λ p stays e. grind (arith, stays e)) h
 
 -- ---- one more look
 
 -- all of them were looked at
-pub looked_before : (found : Option ℕ) (b : ℕ) (flagged : Bool) (a e x y : ℕ) (ps : List Posting) → a ≤ x → x ≤ y → y ≤ e → KeepsFound found b flagged (between a e ps)
+pub looked_before : (found : Option ℕ) (b : ℕ) (flagged : Bool) (a e x y : ℕ) (ps : List Posting) → a ≤ x → x ≤ y → y ≤ e
+    → KeepsFound found b flagged (between a e ps)
     → found ≡ lesser found (least (is_asked b flagged) (between x y ps))
 looked_before found b flagged a e x y ps low order high h =
     passed_over found b flagged (is_asked b flagged) (λ p t. t) (between x y ps) (kept_part found b flagged a (e - a) x y ps low order (omega arith) h)
@@ -31,7 +40,8 @@ both_sides a m e ps low high = let here : m ≡ min e m = omega arith in ap (λ 
 
 -- those up to `stop` were, so that those behind it decide
 pub looked_further : (found next : Option ℕ) (b : ℕ) (flagged : Bool) (ps : List Posting) (first at stop end : ℕ) → first ≤ at → at ≤ stop → stop ≤ end
-    → KeepsFound found b flagged (between first stop ps) → next ≡ lesser found (least (is_asked b flagged) (between stop end ps)) → next ≡ lesser found (least (is_asked b flagged) (between at end ps))
+    → KeepsFound found b flagged (between first stop ps) → next ≡ lesser found (least (is_asked b flagged) (between stop end ps))
+    → next ≡ lesser found (least (is_asked b flagged) (between at end ps))
 looked_further found next b flagged ps first at stop end low mid high h is =
     let c = is_asked b flagged in
     is
@@ -40,7 +50,8 @@ looked_further found next b flagged ps first at stop end low mid high h is =
     ∙ ap (lesser found) (sym (least-append c (between at stop ps) (between stop end ps)) ∙ ap (least c) (both_sides at stop end ps mid high))
 
 pub looked_joined : (found next : Option ℕ) (b : ℕ) (flagged : Bool) (ps : List Posting) (first stop end : ℕ) → first ≤ stop → stop ≤ end
-    → KeepsFound found b flagged (between first stop ps) → next ≡ lesser found (least (is_asked b flagged) (between stop end ps)) → KeepsFound next b flagged (between first end ps)
+    → KeepsFound found b flagged (between first stop ps) → next ≡ lesser found (least (is_asked b flagged) (between stop end ps))
+    → KeepsFound next b flagged (between first end ps)
 looked_joined found next b flagged ps first stop end mid high h is =
     let more = kept_more found (least (is_asked b flagged) (between stop end ps)) b flagged (between first stop ps) h in
     subst (KeepsFound next b flagged) (both_sides first stop end ps mid high) (all-append _ (between first stop ps) (between stop end ps)

@@ -1,13 +1,27 @@
 -- Postings are passed over where none that is asked for has a number below the one that was found.
-use Rattle.pivot_check.proofs.Words.{◌≡◌, ◌≤◌, ◌<◌, ◌+◌, ◌-◌, ◌*◌, ℕ, zero, suc, Bool, true, ◌&&◌, ◌||◌, List, [], ◌∷◌, ◌++◌, Option, Some, length, length-drop, get_or, take, drop, refl, sym, ap, subst, ◌∙◌, arith, inl, inr, nat_le, min, AllByRecursion, drop-drop, drop-append-le, take-append-le, take-take, drop-take, append-nil, get_or_append_left, get_or_push, length_push, list_all-append, All-drop, All-from_recursion, recursion_from_All, and_parts, and_from, leb-true, cases_lt, all-take, Posting, least, lesser, is_asked, between, is_from_bound, are_from_bound, AreBounds, KeepsFound, lesser_none, lesser_assoc}
-use Rattle.std.proofs.Common.{not}
-use Rattle.std.proofs.{Math.ListN.set, Math.Seq.take-add}
+use Rattle.std.proofs.Common.{◌≡◌, ◌≤◌, ◌<◌, ◌+◌, ◌-◌, ◌*◌, ℕ, zero, suc, Bool, true, ◌&&◌, ◌||◌, List, [], ◌∷◌, ◌++◌}
+use Rattle.std.proofs.Common.{Option, Some, length, length-drop, get_or, take, drop, refl, sym, ap, subst, ◌∙◌, arith}
+use Rattle.std.proofs.Common.{inl, inr, not}
+use Rattle.std.proofs.Math.ListN.{set}
+use Rattle.std.proofs.Math.Seq.{take-add}
+use Rattle.std.proofs.lemmas.Bool.{and_parts, and_from, leb-true, cases_lt}
+use Rattle.std.proofs.lemmas.List.{drop-drop, drop-append-le, take-append-le, take-take, drop-take, append-nil}
+use Rattle.std.proofs.lemmas.List.{get_or_append_left, get_or_push, length_push}
+use Rattle.std.proofs.lemmas.List.Elements.{All-drop, All-from_recursion, recursion_from_All}
+use Rattle.std.proofs.lemmas.List.Folds.{list_all-append}
+use Rattle.std.specs.List.{AllByRecursion}
+use Rattle.std.specs.Prelude.{nat_le, min}
+use Rattle.model.proofs.Elements.{all-take}
+use Rattle.pivot_check.specs.Agreeing.{lesser_none, lesser_assoc}
+use Rattle.pivot_check.specs.Bounds.{is_from_bound, are_from_bound, AreBounds, KeepsFound}
+use Rattle.pivot_check.specs.Postings.{Posting, least, lesser, is_asked, between}
 use Rattle.pivot_check.specs.declared.bound.Bound.{Bound}
 
 -- ---- bounds
 
 -- a bound of one posting more
-pub more_from : (b next : Bound) (ps : List Posting) → ((p : Posting) → is_from_bound b p ≡ true → is_from_bound next p ≡ true) → are_from_bound b ps ≡ true → are_from_bound next ps ≡ true
+pub more_from : (b next : Bound) (ps : List Posting) → ((p : Posting) → is_from_bound b p ≡ true → is_from_bound next p ≡ true) → are_from_bound b ps ≡ true
+    → are_from_bound next ps ≡ true
 more_from b next [] keeps h = refl
 more_from b next (p ∷ ps) keeps h = grind (arith, keeps p, more_from b next ps keeps)
 
@@ -69,7 +83,8 @@ split_at a n e ps order le = elim (cases_lt e n) [
 ]
 
 -- one more block has a bound
-pub next_bound : (bs next : List Bound) (ps : List Posting) (i : ℕ) (b : Bound) → next ≡ bs ++ b ∷ [] → length bs ≡ i → are_from_bound b (take 64 (drop (64 * i) ps)) ≡ true → AreBounds bs ps → AreBounds next ps
+pub next_bound : (bs next : List Bound) (ps : List Posting) (i : ℕ) (b : Bound) → next ≡ bs ++ b ∷ [] → length bs ≡ i
+    → are_from_bound b (take 64 (drop (64 * i) ps)) ≡ true → AreBounds bs ps → AreBounds next ps
 next_bound bs next ps i b is long own known = subst (λ l. AreBounds l ps) (sym is) (λ j d lt. elim (cases_lt j (length bs)) [
   | inl before ↦ ap (λ x. are_from_bound x (take 64 (drop (64 * j) ps))) (get_or_append_left bs (b ∷ []) d j before) ∙ known j d before
   | inr after ↦
@@ -80,11 +95,13 @@ next_bound bs next ps i b is long own known = subst (λ l. AreBounds l ps) (sym 
 
 -- ---- one of them was taken: its number and its flag stay
 
-pub same_from : (b : Bound) (p q : Posting) → q.number ≡ p.number → q.has_earlier_target ≡ p.has_earlier_target → is_from_bound b p ≡ true → is_from_bound b q ≡ true
+pub same_from : (b : Bound) (p q : Posting) → q.number ≡ p.number → q.has_earlier_target ≡ p.has_earlier_target → is_from_bound b p ≡ true
+    → is_from_bound b q ≡ true
 same_from b p q number flag h = (λ i. nat_le b.number (number i) && (nat_le (number i) b.last && (not (flag i) || nat_le b.flagged (number i)))) ∙ h
 
 -- those from one place on, up to so many
-pub set_from : (b : Bound) (ps : List Posting) (i : ℕ) (q d : Posting) (m n : ℕ) → q.number ≡ (get_or ps i d).number → q.has_earlier_target ≡ (get_or ps i d).has_earlier_target
+pub set_from : (b : Bound) (ps : List Posting) (i : ℕ) (q d : Posting) (m n : ℕ) → q.number ≡ (get_or ps i d).number
+    → q.has_earlier_target ≡ (get_or ps i d).has_earlier_target
     → are_from_bound b (take n (drop m ps)) ≡ true → are_from_bound b (take n (drop m (set ps i q))) ≡ true
 set_from b [] i q d m n number flag h = h
 set_from b (p ∷ ps) i q d zero zero number flag h = refl
@@ -93,7 +110,8 @@ set_from b (p ∷ ps) (suc i) q d zero (suc n) number flag h = grind (arith, set
 set_from b (p ∷ ps) zero q d (suc m) n number flag h = h
 set_from b (p ∷ ps) (suc i) q d (suc m) n number flag h = set_from b ps i q d m n number flag h
 
-pub set_all : (b : Bound) (ps : List Posting) (i : ℕ) (q d : Posting) → q.number ≡ (get_or ps i d).number → q.has_earlier_target ≡ (get_or ps i d).has_earlier_target → are_from_bound b ps ≡ true → are_from_bound b (set ps i q) ≡ true
+pub set_all : (b : Bound) (ps : List Posting) (i : ℕ) (q d : Posting) → q.number ≡ (get_or ps i d).number
+    → q.has_earlier_target ≡ (get_or ps i d).has_earlier_target → are_from_bound b ps ≡ true → are_from_bound b (set ps i q) ≡ true
 set_all b [] i q d number flag h = h
 set_all b (p ∷ ps) zero q d number flag h = let parts = and_parts _ _ h in and_from _ _ (same_from b p q number flag parts.0) parts.1
 set_all b (p ∷ ps) (suc i) q d number flag h = let parts = and_parts _ _ h in and_from _ _ parts.0 (set_all b ps i q d number flag parts.1)
@@ -102,5 +120,6 @@ set_all b (p ∷ ps) (suc i) q d number flag h = let parts = and_parts _ _ h in 
 
 pub bounds_stay : (bs : List Bound) (ps : List Posting) (q : Posting) → 64 * length bs ≤ length ps → AreBounds bs ps → AreBounds bs (ps ++ q ∷ [])
 bounds_stay bs ps q whole h i b lt =
-    let stays = ap (take 64) (drop-append-le (64 * i) ps (q ∷ []) (omega arith)) ∙ take-append-le 64 (drop (64 * i) ps) (q ∷ []) (omega (arith, length-drop (64 * i) ps)) in
+    let stays = ap (take 64) (drop-append-le (64 * i) ps (q ∷ []) (omega arith))
+    ∙ take-append-le 64 (drop (64 * i) ps) (q ∷ []) (omega (arith, length-drop (64 * i) ps)) in
     ap (are_from_bound (get_or bs i b)) stays ∙ h i b lt

@@ -1,9 +1,15 @@
 -- What stands for the same histories.
-use Rattle.pivot_check.proofs.Words.{◌≡◌, ◌+◌, ℕ, Bool, List, sym, ap, subst, ◌∙◌, arith, ◌&&◌, nat_lt, cut}
-use Rattle.pivot_check.proofs.Words.{Record, View, Facts, IsInReach, Posting, least}
-use Rattle.pivot_check.proofs.Words.{AreWriters, IsRecordOf, kept_above, last_reader_in, StandsFor}
+use Rattle.std.proofs.Common.{◌≡◌, ◌+◌, ℕ, Bool, List, sym, ap, subst, ◌∙◌, arith, ◌&&◌}
+use Rattle.std.specs.Prelude.{nat_lt}
+use Rattle.model.specs.History.{Record}
 use Rattle.last_readers.specs.Readers.{AnswerAlike}
-use Rattle.pivot_check.specs.{declared.verdict.Cleared.Cleared, StandsFor.IsCleared, StandsFor.StandForSame}
+use Rattle.last_readers.specs.Steps.{cut}
+use Rattle.snapshot.specs.View.{View}
+use Rattle.pivot_check.specs.Kept.{Facts, IsInReach}
+use Rattle.pivot_check.specs.Postings.{Posting, least}
+use Rattle.pivot_check.specs.StandsFor.{AreWriters, IsRecordOf, kept_above, last_reader_in, StandsFor, IsCleared}
+use Rattle.pivot_check.specs.StandsFor.{StandForSame}
+use Rattle.pivot_check.specs.declared.verdict.Cleared.{Cleared}
 
 -- the least number above that one is the same, whatever is asked
 abbrev AnswerSame : ℕ → List Posting → List Posting → Type 0

@@ -1,13 +1,25 @@
 -- What is left of postings once those up to a number are dropped.
-use Rattle.pivot_check.proofs.Words.{◌≡◌, ◌≤◌, ◌<◌, ◌+◌, ◌-◌, ◌*◌, ℕ, Bool, true, false, ◌&&◌, List, [], ◌∷◌, ◌++◌, length, length-drop, take, drop, refl, sym, ap, ◌∙◌, arith, nat_lt, filter, list_all, AllByRecursion, nat_tests, take-append-drop, filter-append, list_all-append, and_from, and_parts, Posting, least, lesser, lesser_none, least-append, keys_rise, are_upto, live, left, live_in, in_run, postings_in, is_from_bound, are_from_bound}
-use Rattle.std.specs.Prelude.{◌/◌, All, count_by, min}
-use Rattle.std.specs.Ordering.{is_le}
-use Rattle.std.proofs.lemmas.List.{length-append}
+use Rattle.std.proofs.Common.{◌≡◌, ◌≤◌, ◌<◌, ◌+◌, ◌-◌, ◌*◌, ℕ, Bool, true, false, ◌&&◌, List, [], ◌∷◌, ◌++◌, length}
+use Rattle.std.proofs.Common.{length-drop, take, drop, refl, sym, ap, ◌∙◌, arith}
+use Rattle.std.proofs.lemmas.Bool.{and_from, and_parts}
+use Rattle.std.proofs.lemmas.Bool.Decides.{nat_tests}
+use Rattle.std.proofs.lemmas.List.{take-append-drop, length-append}
+use Rattle.std.proofs.lemmas.List.Elements.{filter-append, recursion_from_All}
+use Rattle.std.proofs.lemmas.List.Folds.{list_all-append}
 use Rattle.std.proofs.lemmas.List.Sums.{length-filter}
-use Rattle.std.proofs.lemmas.List.Elements.{recursion_from_All}
+use Rattle.std.specs.List.{filter, list_all, AllByRecursion}
+use Rattle.std.specs.Ordering.{is_le}
+use Rattle.std.specs.Prelude.{nat_lt, ◌/◌, All, count_by, min}
 use Rattle.model.specs.Map.{key_cmp}
-use Rattle.pivot_check.specs.{Bounds.bound_count, declared.bound.Bound.Bound, declared.part.Part.Part, declared.run.WrittenRun.WrittenRun, Inside.is_run_later, Postings.are_later, Postings.later_than}
 use Rattle.pivot_check.proofs.Writers.{least-filter, least_alike}
+use Rattle.pivot_check.specs.Agreeing.{lesser_none, least-append}
+use Rattle.pivot_check.specs.Bounds.{is_from_bound, are_from_bound, bound_count}
+use Rattle.pivot_check.specs.Inside.{in_run, postings_in, is_run_later}
+use Rattle.pivot_check.specs.Parts.{live, left, live_in}
+use Rattle.pivot_check.specs.Postings.{Posting, least, lesser, keys_rise, are_upto, are_later, later_than}
+use Rattle.pivot_check.specs.declared.bound.Bound.{Bound}
+use Rattle.pivot_check.specs.declared.part.Part.{Part}
+use Rattle.pivot_check.specs.declared.run.WrittenRun.{WrittenRun}
 
 abbrev later : ℕ → Posting → Bool
 later o p = nat_lt o p.number
@@ -28,12 +40,14 @@ past (x ∷ xs) ys = past xs ys
 -- those behind a place
 pub later_from : (o s n : ℕ) (ps : List Posting) → n ≡ count_by (λ p. nat_lt o p.number) (take s ps) → drop n (later_than o ps) ≡ later_than o (drop s ps)
 later_from o s n ps is =
-    let whole : later_than o ps ≡ later_than o (take s ps) ++ later_than o (drop s ps) = ap (later_than o) (sym (take-append-drop s ps)) ∙ filter-append (later o) (take s ps) (drop s ps) in
+    let whole : later_than o ps ≡ later_than o (take s ps) ++ later_than o (drop s ps) =
+    ap (later_than o) (sym (take-append-drop s ps)) ∙ filter-append (later o) (take s ps) (drop s ps) in
     (λ i. drop ((is ∙ count_is o (take s ps)) i) (whole i)) ∙ past (later_than o (take s ps)) (later_than o (drop s ps))
 
 pub later_within : (o s n : ℕ) (ps : List Posting) → n ≡ count_by (λ p. nat_lt o p.number) (take s ps) → n ≤ length (later_than o ps)
 later_within o s n ps is =
-    let whole : later_than o ps ≡ later_than o (take s ps) ++ later_than o (drop s ps) = ap (later_than o) (sym (take-append-drop s ps)) ∙ filter-append (later o) (take s ps) (drop s ps) in
+    let whole : later_than o ps ≡ later_than o (take s ps) ++ later_than o (drop s ps) =
+    ap (later_than o) (sym (take-append-drop s ps)) ∙ filter-append (later o) (take s ps) (drop s ps) in
     omega (arith, is, count_is o (take s ps), ap length whole, length-append (later_than o (take s ps)) (later_than o (drop s ps)))
 
 all_later : (t : Posting → Bool) (o : ℕ) (ps : List Posting) → list_all t ps ≡ true → list_all t (later_than o ps) ≡ true
@@ -47,7 +61,8 @@ rises_later o (p ∷ ps) h = grind (arith, rises_later o ps, all_later (λ q. is
 pub both_rise : (o : ℕ) (xs ys : List Posting) → keys_rise (xs ++ ys) ≡ true → keys_rise (later_than o xs ++ later_than o ys) ≡ true
 both_rise o xs ys h = ap keys_rise (sym (filter-append (later o) xs ys)) ∙ rises_later o (xs ++ ys) h
 
-pub bound_later : (o : ℕ) (b next : Bound) (ps : List Posting) → ((p : Posting) → o < p.number → is_from_bound b p ≡ true → is_from_bound next p ≡ true) → are_from_bound b ps ≡ true → are_from_bound next (later_than o ps) ≡ true
+pub bound_later : (o : ℕ) (b next : Bound) (ps : List Posting) → ((p : Posting) → o < p.number → is_from_bound b p ≡ true → is_from_bound next p ≡ true)
+    → are_from_bound b ps ≡ true → are_from_bound next (later_than o ps) ≡ true
 bound_later o b next [] keeps h = refl
 bound_later o b next (p ∷ ps) keeps h = grind (arith, nat_tests, keeps p, bound_later o b next ps keeps)
 
@@ -57,7 +72,8 @@ upto_later last o (p ∷ ps) h = grind (arith, nat_tests, upto_later last o ps)
 
 -- ---- what is asked of them
 
-pub asked_later : (o : ℕ) (c : Posting → Bool) (ps : List Posting) → least (λ p. nat_lt o p.number && c p) (later_than o ps) ≡ least (λ p. nat_lt o p.number && c p) ps
+pub asked_later : (o : ℕ) (c : Posting → Bool) (ps : List Posting)
+    → least (λ p. nat_lt o p.number && c p) (later_than o ps) ≡ least (λ p. nat_lt o p.number && c p) ps
 asked_later o c ps =
     least-filter (λ p. nat_lt o p.number && c p) (later o) ps
     ∙ least_alike (λ p. nat_lt o p.number && (nat_lt o p.number && c p)) (λ p. nat_lt o p.number && c p) (λ p. twice (nat_lt o p.number) (c p)) ps
@@ -67,7 +83,8 @@ asked_later o c ps =
     twice false y = refl
 
 -- three parts that were swept
-pub all_parts : (o : ℕ) (xs ys zs xs' ys' zs' : List Posting) → xs' ≡ later_than o xs → ys' ≡ later_than o ys → zs' ≡ later_than o zs → xs' ++ (ys' ++ zs') ≡ later_than o (xs ++ (ys ++ zs))
+pub all_parts : (o : ℕ) (xs ys zs xs' ys' zs' : List Posting) → xs' ≡ later_than o xs → ys' ≡ later_than o ys → zs' ≡ later_than o zs
+    → xs' ++ (ys' ++ zs') ≡ later_than o (xs ++ (ys ++ zs))
 all_parts o xs ys zs xs' ys' zs' first second third =
     (λ i. first i ++ (second i ++ third i))
     ∙ ap (λ l. later_than o xs ++ l) (sym (filter-append (later o) ys zs)) ∙ sym (filter-append (later o) xs (ys ++ zs))
@@ -98,7 +115,8 @@ later_in_run o r h =
     let both = and_parts _ _ made.1 in
     list_all-append (later o) (live r.made) (live r.first ++ live r.second)
     ∙ and_from _ _ (later_drop o r.made.start r.made.written.items made.0)
-    (list_all-append (later o) (live r.first) (live r.second) ∙ and_from _ _ (later_drop o r.first.start r.first.written.items both.0) (later_drop o r.second.start r.second.written.items both.1))
+    (list_all-append (later o) (live r.first) (live r.second)
+    ∙ and_from _ _ (later_drop o r.first.start r.first.written.items both.0) (later_drop o r.second.start r.second.written.items both.1))
 
 by_runs : (o : ℕ) (rs : List WrittenRun) → AllByRecursion (λ r. is_run_later o r ≡ true) rs → are_later o (postings_in rs) ≡ true
 by_runs o [] h = refl

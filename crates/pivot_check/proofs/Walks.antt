@@ -1,10 +1,25 @@
 -- Which postings a mark covers, and walks over marks and runs.
-use Rattle.pivot_check.proofs.Words.{◌≡◌, ◌≤◌, ◌<◌, ◌+◌, ℕ, zero, suc, Bool, true, false, ◌&&◌, ◌||◌, List, [], ◌∷◌, Some, None, length, length-drop, get_or, take, drop, refl, sym, ap, ◌∙◌, arith, slice_get, list_all, AllByRecursion, insert, take-append-drop, get_or-drop, get_or-take, length-take, recursion_from_All, list_all-append, IsPartitionPoint, IsPartitionedBy, is_lt, is_le, both_ways, and_parts, and_from, not-true, true_from_ne_false, common_steps, Bytes, key_cmp, Mark, covers, all-each, all-get, all-pass, start_of, Posting, keys_rise, are_from, least, lesser, lesser_none, lesser_assoc, least-append}
-use Rattle.std.proofs.Common.{not}
-use Rattle.std.specs.Prelude.{◌++◌}
+use Rattle.std.proofs.Common.{◌≡◌, ◌≤◌, ◌<◌, ◌+◌, ℕ, zero, suc, Bool, true, false, ◌&&◌, ◌||◌, List, [], ◌∷◌, Some}
+use Rattle.std.proofs.Common.{None, length, length-drop, get_or, take, drop, refl, sym, ap, ◌∙◌, arith, not}
+use Rattle.std.proofs.lemmas.Bool.{both_ways, and_parts, and_from, not-true, true_from_ne_false}
+use Rattle.std.proofs.lemmas.Grind.{common_steps}
+use Rattle.std.proofs.lemmas.List.{take-append-drop, get_or-drop, get_or-take, length-take}
+use Rattle.std.proofs.lemmas.List.Elements.{recursion_from_All}
+use Rattle.std.proofs.lemmas.List.Folds.{list_all-append}
+use Rattle.std.specs.List.{list_all, AllByRecursion, insert}
+use Rattle.std.specs.List.Sorted.{IsPartitionPoint, IsPartitionedBy}
+use Rattle.std.specs.Ordering.{is_lt, is_le}
+use Rattle.std.specs.Prelude.{slice_get, ◌++◌}
+use Rattle.model.proofs.Elements.{all-each, all-get, all-pass}
 use Rattle.model.proofs.Entries.{turned}
 use Rattle.model.proofs.KeyOrder.{itself, less, less_trans, same_keys}
-use Rattle.pivot_check.proofs.{Intervals.covers_below, Intervals.covers_above, Writers.lesser_comm}
+use Rattle.model.specs.Map.{Bytes, key_cmp}
+use Rattle.model.specs.PrivateCopy.{Mark, covers}
+use Rattle.marks.specs.Marked.{start_of}
+use Rattle.pivot_check.proofs.Intervals.{covers_below, covers_above}
+use Rattle.pivot_check.proofs.Writers.{lesser_comm}
+use Rattle.pivot_check.specs.Agreeing.{lesser_none, lesser_assoc, least-append}
+use Rattle.pivot_check.specs.Postings.{Posting, keys_rise, are_from, least, lesser}
 
 -- ---- the order of keys
 
@@ -18,9 +33,11 @@ from_le : (a b low : Bytes) → is_le (key_cmp a b) ≡ true → is_lt (key_cmp 
 from_le a b low le lt = grind (arith, common_steps, less_trans a b low, same_keys a b)
 
 -- of two postings the later has no lower key
-rise_at : (ps : List Posting) → keys_rise ps ≡ true → (i j : ℕ) (d : Posting) → i ≤ j → j < length ps → is_le (key_cmp (get_or ps i d).key (get_or ps j d).key) ≡ true
+rise_at : (ps : List Posting) → keys_rise ps ≡ true → (i j : ℕ) (d : Posting) → i ≤ j → j < length ps
+    → is_le (key_cmp (get_or ps i d).key (get_or ps j d).key) ≡ true
 rise_at (p ∷ ps) h zero zero d le lt = ap is_le (itself p.key)
-rise_at (p ∷ ps) h zero (suc j) d le lt = all-get (λ q. is_le (key_cmp p.key q.key) ≡ true) ps j d (omega arith) (all-pass (λ q. is_le (key_cmp p.key q.key)) ps (and_parts _ _ h).0)
+rise_at (p ∷ ps) h zero (suc j) d le lt =
+    all-get (λ q. is_le (key_cmp p.key q.key) ≡ true) ps j d (omega arith) (all-pass (λ q. is_le (key_cmp p.key q.key)) ps (and_parts _ _ h).0)
 rise_at (p ∷ ps) h (suc i) (suc j) d le lt = rise_at ps (and_parts _ _ h).1 i j d (omega arith) (omega arith)
 rise_at _ h i j d le lt = absurd (omega arith)
 
@@ -53,19 +70,23 @@ IsParted t ps i = IsPartitionPoint (λ p. t p ≡ true) (λ p. t p ≡ false) ps
 
 module _ (t : Posting → Bool) (ps : List Posting) (i : ℕ) (h : IsParted t ps i) where
   before : AllByRecursion (λ p. t p ≡ true) (take i ps)
-  before = recursion_from_All (λ p. t p ≡ true) (take i ps) (λ k d lt. let len = length-take i ps in ap t (get_or-take i ps k d (omega arith)) ∙ h.0 k d (omega arith) (omega arith))
+  before = recursion_from_All (λ p. t p ≡ true) (take i ps) (λ k d lt. let len = length-take i ps in ap t (get_or-take i ps k d (omega arith))
+      ∙ h.0 k d (omega arith) (omega arith))
 
   behind : AllByRecursion (λ p. t p ≡ false) (drop i ps)
-  behind = recursion_from_All (λ p. t p ≡ false) (drop i ps) (λ k d lt. let len = length-drop i ps in ap t (get_or-drop i ps k d) ∙ h.1 (i + k) d (omega arith) (omega arith))
+  behind = recursion_from_All (λ p. t p ≡ false) (drop i ps) (λ k d lt. let len = length-drop i ps in ap t (get_or-drop i ps k d)
+      ∙ h.1 (i + k) d (omega arith) (omega arith))
 
 -- ---- the postings that a mark covers
 
 -- none behind one that isn't covered
-later_uncovered : (m : Mark) (p q : Posting) → is_le (key_cmp p.key q.key) ≡ true → is_lt (key_cmp p.key (start_of m)) ≡ false → covers m p.key ≡ false → covers m q.key ≡ false
+later_uncovered : (m : Mark) (p q : Posting) → is_le (key_cmp p.key q.key) ≡ true → is_lt (key_cmp p.key (start_of m)) ≡ false → covers m p.key ≡ false
+    → covers m q.key ≡ false
 later_uncovered m p q le from e = grind (arith, common_steps, covers_above m p.key q.key from e, same_keys p.key q.key)
 
 -- where the first isn't covered, none is
-pub first_uncovered : (m : Mark) (c : Posting → Bool) (ps : List Posting) (p : Posting) → Some p ≡ slice_get ps 0 → keys_rise ps ≡ true → are_from (start_of m) ps ≡ true → covers m p.key ≡ false → least (λ p. covers m p.key && c p) ps ≡ None
+pub first_uncovered : (m : Mark) (c : Posting → Bool) (ps : List Posting) (p : Posting) → Some p ≡ slice_get ps 0 → keys_rise ps ≡ true
+    → are_from (start_of m) ps ≡ true → covers m p.key ≡ false → least (λ p. covers m p.key && c p) ps ≡ None
 first_uncovered m c [] p is rising from e = refl
 first_uncovered m c (q ∷ ps) p is rising from e =
     let first : covers m q.key ≡ false = cc in
@@ -76,25 +97,36 @@ first_uncovered m c (q ∷ ps) p is rising from e =
 -- those that are covered stand first
 pub parted_covered : (m : Mark) (ps : List Posting) → keys_rise ps ≡ true → are_from (start_of m) ps ≡ true → IsPartitionedBy (λ p. covers m p.key) ps
 parted_covered m ps h from i j d le lt e = true_from_ne_false _ (λ f.
-    let begins = not-true _ (all-get (λ p. not (is_lt (key_cmp p.key (start_of m))) ≡ true) ps i d (omega arith) (all-pass (λ p. not (is_lt (key_cmp p.key (start_of m)))) ps from)) in
+    let begins = not-true _ (all-get (λ p. not (is_lt (key_cmp p.key (start_of m)))
+    ≡ true) ps i d (omega arith) (all-pass (λ p. not (is_lt (key_cmp p.key (start_of m)))) ps from)) in
     both_ways _ (later_uncovered m (get_or ps i d) (get_or ps j d) (rise_at ps h i j d le lt) begins f) e)
 
-pub covered_first : (m : Mark) (c : Posting → Bool) (ps : List Posting) (i : ℕ) → IsPartitionPoint (λ p. covers m p.key ≡ true) (λ p. covers m p.key ≡ false) ps i
+pub covered_first : (m : Mark) (c : Posting → Bool) (ps : List Posting) (i : ℕ)
+    → IsPartitionPoint (λ p. covers m p.key ≡ true) (λ p. covers m p.key ≡ false) ps i
     → least (λ p. covers m p.key && c p) ps ≡ least c (take i ps)
 covered_first m c ps i h =
     let t = λ (p : Posting). covers m p.key in
-    grind (arith, lesser_none, least_split (λ p. covers m p.key && c p) i ps, least_none t c (drop i ps) (behind t ps i h), least_all t c (take i ps) (before t ps i h))
+    grind (
+      arith,
+      lesser_none,
+      least_split (λ p. covers m p.key && c p) i ps,
+      least_none t c (drop i ps) (behind t ps i h),
+      least_all t c (take i ps) (before t ps i h),
+    )
 
 -- ---- where the walk begins
 
 pub parted : (low : Bytes) (ps : List Posting) → keys_rise ps ≡ true → IsPartitionedBy (λ p. is_lt (key_cmp p.key low)) ps
 parted low ps h i j d le lt e = from_le _ _ low (rise_at ps h i j d le lt) e
 
-pub rest_from : (low : Bytes) (ps : List Posting) (i : ℕ) → IsPartitionPoint (λ p. is_lt (key_cmp p.key low) ≡ true) (λ p. is_lt (key_cmp p.key low) ≡ false) ps i → are_from low (drop i ps) ≡ true
-rest_from low ps i h = pass-all (λ p. not (is_lt (key_cmp p.key low))) (drop i ps) (all-each _ _ (drop i ps) (λ p e. ap not e) (behind (λ p. is_lt (key_cmp p.key low)) ps i h))
+pub rest_from : (low : Bytes) (ps : List Posting) (i : ℕ)
+    → IsPartitionPoint (λ p. is_lt (key_cmp p.key low) ≡ true) (λ p. is_lt (key_cmp p.key low) ≡ false) ps i → are_from low (drop i ps) ≡ true
+rest_from low ps i h = pass-all (λ p. not (is_lt (key_cmp p.key low))) (drop i ps)
+    (all-each _ _ (drop i ps) (λ p e. ap not e) (behind (λ p. is_lt (key_cmp p.key low)) ps i h))
 
 pub rest_decides : (m : Mark) (c : Posting → Bool) (ps : List Posting) (i : ℕ) → i ≤ length ps →
-    IsPartitionPoint (λ p. is_lt (key_cmp p.key (start_of m)) ≡ true) (λ p. is_lt (key_cmp p.key (start_of m)) ≡ false) ps i → least (λ p. covers m p.key && c p) ps ≡ least (λ p. covers m p.key && c p) (drop i ps)
+    IsPartitionPoint (λ p. is_lt (key_cmp p.key (start_of m)) ≡ true) (λ p. is_lt (key_cmp p.key (start_of m)) ≡ false) ps i
+    → least (λ p. covers m p.key && c p) ps ≡ least (λ p. covers m p.key && c p) (drop i ps)
 rest_decides m c ps i le h =
     let below = before (λ p. is_lt (key_cmp p.key (start_of m))) ps i h in
     let none = least_none (λ p. covers m p.key) c (take i ps) (all-each _ _ (take i ps) (λ p lt. covers_below m p.key (less _ lt)) below) in
@@ -106,7 +138,8 @@ pub parted_through : (k : Bytes) (ps : List Posting) → keys_rise ps ≡ true �
 parted_through k ps h i j d le lt e = le_trans _ _ k (rise_at ps h i j d le lt) e
 
 -- behind those that are not above it, and before those that it isn't above
-pub rise_between : (w : Posting) (ms ys : List Posting) → AllByRecursion (λ m. is_le (key_cmp m.key w.key) ≡ true) ms → list_all (λ y. is_le (key_cmp w.key y.key)) ys ≡ true
+pub rise_between : (w : Posting) (ms ys : List Posting) → AllByRecursion (λ m. is_le (key_cmp m.key w.key) ≡ true) ms
+    → list_all (λ y. is_le (key_cmp w.key y.key)) ys ≡ true
     → keys_rise (ms ++ ys) ≡ true → keys_rise (ms ++ w ∷ ys) ≡ true
 rise_between w [] ys below from h = and_from _ _ from h
 rise_between w (m ∷ ms) ys below from h =
@@ -125,7 +158,8 @@ inserted_least c ps i p =
 
 -- ---- several marks
 
-pub least-or : (x y w : Posting → Bool) (ps : List Posting) → least (λ p. (x p || y p) && w p) ps ≡ lesser (least (λ p. x p && w p) ps) (least (λ p. y p && w p) ps)
+pub least-or : (x y w : Posting → Bool) (ps : List Posting)
+    → least (λ p. (x p || y p) && w p) ps ≡ lesser (least (λ p. x p && w p) ps) (least (λ p. y p && w p) ps)
 least-or x y w [] = refl
 least-or x y w (p ∷ ps) = grind (arith, least-or x y w ps)
 

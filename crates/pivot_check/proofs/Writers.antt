@@ -1,6 +1,20 @@
 -- What is asked of records through the postings of the keys that they wrote.
-use Rattle.pivot_check.proofs.Words.{◌≡◌, ◌≤◌, ◌<◌, ℕ, Bool, true, false, cond, ◌&&◌, ◌||◌, List, [], ◌∷◌, ◌++◌, Option, Some, None, refl, sym, ap, ◌∙◌, arith, nat_lt, is_some, not, list_any, filter, AllByRecursion, option_map, nat_tests, filter-append, Bytes, is_same_key, is_covered, find_alike, View, KeptRecord, first_number, follows, becomes_pivot, is_written, Posting, postings_by, least, lesser, asked_of, covered_of, lesser_none, lesser_assoc, least-append, postings_of, all_postings, AreWriters}
+use Rattle.std.proofs.Common.{◌≡◌, ◌≤◌, ◌<◌, ℕ, Bool, true, false, cond, ◌&&◌, ◌||◌, List, [], ◌∷◌, ◌++◌, Option}
+use Rattle.std.proofs.Common.{Some, None, refl, sym, ap, ◌∙◌, arith}
+use Rattle.std.proofs.lemmas.Bool.Decides.{nat_tests}
+use Rattle.std.proofs.lemmas.List.Elements.{filter-append}
+use Rattle.std.specs.List.{list_any, filter, AllByRecursion}
+use Rattle.std.specs.Option.{option_map}
+use Rattle.std.specs.Prelude.{nat_lt, is_some, not}
+use Rattle.model.proofs.Pivots.{find_alike}
+use Rattle.model.specs.Map.{Bytes, is_same_key}
+use Rattle.model.specs.PrivateCopy.{is_covered}
 use Rattle.model.specs.PrivateCopy.Mark.{OfKey}
+use Rattle.snapshot.specs.View.{View}
+use Rattle.pivot_check.specs.Agreeing.{lesser_none, lesser_assoc, least-append}
+use Rattle.pivot_check.specs.Kept.{KeptRecord, first_number, follows, becomes_pivot, is_written}
+use Rattle.pivot_check.specs.Postings.{Posting, postings_by, least, lesser, asked_of, covered_of}
+use Rattle.pivot_check.specs.StandsFor.{postings_of, all_postings, AreWriters}
 
 -- the records stand by rising commit number
 abbrev pub IsRising : List KeptRecord → Type 0
@@ -18,7 +32,8 @@ pub least_alike : (c d : Posting → Bool) → ((p : Posting) → c p ≡ d p) �
 least_alike c d same [] = refl
 least_alike c d same (p ∷ ps) = λ i. lesser (cond (same p i) (Some p.number) None) (least_alike c d same ps i)
 
-all_postings-push : (c : Posting → Bool) (rs : List KeptRecord) (r : KeptRecord) → least c (all_postings (rs ++ r ∷ [])) ≡ lesser (least c (all_postings rs)) (least c (postings_of r))
+all_postings-push : (c : Posting → Bool) (rs : List KeptRecord) (r : KeptRecord)
+    → least c (all_postings (rs ++ r ∷ [])) ≡ lesser (least c (all_postings rs)) (least c (postings_of r))
 all_postings-push c [] r = least-append c (postings_of r) [] ∙ lesser_none (least c (postings_of r))
 all_postings-push c (s ∷ rs) r =
     grind (arith, lesser_assoc, least-append c (postings_of s), all_postings-push c rs r)
@@ -29,7 +44,8 @@ pub least-filter : (c q : Posting → Bool) (ps : List Posting) → least c (fil
 least-filter c q [] = refl
 least-filter c q (p ∷ ps) = grind (arith, least-filter c q ps)
 
-postings_pass : (o n : ℕ) (flag : Bool) (ks : List Bytes) → filter (λ p. nat_lt o p.number) (postings_by n flag ks) ≡ cond (nat_lt o n) (postings_by n flag ks) []
+postings_pass : (o n : ℕ) (flag : Bool) (ks : List Bytes)
+    → filter (λ p. nat_lt o p.number) (postings_by n flag ks) ≡ cond (nat_lt o n) (postings_by n flag ks) []
 postings_pass o n flag [] = grind arith
 postings_pass o n flag (k ∷ ks) = grind (arith, postings_pass o n flag ks)
 
@@ -43,10 +59,12 @@ above_both : (o b n : ℕ) → o ≤ b → (x y : Bool) → (nat_lt o n && (x &&
 above_both o b n le x y = grind (arith, nat_tests)
 
 pub forgotten : (o newer : ℕ) (ps qs : List Posting) (rs : List KeptRecord) → AreWriters o ps rs → o ≤ newer
-    → ((c : Posting → Bool) → least (λ p. nat_lt newer p.number && c p) qs ≡ least (λ p. nat_lt newer p.number && c p) ps) → AreWriters newer qs (filter (λ r. nat_lt newer r.commit) rs)
+    → ((c : Posting → Bool) → least (λ p. nat_lt newer p.number && c p) qs ≡ least (λ p. nat_lt newer p.number && c p) ps)
+    → AreWriters newer qs (filter (λ r. nat_lt newer r.commit) rs)
 forgotten o newer ps qs rs are le same c =
     same c
-    ∙ sym (least_alike (λ p. nat_lt o p.number && (nat_lt newer p.number && c p)) (λ p. nat_lt newer p.number && c p) (λ p. above_both o newer p.number le true (c p)) ps)
+    ∙ sym (least_alike (λ p. nat_lt o p.number && (nat_lt newer p.number && c p)) (λ p. nat_lt newer p.number
+    && c p) (λ p. above_both o newer p.number le true (c p)) ps)
     ∙ are (λ p. nat_lt newer p.number && c p)
     ∙ sym (least-filter c (λ p. nat_lt newer p.number) (all_postings rs))
     ∙ ap (least c) (all_pass newer rs)
@@ -54,7 +72,15 @@ forgotten o newer ps qs rs are le same c =
 pub noted : (o : ℕ) (ps qs : List Posting) (rs : List KeptRecord) (r : KeptRecord) → AreWriters o ps rs → o < r.commit
     → ((c : Posting → Bool) → least c qs ≡ lesser (least c ps) (least c (postings_of r))) → AreWriters o qs (rs ++ r ∷ [])
 noted o ps qs rs r are lt added c =
-    grind (arith, nat_tests, are c, all_postings-push c rs r, added (λ p. nat_lt o p.number && c p), least-filter c (λ p. nat_lt o p.number) (postings_of r), postings_pass o r.commit r.has_earlier_target r.keys)
+    grind (
+      arith,
+      nat_tests,
+      are c,
+      all_postings-push c rs r,
+      added (λ p. nat_lt o p.number && c p),
+      least-filter c (λ p. nat_lt o p.number) (postings_of r),
+      postings_pass o r.commit r.has_earlier_target r.keys,
+    )
 
 -- no number of them is above their own
 pub by_upto : (n : ℕ) (flag : Bool) (ks : List Bytes) → least (λ p. nat_lt n p.number) (postings_by n flag ks) ≡ None
@@ -86,7 +112,13 @@ module _ (d : Bytes → Bool) (e : Bool → Bool) (b : ℕ) where
   of_all : (rs : List KeptRecord) → IsRising rs → least asks (all_postings rs) ≡ first_number passes (after_b rs)
   of_all [] rise = refl
   of_all (r ∷ rs) rise =
-      grind (arith, found_above r.commit rs rise.0, of_all rs rise.1, of_record r.commit r.has_earlier_target r.keys, least-append asks (postings_of r) (all_postings rs))
+      grind (
+        arith,
+        found_above r.commit rs rise.0,
+        of_all rs rise.1,
+        of_record r.commit r.has_earlier_target r.keys,
+        least-append asks (postings_of r) (all_postings rs),
+      )
 
   asked : (o : ℕ) (ps : List Posting) (rs : List KeptRecord) → AreWriters o ps rs → o ≤ b → IsRising rs → least asks ps ≡ first_number passes (after_b rs)
   asked o ps rs are le rise =
@@ -101,7 +133,8 @@ first_alike p q same rs = ap (option_map (λ (k : KeptRecord). k.commit)) (find_
 
 -- the first that passes the test of keys
 by_keys : (d : Bytes → Bool) (o b : ℕ) (ps : List Posting) (rs : List KeptRecord) → AreWriters o ps rs → o ≤ b → IsRising rs →
-    first_number (λ r. list_any d r.keys) (filter (λ r. nat_lt b r.commit) rs) ≡ least (λ p. d p.key && (nat_lt b p.number && (p.has_earlier_target || not false))) ps
+    first_number (λ r. list_any d r.keys) (filter (λ r. nat_lt b r.commit) rs)
+    ≡ least (λ p. d p.key && (nat_lt b p.number && (p.has_earlier_target || not false))) ps
 by_keys d o b ps rs are le rise =
     first_alike (λ r. list_any d r.keys) (λ r. list_any d r.keys && (r.has_earlier_target || not false)) (λ r. grind arith) (filter (λ r. nat_lt b r.commit) rs)
     ∙ sym (asked d (λ flag. flag || not false) b o ps rs are le rise)
@@ -113,7 +146,8 @@ any_is_found p (r ∷ rs) = grind (arith, any_is_found p rs)
 -- whether a record since number b has written the key
 pub written : (o b : ℕ) (ps : List Posting) (rs : List KeptRecord) (k : Bytes) → AreWriters o ps rs → o ≤ b → IsRising rs →
     is_written (filter (λ r. nat_lt b r.commit) rs) k ≡ is_some (least (asked_of (OfKey k) b false) ps)
-written o b ps rs k are le rise = any_is_found (λ r. list_any (is_same_key k) r.keys) (filter (λ r. nat_lt b r.commit) rs) ∙ ap is_some (by_keys (is_same_key k) o b ps rs are le rise)
+written o b ps rs k are le rise =
+    any_is_found (λ r. list_any (is_same_key k) r.keys) (filter (λ r. nat_lt b r.commit) rs) ∙ ap is_some (by_keys (is_same_key k) o b ps rs are le rise)
 
 -- the first of them that has written what the marks cover
 pub target : (o b : ℕ) (ps : List Posting) (rs : List KeptRecord) (t : View) → AreWriters o ps rs → o ≤ b → IsRising rs →

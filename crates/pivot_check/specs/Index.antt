@@ -1,11 +1,13 @@
 -- What is kept says of a transaction that commits next.
 use Rattle.std.specs.Prelude.{ℕ, Bool, true, false, is_some, Option, List}
-use Rattle.model.specs.{Map.Bytes, PrivateCopy.Mark.OfKey}
-use Rattle.snapshot.specs.View.{View}
-use Rattle.pivot_check.specs.{declared.verdict.Verdict.Verdict, StandsFor.verdict_found}
-use Rattle.pivot_check.specs.Kept.{Facts, keys_of, last_source, are_in_order}
+use Rattle.model.specs.Map.{Bytes}
+use Rattle.model.specs.PrivateCopy.Mark.{OfKey}
 use Rattle.last_readers.specs.Readers.{last_reader}
+use Rattle.snapshot.specs.View.{View}
+use Rattle.pivot_check.specs.Kept.{Facts, keys_of, last_source, are_in_order}
 use Rattle.pivot_check.specs.Postings.{Posting, least, asked_of, covered_of}
+use Rattle.pivot_check.specs.StandsFor.{verdict_found}
+use Rattle.pivot_check.specs.declared.verdict.Verdict.{Verdict}
 
 -- whether a posting after that number has the key
 abbrev pub is_written_since : List Posting → ℕ → Bytes → Bool

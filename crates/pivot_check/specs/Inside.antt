@@ -1,9 +1,12 @@
 -- What a `Committed` holds as contracts see it.
 use Rattle.std.specs.Prelude.{ℕ, ◌+◌, ◌&&◌, Bool, min, List, [], ◌∷◌, ◌++◌, Option, option_map}
 use Rattle.std.specs.Vec.{vec_len}
-use Rattle.merging_runs.specs.RunSizes.{RunSize}
-use Rattle.pivot_check.specs.{declared.ready.Ready.Ready, declared.run.WrittenRun.WrittenRun, Postings.Posting, Postings.are_later, Parts.left, Parts.live_in}
 use Rattle.model.specs.Map.{Bytes}
+use Rattle.merging_runs.specs.RunSizes.{RunSize}
+use Rattle.pivot_check.specs.Parts.{left, live_in}
+use Rattle.pivot_check.specs.Postings.{Posting, are_later}
+use Rattle.pivot_check.specs.declared.ready.Ready.{Ready}
+use Rattle.pivot_check.specs.declared.run.WrittenRun.{WrittenRun}
 
 -- the postings of a run
 abbrev pub in_run : WrittenRun → List Posting
@@ -27,7 +30,8 @@ first_number r = min r.made.bound.number (min r.first.bound.number r.second.boun
 
 -- whether all that it holds, also what was taken, has a number above this one
 abbrev pub is_run_later : ℕ → WrittenRun → Bool
-is_run_later o r = are_later o r.made.written.items && (are_later o r.first.written.items && are_later o r.second.written.items)
+is_run_later o r = are_later o r.made.written.items
+    && (are_later o r.first.written.items && are_later o r.second.written.items)
 
 -- how far a run is merged
 abbrev pub sizes_of : WrittenRun → RunSize

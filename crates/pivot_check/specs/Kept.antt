@@ -1,14 +1,19 @@
 -- What is kept of committed transactions, so that a commit can be checked once older ones are forgotten.
-use Rattle.std.specs.Prelude.{◌≡◌, ℕ, ◌<◌, ◌≤◌, nat_le, Bool, true, false, ◌&&◌, List, [], ◌∷◌, Option, Some, None, find, option_map, map, max, ◌+◌, ◌-◌, if◌then◌else◌}
 use Rattle.std.specs.List.{list_any}
-use Rattle.model.specs.{Map.Bytes, Map.KeyWrite, Map.is_same_key, PrivateCopy.Mark, PrivateCopy.is_covered}
+use Rattle.std.specs.Prelude.{◌≡◌, ℕ, ◌<◌, ◌≤◌, nat_le, Bool, true, false, ◌&&◌, ◌||◌, ◌==◌, List, [], ◌∷◌, Option}
+use Rattle.std.specs.Prelude.{Some, None, find, option_map, map, max, ◌+◌, ◌-◌, if◌then◌else◌}
+use Rattle.model.specs.Map.{Bytes, KeyWrite, is_same_key}
+use Rattle.model.specs.PrivateCopy.{Mark, is_covered}
+use Rattle.merging_runs.specs.Held.{Held, due_upto, given_a_forget}
+use Rattle.merging_runs.specs.Next.{count_upto}
+use Rattle.merging_runs.specs.RunSizes.{LeavesMerges, RunSize}
+use Rattle.last_readers.specs.Readers.{IsForgotten, NameNoneUpto, Readers, ReadersRoom, is_named, last_reader, after}
+use Rattle.last_readers.specs.Readers.{HasRoom as HasReadersRoom}
 use Rattle.snapshot.specs.View.{View}
-use Rattle.last_readers.specs.Readers.{IsForgotten, NameNoneUpto, Readers, ReadersRoom, last_reader, after, HasRoom as HasReadersRoom}
-use Rattle.merging_runs.specs.{Held.Held, Held.due_upto, Held.given_a_forget, RunSizes.LeavesMerges, RunSizes.RunSize}
 use Rattle.pivot_check.specs.Postings.{Posting, are_later}
 
--- what the check needs of a committed transaction: the marks of what it read, the keys that it wrote by rising key, and whether it has a
--- read-write dependency to a concurrent one that committed before it
+-- what the check needs of a committed transaction: the marks of what it read, the keys that it wrote by rising key, and
+-- whether it has a read-write dependency to a concurrent one that committed before it
 pub record KeptRecord : Type 0 where
   pub begin : ℕ
   pub commit : ℕ
@@ -16,7 +21,8 @@ pub record KeptRecord : Type 0 where
   pub keys : List Bytes
   pub has_earlier_target : Bool
 
--- what is kept of committed transactions: of each key the last one that has read it, of those with a number above `oldest`; the keys that they wrote, and perhaps some that older ones wrote; and the last commit number
+-- what is kept of committed transactions: of each key the last one that has read it, of those with a number above
+-- `oldest`; the keys that they wrote, and perhaps some that older ones wrote; and the last commit number
 pub record Facts : Type 0 where
   pub readers : Readers
   pub postings : List Posting
@@ -69,8 +75,8 @@ are_in_order None other = false
 are_in_order (Some n) None = false
 are_in_order (Some n) (Some m) = nat_le n m
 
--- whether the transaction is a dangerous pivot once it has committed: the first of the concurrent records that it has a dependency to
--- committed no later than the last one with a dependency to it
+-- whether the transaction is a dangerous pivot once it has committed: the first of the concurrent records that it has a
+-- dependency to committed no later than the last one with a dependency to it
 abbrev pub is_own_pivot : List KeptRecord → View → Bool
 is_own_pivot rs t = are_in_order (first_number (λ r. follows r t) rs) (last_number (λ r. leads_to r t) rs)
 
@@ -115,6 +121,14 @@ pub record KeepsNoneUpto (oldest : ℕ) (f : Facts) : Type 0 where
   pub written : are_later oldest f.postings ≡ true
   pub readers : NameNoneUpto oldest f.readers
 
+-- whether something is kept of the commit with that number: a key that it wrote, or that it was the last to read one
+abbrev pub is_kept : Facts → ℕ → Bool
+is_kept f n = is_named f.readers n || list_any (λ p. n == p.number) f.postings
+
+-- of how many commits something is kept
+abbrev pub kept_count : Facts → ℕ
+kept_count f = count_upto (is_kept f) f.last
+
 -- nothing is kept
 pub record IsEmpty (f : Facts) : Type 0 where
   pub readers : (k : Bytes) → last_reader f.readers k ≡ 0
@@ -127,7 +141,8 @@ pub record IsInReach (f : Facts) (t : View) : Type 0 where
   pub begun : t.begin ≤ f.last
   pub held : f.oldest ≤ t.begin
 
--- the memory that was made ready: that of the last readers, free places for runs of written keys, and the keys of a transaction
+-- the memory that was made ready: that of the last readers, free places for runs of written keys, and the keys of a
+-- transaction
 pub record Room : Type 0 where
   pub readers : ReadersRoom
   pub runs : ℕ
@@ -137,8 +152,8 @@ pub record Room : Type 0 where
 abbrev pub HasRoom : Room → View → Type 0
 HasRoom room t = HasReadersRoom t.marks room.readers × (0 < room.runs) × (room.ready ≡ Some (keys_of t.writes))
 
--- how much the runs of the last readers hold, and those of written keys; how far the latter are merged, and how often memory for that was
--- refused
+-- how much the runs of the last readers hold, and those of written keys; how far the latter are merged, and how often
+-- memory for that was refused
 pub record HeldParts : Type 0 where
   pub readers : Held
   pub written : Held
@@ -154,9 +169,11 @@ pub record CommittedValue : Type 0 where
 abbrev pub runs_due : CommittedValue → ℕ
 runs_due v = due_upto v.facts.readers.oldest v.held.readers + due_upto v.facts.oldest v.held.written
 
--- A step of what was to be given back has gone. So where the last numbers stay, it is all gone after as many steps as it takes.
+-- A step of what was to be given back has gone. So where the last numbers stay, it is all gone after as many steps as
+-- it takes.
 pub record IsGivenBack (old new : CommittedValue) : Type 0 where
-  pub readers : due_upto new.facts.readers.oldest new.held.readers ≡ due_upto new.facts.readers.oldest old.held.readers - given_a_forget
+  pub readers : due_upto new.facts.readers.oldest new.held.readers
+      ≡ due_upto new.facts.readers.oldest old.held.readers - given_a_forget
   pub written : due_upto new.facts.oldest new.held.written ≡ due_upto new.facts.oldest old.held.written - given_a_forget
 
 -- no more postings are to be moved than before in runs with numbers that may be asked for, and no refusal was counted

@@ -1,7 +1,7 @@
 -- How runs of written keys are merged, some postings at a time.
 use Rattle.std.specs.Prelude.{◌≡◌, ℕ, ◌+◌, ◌&&◌, Bool, List, nat_le, length}
-use Rattle.snapshot.specs.View.{View}
 use Rattle.merging_runs.specs.RunSizes.{RunSize, IsMoved, IsTried, are_alike, with_run, moves_for}
+use Rattle.snapshot.specs.View.{View}
 use Rattle.pivot_check.specs.Kept.{CommittedValue}
 
 -- two runs of a like size, not too long for one
@@ -22,3 +22,8 @@ AreMoved count sizes old new =
 -- so it is once the written keys of the transaction have come with number n as a run
 abbrev pub AreMovedWith : View → ℕ → CommittedValue → CommittedValue → Type 0
 AreMovedWith t n old new = let count = length t.writes in AreMoved count (with_run n count old.held.sizes) old new
+
+-- the written keys of the transaction have come with number n as a run; no memory for a merge was refused
+pub record AddsWrittenRun (t : View) (n : ℕ) (old new : CommittedValue) : Type 0 where
+  pub sizes : new.held.sizes ≡ with_run n (length t.writes) old.held.sizes
+  pub refused : new.held.refused ≡ old.held.refused

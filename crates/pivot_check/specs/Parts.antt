@@ -1,6 +1,7 @@
 -- The parts of a run.
 use Rattle.std.specs.Prelude.{ℕ, ◌-◌, List, ◌++◌, length, drop}
-use Rattle.pivot_check.specs.{declared.part.Part.Part, Postings.Posting}
+use Rattle.pivot_check.specs.Postings.{Posting}
+use Rattle.pivot_check.specs.declared.part.Part.{Part}
 
 -- what wasn't taken of a part
 abbrev pub live : Part → List Posting

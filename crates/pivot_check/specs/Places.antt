@@ -1,7 +1,8 @@
 -- Marks by their places.
-use Rattle.std.specs.Prelude.{◌≡◌, ℕ, zero, suc, Bool, List, [], ◌∷◌, ◌++◌, ◌&&◌, take, drop}
 use Rattle.std.specs.List.{list_any}
-use Rattle.model.specs.{Map.Bytes, PrivateCopy.Mark, PrivateCopy.is_covered}
+use Rattle.std.specs.Prelude.{◌≡◌, ℕ, zero, suc, Bool, List, [], ◌∷◌, ◌++◌, ◌&&◌, take, drop}
+use Rattle.model.specs.Map.{Bytes}
+use Rattle.model.specs.PrivateCopy.{Mark, is_covered}
 use Rattle.pivot_check.specs.Postings.{Posting, is_asked}
 
 -- the places below this one

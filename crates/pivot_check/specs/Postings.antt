@@ -1,7 +1,10 @@
 -- Written keys of committed transactions, and the least number among them.
-use Rattle.std.specs.Prelude.{◌≡◌, ℕ, ◌-◌, min, Bool, true, not, ◌&&◌, ◌||◌, List, [], ◌∷◌, Option, Some, None, is_some, if◌then◌else◌, nat_lt, take, drop}
-use Rattle.std.specs.{List.filter, List.list_all, Ordering.is_le, Ordering.is_lt}
-use Rattle.model.specs.{Map.Bytes, Map.key_cmp, PrivateCopy.Mark, PrivateCopy.covers, PrivateCopy.is_covered}
+use Rattle.std.specs.List.{filter, list_all}
+use Rattle.std.specs.Ordering.{is_le, is_lt}
+use Rattle.std.specs.Prelude.{◌≡◌, ℕ, ◌-◌, min, Bool, true, not, ◌&&◌, ◌||◌, List, [], ◌∷◌, Option, Some, None}
+use Rattle.std.specs.Prelude.{is_some, if◌then◌else◌, nat_lt, take, drop}
+use Rattle.model.specs.Map.{Bytes, key_cmp}
+use Rattle.model.specs.PrivateCopy.{Mark, covers, is_covered}
 
 -- a written key, with the commit number and the flag of the transaction that wrote it
 pub record Posting : Type 0 where

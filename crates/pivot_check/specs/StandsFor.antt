@@ -1,16 +1,22 @@
 -- The histories for which what is kept stands, and what the check of a commit says about them.
-use Rattle.std.specs.Prelude.{◌≡◌, ℕ, ◌<◌, ◌+◌, Bool, true, false, ◌&&◌, List, [], ◌∷◌, ◌++◌, Option, Some, None, map, max, nat_lt, if◌then◌else◌, length, All, slice_get, ⊤}
-use Rattle.std.specs.Prelude.{◌↔◌}
-use Rattle.std.specs.List.{list_any, filter}
-use Rattle.model.specs.{declared.refusals.Refusal.Refusal, Map.Bytes, Map.KeyWrite, PrivateCopy.is_covered, History.Record, History.IsNumberedFrom}
 use Rattle.model.specs.declared.refusals.Refusal.TheVariants as refusal
-use Rattle.pivot_check.specs.declared.verdict.Cleared.{Cleared}
-use Rattle.pivot_check.specs.{declared.verdict.Verdict.Verdict, Postings.Posting, Postings.postings_by, Postings.least}
-use Rattle.pivot_check.specs.declared.verdict.Verdict.TheVariants.{Clear, Overwritten, PivotSelf, Pivot}
-use Rattle.model.specs.{Dependency.concurrent_read_write, Verdict.verdict, Verdict.HasNoDangerousPivot}
+use Rattle.std.specs.List.{list_any, filter}
+use Rattle.std.specs.Prelude.{◌≡◌, ℕ, ◌<◌, ◌+◌, Bool, true, false, ◌&&◌, List, [], ◌∷◌, ◌++◌, Option, Some, None, map}
+use Rattle.std.specs.Prelude.{max, nat_lt, if◌then◌else◌, length, All, slice_get, ⊤, ◌↔◌}
+use Rattle.model.specs.Dependency.{concurrent_read_write}
+use Rattle.model.specs.History.{Record, IsNumberedFrom}
+use Rattle.model.specs.Map.{Bytes, KeyWrite}
+use Rattle.model.specs.PrivateCopy.{is_covered}
+use Rattle.model.specs.Verdict.{verdict, HasNoDangerousPivot}
+use Rattle.model.specs.declared.refusals.Refusal.{Refusal}
+use Rattle.last_readers.specs.Readers.{last_reader}
+use Rattle.last_readers.specs.Steps.{cut}
 use Rattle.snapshot.specs.View.{View}
-use Rattle.last_readers.specs.{Readers.last_reader, Steps.cut}
 use Rattle.pivot_check.specs.Kept.{KeptRecord, Facts, IsInReach, keys_of}
+use Rattle.pivot_check.specs.Postings.{Posting, postings_by, least}
+use Rattle.pivot_check.specs.declared.verdict.Cleared.{Cleared}
+use Rattle.pivot_check.specs.declared.verdict.Verdict.{Verdict}
+use Rattle.pivot_check.specs.declared.verdict.Verdict.TheVariants.{Clear, Overwritten, PivotSelf, Pivot}
 
 -- what is kept of a record of the history, the whole of which decides its flag
 abbrev pub kept_of : List Record → Record → KeptRecord
@@ -48,7 +54,8 @@ all_postings (r ∷ rs) = postings_of r ++ all_postings rs
 
 -- above that number the postings answer each question about single ones as the records' own do
 abbrev pub AreWriters : ℕ → List Posting → List KeptRecord → Type 0
-AreWriters oldest ps rs = (c : Posting → Bool) → least (λ p. nat_lt oldest p.number && c p) ps ≡ least c (all_postings rs)
+AreWriters oldest ps rs = (c : Posting → Bool)
+    → least (λ p. nat_lt oldest p.number && c p) ps ≡ least c (all_postings rs)
 
 -- what is kept stands for the history
 pub record StandsFor (f : Facts) (history : List Record) : Type 0 where
@@ -69,7 +76,8 @@ pub record IsRecordOf (t : View) (n : ℕ) (r : Record) : Type 0 where
 -- what the answer says of the writes is the conflict
 abbrev pub Says : Verdict → List KeyWrite → Option Refusal → Type 0
 Says (Clear cleared) ws conflict = conflict ≡ None
-Says (Overwritten i) ws conflict = (w : KeyWrite) × (slice_get ws i ≡ Some w) × (conflict ≡ Some (refusal.Overwritten w.0))
+Says (Overwritten i) ws conflict =
+    (w : KeyWrite) × (slice_get ws i ≡ Some w) × (conflict ≡ Some (refusal.Overwritten w.0))
 Says PivotSelf ws conflict = conflict ≡ Some refusal.PivotSelf
 Says (Pivot n) ws conflict = conflict ≡ Some (refusal.Pivot n)
 
@@ -80,8 +88,8 @@ IsPlaced (Clear cleared) ws = ⊤
 IsPlaced PivotSelf ws = ⊤
 IsPlaced (Pivot n) ws = ⊤
 
--- what is answered where the transaction overwrites no concurrent commit: is it a dangerous pivot itself, which other one is the first, and
--- does it follow one that committed before it
+-- what is answered where the transaction overwrites no concurrent commit: is it a dangerous pivot itself, which other
+-- one is the first, and does it follow one that committed before it
 abbrev pub verdict_found : Bool → Option ℕ → Bool → Verdict
 verdict_found true other follows = PivotSelf
 verdict_found false None follows = Clear (record { has_earlier_target = follows })
@@ -89,11 +97,13 @@ verdict_found false (Some n) follows = Pivot n
 
 -- the answer is the verdict over each history that is stood for
 abbrev pub IsVerdict : Facts → View → Verdict → Type 0
-IsVerdict f t answer = (history : List Record) → StandsFor f history → (r : Record) → IsRecordOf t (f.last + 1) r → Says answer t.writes (verdict history r)
+IsVerdict f t answer = (history : List Record) → StandsFor f history → (r : Record) → IsRecordOf t (f.last + 1) r
+    → Says answer t.writes (verdict history r)
 
 -- over each of them the transaction may commit
 abbrev pub IsClear : Facts → View → Type 0
-IsClear f t = (history : List Record) → StandsFor f history → (r : Record) → IsRecordOf t (f.last + 1) r → verdict history r ≡ None
+IsClear f t = (history : List Record) → StandsFor f history → (r : Record) → IsRecordOf t (f.last + 1) r
+    → verdict history r ≡ None
 
 -- a transaction in reach was cleared: over each of them it may commit, and has a read-write dependency to a concurrent
 -- one where that is said

@@ -2,10 +2,10 @@
 ghost use Rattle.std.specs.Prelude.{◌≡◌, ◌+◌, ◌≤◌, ◌<◌, List, [], length, nat_lt, false, OnOk, ◌-◌};
 ghost use Rattle.model.specs.History.{Record};
 ghost use Rattle.merging_runs.specs.Held.{size_in};
-ghost use Rattle.merging_runs.specs.RunSizes.{with_run};
-ghost use Rattle.pivot_check.specs.Merged.{AreMoved, AreMovedWith, IsTriedIn};
+ghost use Rattle.merging_runs.specs.Next.{IsNext};
+ghost use Rattle.pivot_check.specs.Merged.{AddsWrittenRun, AreMoved, AreMovedWith, IsTriedIn};
 ghost use Rattle.pivot_check.specs.Kept.{Forgets, HasForgotten, HasRoom, IsEmpty, IsGivenBack};
-ghost use Rattle.pivot_check.specs.Kept.{IsInReach, KeepsNoneUpto, LeavesMergesOf, runs_due};
+ghost use Rattle.pivot_check.specs.Kept.{IsInReach, KeepsNoneUpto, LeavesMergesOf, is_kept, kept_count, runs_due};
 ghost use Rattle.pivot_check.specs.Index.{answer_found};
 ghost use Rattle.pivot_check.specs.StandsFor.{StandForSame, StandWithRecord, StandsFor};
 ghost use Rattle.pivot_check.specs.StandsFor.{IsCleared, IsClearedBy, IsPlaced, IsVerdict};
@@ -79,11 +79,29 @@ impl Committed {
         }
     }
 
-    /// How many transactions committed after number `oldest`: commit numbers have no gaps. Takes no memory.
-    pub fn kept(&self) -> usize
-        ensures { result ≡ self.now.facts.last - self.now.facts.oldest }
+    // The least number above `n` of a commit of which something is kept.
+    fn next_kept(&self, n: u64) -> Option<u64>
+        ensures { IsNext (is_kept self.now.facts) n result }
     {
-        (self.last - self.oldest) as usize
+        let read = self.readers.next_named(None, n);
+        self.runs.next_number(read, n)
+    }
+
+    /// Of how many transactions something is kept: a key that they wrote, or that they were the last to read one. It looks at all that the
+    /// runs hold once for each of them, so it is no call for a busy store. Takes no memory.
+    pub fn kept(&self) -> usize
+        ensures { result ≡ kept_count self.now.facts }
+    {
+        let mut count = 0;
+        let mut number = 0;
+        'kept: while let Some(next) = self.next_kept(number) {
+            if next > self.last {
+                return count;
+            }
+            number = next;
+            count += 1;
+        }
+        count
     }
 
     /// The last commit number, 0 before the first commit. Takes no memory.
@@ -117,7 +135,8 @@ impl Committed {
         self.runs.size()
     }
 
-    /// How often memory for a merge of written keys was refused, 2^64 - 1 at most: each time two runs of a like size stayed. Takes no memory.
+    /// How often memory for a merge of written keys was refused, 2^64 - 1 at most: each time two runs of a like size stayed. Takes no
+    /// memory.
     pub fn refused(&self) -> u64
         ensures { result ≡ self.now.held.refused }
     {
@@ -168,9 +187,9 @@ impl Committed {
         }
     }
 
-    /// Makes room for what is kept of the transaction, so that `note` can't fail. It takes a copy of the keys in its marks and of its written
-    /// keys, the place of each of these keys, and the places of two runs; `Memory` where that is refused. What is kept stands for the same
-    /// histories in either case.
+    /// Makes room for what is kept of the transaction, so that `note` can't fail. It takes a copy of the keys in its marks and of its
+    /// written keys, the place of each of these keys, and the places of two runs; `Memory` where that is refused. What is kept stands for
+    /// the same histories in either case.
     ///
     /// It begins to merge two runs beside one another that are of a like size, where there are such: that takes the places of both. Where
     /// memory for these is refused, it counts the refusal, and the two stay. So it does with the last readers, by a count of their own.
@@ -193,8 +212,7 @@ impl Committed {
         ensures stands_for { StandWithRecord self.old.facts self.new.facts tx.now n }
         ensures last { self.new.facts.last ≡ n }
         ensures oldest { self.new.facts.oldest ≡ self.old.facts.oldest }
-        ensures sizes { self.new.held.sizes ≡ with_run n (length tx.now.writes) self.old.held.sizes }
-        ensures refused { self.new.held.refused ≡ self.old.held.refused }
+        ensures run { AddsWrittenRun tx.now n self.old self.new }
     {
         let Some(ready) = self.ready.take() else {
             unreachable!()
@@ -235,9 +253,9 @@ impl Committed {
 
     /// Does a part of what `forget` does. From then on none may ask that began before `oldest`, and what is left stands for the same
     /// histories, since a flag was fixed when it was noted. What was kept of the transactions that committed at or before `oldest` is
-    /// dropped in steps: as much in each as `Runs::forget_step` tells, of the written keys and of the last readers, so that it is short also
-    /// at the end of a transaction that was open for long. Answers whether it has to be called again until nothing is kept of them. Takes
-    /// no memory.
+    /// dropped in steps: as much in each as `Runs::forget_step` tells, of the written keys and of the last readers, so that it is short
+    /// also at the end of a transaction that was open for long. Answers whether it has to be called again until nothing is kept of them.
+    /// Takes no memory.
     pub fn forget_step(&mut self, oldest: u64) -> bool
         requires { oldest ≤ self.old.facts.last }
         ensures stands_for { (h : List Record) → StandsFor self.old.facts h → StandsFor self.new.facts h }

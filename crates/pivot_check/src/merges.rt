@@ -1,5 +1,6 @@
 //! Runs of written keys, merged in steps.
-ghost use Rattle.std.specs.Prelude.{◌≡◌, ◌≤◌, ◌<◌, ◌+◌, ◌-◌, ◌^◌, ℕ, IsTrue, length, Bool};
+ghost use Rattle.std.specs.Prelude.{◌≡◌, ◌≤◌, ◌<◌, ◌+◌, ◌-◌, ◌^◌, ◌==◌, ℕ, IsTrue, length, Bool};
+ghost use Rattle.std.specs.List.{list_any};
 ghost use Rattle.std.specs.Vec.{vec_capacity};
 ghost use Rattle.std.proofs.Common.{refl, ◌∙◌};
 ghost use Rattle.pivot_check.specs.Inside.{first_number, held_of, in_run, is_run_later, sizes_of};
@@ -58,6 +59,8 @@ impl Run for WrittenRun {
 
     ghost above = { λ o r. IsTrue (is_run_later o r) };
 
+    ghost has = { λ r k. list_any (λ q. k == q.number) (in_run r) };
+
     ghost room = { λ r. vec_capacity r.first.written + vec_capacity r.second.written };
 
     ghost fit = { λ n places. (length places.written.items ≡ 0) × (n ≤ vec_capacity places.written) };
@@ -86,6 +89,12 @@ impl Run for WrittenRun {
             .saturating_add(self.second.written.len())
             .saturating_add(self.made.written.len())
             .saturating_add(1)
+    }
+
+    fn next_number(&self, found: Option<u64>, n: u64) -> Option<u64> {
+        let in_made = self.made.next_number(found, n);
+        let in_first = self.first.next_number(in_made, n);
+        self.second.next_number(in_first, n)
     }
 
     fn is_at_rest(&self) -> bool {

@@ -1,9 +1,9 @@
 //! Two parts of a run made into a third.
-ghost use Rattle.std.specs.Prelude.{◌≡◌, ◌≤◌, ◌<◌, ◌+◌, ◌++◌, IsTrue, Bool, true, false, length, List};
-ghost use Rattle.std.specs.Vec.{vec_len, vec_capacity};
+ghost use Rattle.std.specs.Prelude.{◌≡◌, ◌<◌, ◌+◌, ◌++◌, IsTrue, Bool, true, false, length};
+ghost use Rattle.std.specs.Vec.{vec_capacity};
 ghost use Rattle.pivot_check.specs.Postings.{CountAlike, Posting, keys_rise, least};
 ghost use Rattle.pivot_check.specs.Parts.{live, left, live_in};
-ghost use Rattle.pivot_check.specs.Merging.{BeginsBelow, StaysRising};
+ghost use Rattle.pivot_check.specs.Merging.{BeginsBelow, RiseBehind, StaysRising, TakesPosting};
 
 use crate::part::Part;
 
@@ -31,10 +31,7 @@ fn move_first(from: &mut Part, to: &mut Part)
     ensures same { CountAlike (live to.new) (live from.new) (live to.old) (live from.old) }
     ensures rising { IsTrue (keys_rise (live to.new ++ live from.new)) }
     ensures other { StaysRising (live from.old) (live to.old) (live to.new) }
-    ensures left { left from.new + 1 ≡ left from.old }
-    ensures made { left to.new ≡ left to.old + 1 }
-    ensures to_len { length to.new.written.items ≡ length to.old.written.items + 1 }
-    ensures capacity { vec_capacity to.old.written ≤ vec_capacity to.new.written }
+    ensures moved { TakesPosting (left from.old) (left from.new) to.old to.new }
 {
     let written = from.take_first();
     to.push(written);
@@ -42,17 +39,12 @@ fn move_first(from: &mut Part, to: &mut Part)
 
 // Moves the posting of a least key of two parts behind a third, in the room that it has. What is asked of all three stays.
 pub(crate) fn move_least(first: &mut Part, second: &mut Part, to: &mut Part)
-    requires first { IsTrue (keys_rise (live to.old ++ live first.old)) }
-    requires second { IsTrue (keys_rise (live to.old ++ live second.old)) }
+    requires rising { RiseBehind to.old first.old second.old }
     requires some { 0 < left first.old + left second.old }
     requires room { length to.old.written.items < vec_capacity to.old.written }
     ensures same { (c : Posting → Bool) → least c (live_in to.new first.new second.new) ≡ least c (live_in to.old first.old second.old) }
-    ensures first { IsTrue (keys_rise (live to.new ++ live first.new)) }
-    ensures second { IsTrue (keys_rise (live to.new ++ live second.new)) }
-    ensures left { left first.new + left second.new + 1 ≡ left first.old + left second.old }
-    ensures made { left to.new ≡ left to.old + 1 }
-    ensures to_len { length to.new.written.items ≡ length to.old.written.items + 1 }
-    ensures capacity { vec_capacity to.old.written ≤ vec_capacity to.new.written }
+    ensures rising { RiseBehind to.new first.new second.new }
+    ensures moved { TakesPosting (left first.old + left second.old) (left first.new + left second.new) to.old to.new }
 {
     if is_in_first(first, second) {
         move_first(first, to);

@@ -1,11 +1,14 @@
 //! A part of a run of written keys.
-ghost use Rattle.std.specs.Prelude.{◌≡◌, ◌≤◌, ◌<◌, ◌+◌, ◌*◌, ◌-◌, ◌/◌, ◌^◌, ◌++◌, IsTrue, length, drop, min, [], ◌∷◌};
+ghost use Rattle.std.specs.Prelude.{◌≡◌, ◌≤◌, ◌<◌, ◌+◌, ◌*◌, ◌-◌, ◌/◌, ◌^◌, ◌++◌, ◌||◌, ◌==◌, ℕ, Bool, IsTrue};
+ghost use Rattle.std.specs.Prelude.{length, drop, min, [], ◌∷◌};
+ghost use Rattle.std.specs.List.{list_any};
 ghost use Rattle.std.specs.Vec.{vec_capacity};
+ghost use Rattle.merging_runs.specs.Next.{IsNext};
 ghost use Rattle.pivot_check.specs.Postings.{keys_rise, later_than};
 ghost use Rattle.pivot_check.specs.Bounds.{are_from_bound, AreBounds, bound_count};
 
 use crate::bound::{BLOCK, Bound};
-use crate::written::{Written, count_later};
+use crate::written::{Written, count_later, next_written};
 
 /// Written keys by rising key. Those before `start` were taken: their numbers and flags stay, so that the bounds stay true. The bounds of
 /// its blocks may be missing.
@@ -52,6 +55,14 @@ impl Part {
         ensures { result ≡ length self.now.written.items - self.now.start }
     {
         self.written.len() - self.start
+    }
+
+    // The number above `n` that was found, or the least of what is left above it where that is less.
+    pub(crate) fn next_number(&self, found: Option<u64>, n: u64) -> Option<u64>
+        ensures { (p : ℕ → Bool) → IsNext p n found
+            → IsNext (λ k. p k || list_any (λ q. k == q.number) (drop self.now.start self.now.written.items)) n result }
+    {
+        next_written(&self.written[self.start..], found, n)
     }
 
     // Takes the first of what is left, of which there is some.

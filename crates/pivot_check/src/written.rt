@@ -1,14 +1,17 @@
 //! Written keys by rising key.
-ghost use Rattle.std.specs.Prelude.{◌≡◌, ◌≤◌, ◌<◌, ◌+◌, ◌-◌, ◌&&◌, ◌||◌, [], ◌∷◌, if◌then◌else◌};
+ghost use Rattle.std.specs.Prelude.{◌≡◌, ◌≤◌, ◌<◌, ◌+◌, ◌-◌, ◌&&◌, ◌||◌, ◌==◌, ℕ, [], ◌∷◌, if◌then◌else◌};
 ghost use Rattle.std.specs.Prelude.{Bool, IsTrue, None, Some, count_by, length, nat_lt, not, take};
-ghost use Rattle.std.specs.List.{insert};
+ghost use Rattle.std.specs.List.{insert, list_any};
+ghost use Rattle.merging_runs.specs.Next.{IsNext};
 ghost use Rattle.std.specs.Vec.{vec_len, vec_capacity};
 ghost use Rattle.marks.specs.Lent.{lent_mark};
 ghost use Rattle.marks.specs.Marked.{start_of};
 ghost use Rattle.pivot_check.specs.Bounds.{in_span};
-ghost use Rattle.pivot_check.specs.Postings.{CountBoth, CountCovered, Posting, number_asked, postings_by, keys_rise, are_from, least, lesser, is_asked};
+ghost use Rattle.pivot_check.specs.Postings.{CountBoth, CountCovered, Posting, number_asked, postings_by, keys_rise};
+ghost use Rattle.pivot_check.specs.Postings.{are_from, least, lesser, is_asked};
 
 use marks::MarkRef;
+use merging_runs::next_of;
 use model::{Key, KeyRef};
 use std::alloc::Global;
 use std::marker::Model;
@@ -107,6 +110,17 @@ pub(crate) fn least_number(
     let mut found = found;
     for posting in postings {
         found = found_with(found, posting, begin, flagged);
+    }
+    found
+}
+
+// The number above `n` that was found, or the least of the postings above it where that is less.
+pub(crate) fn next_written(postings: &[Written], found: Option<u64>, n: u64) -> Option<u64>
+    ensures { (p : ℕ → Bool) → IsNext p n found → IsNext (λ k. p k || list_any (λ q. k == q.number) postings.now) n result }
+{
+    let mut found = found;
+    for posting in postings {
+        found = next_of(found, n, posting.number());
     }
     found
 }

@@ -1,5 +1,7 @@
 -- What a crash leaves at any moment of several calls.
-use Rattle.sector.proofs.Words.{common_steps, ℕ, List, arith, Elapses, LeavesOnly}
+use Rattle.std.proofs.Common.{ℕ, List, arith}
+use Rattle.std.proofs.lemmas.Grind.{common_steps}
+use Rattle.sector.specs.SectorModel.{Elapses, LeavesOnly}
 
 module _ {D : Type 0} {moment : D → ℕ} {left_since : D → ℕ → List (List ℕ) → Type 0} where
   -- of no call
@@ -7,12 +9,14 @@ module _ {D : Type 0} {moment : D → ℕ} {left_since : D → ℕ → List (Lis
   of_none here = grind (arith, common_steps)
 
   -- of calls that leave what has P, and of what comes behind and may add images with Q
-  of_both : {old mid new : D} {P Q R : List (List ℕ) → Type 0} → LeavesOnly moment left_since old mid P → Elapses (moment mid) (moment new) (left_since mid) (left_since new) Q
+  of_both : {old mid new : D} {P Q R : List (List ℕ) → Type 0} → LeavesOnly moment left_since old mid P
+      → Elapses (moment mid) (moment new) (left_since mid) (left_since new) Q
       → ((c : List (List ℕ)) → P c → R c) → ((c : List (List ℕ)) → Q c → R c) → LeavesOnly moment left_since old new R
   of_both calls behind p q = grind (arith, common_steps)
 
   -- of one call more
-  pub of_one_more : {old mid new : D} {P Q : List (List ℕ) → Type 0} → LeavesOnly moment left_since old mid P → Elapses (moment mid) (moment new) (left_since mid) (left_since new) Q
+  pub of_one_more : {old mid new : D} {P Q : List (List ℕ) → Type 0} → LeavesOnly moment left_since old mid P
+      → Elapses (moment mid) (moment new) (left_since mid) (left_since new) Q
       → ((c : List (List ℕ)) → Q c → P c) → LeavesOnly moment left_since old new P
   of_one_more calls call leaves = of_both calls call (λ c has. has) leaves
 

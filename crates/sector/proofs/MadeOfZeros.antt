@@ -1,8 +1,14 @@
 -- Under the premise on files a file that was made of zeros holds zeros, and a crash leaves them.
-use Rattle.sector.proofs.Words.{common_steps, ◌≡◌, ℕ, suc, ◌+◌, ◌-◌, ◌*◌, ◌<◌, true, List, ◌∷◌, length, Some, take, replicate, slice_get, refl, sym, ap, subst, ◌∙◌, arith, take-replicate, drop-replicate, length-replicate, IsSettled, sector_in}
+use Rattle.std.proofs.Common.{◌≡◌, ℕ, suc, ◌+◌, ◌-◌, ◌*◌, ◌<◌, true, List, ◌∷◌, length, Some, take, replicate}
+use Rattle.std.proofs.Common.{slice_get, refl, sym, ap, subst, ◌∙◌, arith}
+use Rattle.std.proofs.lemmas.Grind.{common_steps}
+use Rattle.std.proofs.lemmas.List.{take-replicate, drop-replicate, length-replicate}
 use Rattle.std.proofs.lemmas.Option.{slice_get_within}
-use Rattle.file_calls.specs.{OpenFacts.may_read, OpenFacts.may_leave, OpenFacts.next, declared.counted.CountedFile.CountedFile}
-use Rattle.sector.specs.{FileModel.FileKeepsModel, FileOpening.WasMadeOfZeros}
+use Rattle.file_calls.specs.OpenFacts.{may_read, may_leave, next}
+use Rattle.file_calls.specs.declared.counted.CountedFile.{CountedFile}
+use Rattle.sector.specs.FileModel.{FileKeepsModel}
+use Rattle.sector.specs.FileOpening.{WasMadeOfZeros}
+use Rattle.sector.specs.SectorModel.{IsSettled, sector_in}
 
 all_same : (image : List (List ℕ)) (n : ℕ) (s : List ℕ) → length image ≡ n → ((i : ℕ) (x : List ℕ) → slice_get image i ≡ Some x → x ≡ s) → image ≡ replicate n s
 all_same (x ∷ image) (suc n) s size each =
@@ -14,7 +20,8 @@ all_same image n s size each = grind (arith, common_steps)
 zeros_in : (count k : ℕ) → k < count → sector_in (replicate (count * 512) 0) k ≡ replicate 512 0
 zeros_in count k lt = ap (λ (l : List ℕ). take 512 l) (drop-replicate (512 * k) (count * 512) 0) ∙ take-replicate 512 (count * 512 - 512 * k) 0 (omega arith)
 
-pub made_of_zeros : (path : List ℕ) (count : ℕ) (now : CountedFile) → FileKeepsModel → WasMadeOfZeros path count now → IsSettled count (may_read now) (may_leave now) (replicate count (replicate 512 0))
+pub made_of_zeros : (path : List ℕ) (count : ℕ) (now : CountedFile) → FileKeepsModel → WasMadeOfZeros path count now
+    → IsSettled count (may_read now) (may_leave now) (replicate count (replicate 512 0))
 made_of_zeros path count now keeps made =
     let first : CountedFile = made.first in
     let write = keeps.writes first 0 (replicate (count * 512) 0) true made.zeros in

@@ -1,10 +1,14 @@
 -- A call of several sectors, where there is one.
-use Rattle.sector.proofs.Words.{common_steps, ◌≡◌, ℕ, zero, suc, ◌+◌, List, [], ◌∷◌, length, take, drop, set, refl, ap, arith, take_all, FollowsWrite, FollowsWrites, sector_in}
+use Rattle.std.proofs.Common.{◌≡◌, ℕ, zero, suc, ◌+◌, List, [], ◌∷◌, length, take, drop, set, refl, ap, arith}
+use Rattle.std.proofs.lemmas.Grind.{common_steps}
+use Rattle.std.proofs.lemmas.List.{take_all}
+use Rattle.sector.specs.SectorModel.{FollowsWrite, FollowsWrites, sector_in}
 
 pub sole_sector : (bytes : List ℕ) → length bytes ≡ 512 → sector_in bytes 0 ≡ bytes
 sole_sector bytes long = take_all 512 bytes (omega arith)
 
-differs_once : (at : ℕ) (d c : List (List ℕ)) → length c ≡ length d → take at c ≡ take at d → drop (suc at) c ≡ drop (suc at) d → (s : List ℕ) × (c ≡ set d at s)
+differs_once : (at : ℕ) (d c : List (List ℕ)) → length c ≡ length d → take at c ≡ take at d → drop (suc at) c ≡ drop (suc at) d
+    → (s : List ℕ) × (c ≡ set d at s)
 differs_once at [] [] size before behind = ([], refl)
 differs_once at [] (y ∷ c) size before behind = absurd (omega arith)
 differs_once at (x ∷ d) [] size before behind = absurd (omega arith)

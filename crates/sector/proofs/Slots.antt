@@ -1,8 +1,15 @@
 -- What writes and syncs change in the slots of a device in memory.
-use Rattle.sector.proofs.Words.{◌≡◌, ◌≢◌, ℕ, zero, suc, ◌+◌, ◌<◌, replicate, All, List, [], ◌∷◌, ◌++◌, length, map, set, get_or, slice_get, take, drop, None, Some, refl, sym, ◌∙◌, ap, arith, append_assoc, take-append-drop, append-nil, replicate-append-replicate, map-set, common_steps, written, settled_slot, MayLeave, IsLeft, IsSettledSlot, settled_content, is_settled, Settles, FollowsWrite}
+use Rattle.std.proofs.Common.{◌≡◌, ◌≢◌, ℕ, zero, suc, ◌+◌, ◌<◌, replicate, All, List, [], ◌∷◌, ◌++◌, length, map, set}
+use Rattle.std.proofs.Common.{get_or, slice_get, take, drop, None, Some, refl, sym, ◌∙◌, ap, arith, append_assoc}
+use Rattle.std.proofs.Common.{take-append-drop}
 use Rattle.std.proofs.Math.Seq.{map-set_same}
+use Rattle.std.proofs.lemmas.Grind.{common_steps}
+use Rattle.std.proofs.lemmas.List.{append-nil, replicate-append-replicate, map-set}
 use Rattle.std.specs.List.{concat}
-use Rattle.sector.specs.{declared.memory.Slot.Slot, Settled.AreSettledBefore, Settled.AreSettledFrom}
+use Rattle.sector.specs.SectorModel.{Settles, FollowsWrite}
+use Rattle.sector.specs.Settled.{AreSettledBefore, AreSettledFrom}
+use Rattle.sector.specs.Slots.{written, settled_slot, MayLeave, IsLeft, IsSettledSlot, settled_content, is_settled}
+use Rattle.sector.specs.declared.memory.Slot.{Slot}
 
 pub written-settled : (slots : List Slot) → written (map settled_slot slots) ≡ written slots
 written-settled [] = refl
@@ -42,7 +49,8 @@ pub length-written : (slots : List Slot) → length (written slots) ≡ length s
 length-written slots = grind (arith, common_steps)
 
 -- a sync of these slots
-pub settles : (old new : List Slot) → new ≡ map settled_slot old → Settles (length new) (λ i s. slice_get (written old) i ≡ Some s) (λ i s. slice_get (written new) i ≡ Some s) (MayLeave old) (MayLeave new)
+pub settles : (old new : List Slot) → new ≡ map settled_slot old
+    → Settles (length new) (λ i s. slice_get (written old) i ≡ Some s) (λ i s. slice_get (written new) i ≡ Some s) (MayLeave old) (MayLeave new)
 settles old new is = record {
   image = written new;
   settled = record {
@@ -62,7 +70,8 @@ pub fewer : (old : List Slot) (c : List (List ℕ)) → MayLeave (map settled_sl
 fewer old c left = grind (arith, common_steps, only_written, was_left)
 
 -- a crash makes of each sector what it may
-pub crashed : (old new : List Slot) → length new ≡ length old → ((k : ℕ) (d : Slot) → k < length old → IsLeft (get_or old k d) (get_or new k d)) → MayLeave old (written new)
+pub crashed : (old new : List Slot) → length new ≡ length old → ((k : ℕ) (d : Slot) → k < length old → IsLeft (get_or old k d) (get_or new k d))
+    → MayLeave old (written new)
 crashed (x ∷ old) (y ∷ new) same each =
     ((each 0 x (omega arith)).1, crashed old new (omega arith) (λ k d lt. each (suc k) d (omega arith)))
 crashed old new same each = grind (arith, common_steps)
@@ -74,7 +83,8 @@ pub concat-push : (xss : List (List ℕ)) (xs rest : List ℕ) → concat (xss +
 concat-push [] xs rest = rw append-nil
 concat-push (x ∷ xss) xs rest = grind (arith, common_steps, append_assoc, concat-push xss xs rest)
 
-pub taken_in : (slots : List Slot) (slot : Slot) (rest image : List ℕ) → slot.written ≡ take 512 rest → concat (written slots) ++ rest ≡ image → concat (written (slots ++ slot ∷ [])) ++ drop 512 rest ≡ image
+pub taken_in : (slots : List Slot) (slot : Slot) (rest image : List ℕ) → slot.written ≡ take 512 rest → concat (written slots) ++ rest ≡ image
+    → concat (written (slots ++ slot ∷ [])) ++ drop 512 rest ≡ image
 taken_in slots slot rest image is so_far =
     ap (λ (l : List (List ℕ)). concat l ++ drop 512 rest) (written-push slots slot)
     ∙ concat-push (written slots) slot.written (drop 512 rest)
@@ -85,7 +95,8 @@ taken_in slots slot rest image is so_far =
 pub all_settled-push : (slots : List Slot) (slot : Slot) → All IsSettledSlot slots → slot.settled ≡ None → All IsSettledSlot (slots ++ slot ∷ [])
 all_settled-push slots slot settled is = grind (arith, common_steps)
 
-pub blank-push : (slots : List Slot) (slot : Slot) (n : ℕ) → written slots ≡ replicate n (replicate 512 0) → slot.written ≡ replicate 512 0 → written (slots ++ slot ∷ []) ≡ replicate (n + 1) (replicate 512 0)
+pub blank-push : (slots : List Slot) (slot : Slot) (n : ℕ) → written slots ≡ replicate n (replicate 512 0) → slot.written ≡ replicate 512 0
+    → written (slots ++ slot ∷ []) ≡ replicate (n + 1) (replicate 512 0)
 blank-push slots slot n so_far is = grind (arith, common_steps, written-push, replicate-append-replicate)
 
 pub all_settled : (slots : List Slot) → All IsSettledSlot (map settled_slot slots)
@@ -96,10 +107,12 @@ all_settled slots k d lt = grind (arith, common_steps)
 pub content_after : (old slots : List Slot) (at : ℕ) (slot : Slot) → slots ≡ old → written (set slots at slot) ≡ set (written old) at slot.written
 content_after old slots at slot same = map-set (λ (s : Slot). s.written) slots at slot ∙ ap (λ (l : List Slot). set (written l) at slot.written) same
 
-pub settled_after : (old slots : List Slot) (at : ℕ) (slot d : Slot) → slots ≡ old → settled_content slot ≡ settled_content (get_or slots at d) → map settled_content (set slots at slot) ≡ map settled_content old
+pub settled_after : (old slots : List Slot) (at : ℕ) (slot d : Slot) → slots ≡ old → settled_content slot ≡ settled_content (get_or slots at d)
+    → map settled_content (set slots at slot) ≡ map settled_content old
 settled_after old slots at slot d same is = map-set_same settled_content slots at slot d is ∙ ap (λ (l : List Slot). map settled_content l) same
 
-pub which_after : (old slots : List Slot) (at : ℕ) (slot : Slot) → slots ≡ old → map is_settled (set slots at slot) ≡ set (map is_settled old) at (is_settled slot)
+pub which_after : (old slots : List Slot) (at : ℕ) (slot : Slot) → slots ≡ old
+    → map is_settled (set slots at slot) ≡ set (map is_settled old) at (is_settled slot)
 which_after old slots at slot same = map-set is_settled slots at slot ∙ ap (λ (l : List Slot). set (map is_settled l) at (is_settled slot)) same
 
 -- ---- slots of which those outside a span are settled

@@ -1,11 +1,16 @@
 -- What was called of a file before a device stands over it.
+use Rattle.std.specs.IoError.{error_kind}
 use Rattle.std.specs.Prelude.{◌≡◌, ◌≢◌, ◌⊎◌, ℕ, ◌*◌, ◌%◌, true, List, replicate}
-use Rattle.std.specs.{IoError.error_kind, declared.io.Error.Error, declared.io.ErrorKind.TheVariants.InvalidData}
-use Rattle.file_calls.specs.{OpenFacts.next, declared.counted.CountedFile.CountedFile, declared.opened.OpenedFile.OpenedFile}
-use Rattle.file_calls.specs.HappenedCalls.{WasAnswered, WasMade, WasOpened, WasOpenedToRead, WasWritten, WasSynced, HadLength, HadNameSettled}
+use Rattle.std.specs.declared.io.Error.{Error}
+use Rattle.std.specs.declared.io.ErrorKind.TheVariants.{InvalidData}
+use Rattle.file_calls.specs.HappenedCalls.{WasAnswered, WasMade, WasOpened, WasOpenedToRead, WasWritten, WasSynced}
+use Rattle.file_calls.specs.HappenedCalls.{HadLength, HadNameSettled}
+use Rattle.file_calls.specs.OpenFacts.{next}
+use Rattle.file_calls.specs.declared.counted.CountedFile.{CountedFile}
+use Rattle.file_calls.specs.declared.opened.OpenedFile.{OpenedFile}
 
--- A new file was made under this name, so many sectors of zeros were written to it, by one call, and synced by the next; its directory
--- was synced, and nothing else was called of it.
+-- A new file was made under this name, so many sectors of zeros were written to it, by one call, and synced by the
+-- next; its directory was synced, and nothing else was called of it.
 pub record WasMadeOfZeros (path : List ℕ) (count : ℕ) (now : CountedFile) : Type 0 where
   pub first : CountedFile
   pub size : first.sectors ≡ count
@@ -38,6 +43,8 @@ pub record IsNotWhole (file : OpenedFile) : Type 0 where
   pub length : HadLength file bytes
   pub rest : bytes % 512 ≢ 0
 
--- why no device was opened: the system answered this error, or the file that was opened so isn't whole, and the error is `InvalidData`
+-- why no device was opened: the system answered this error, or the file that was opened so isn't whole, and the error
+-- is `InvalidData`
 abbrev pub WhyNotOpened : (OpenedFile → Type 0) → Error → Type 0
-WhyNotOpened WasIt error = WasAnswered error ⊎ ((file : OpenedFile) × WasIt file × IsNotWhole file × (error_kind error ≡ InvalidData))
+WhyNotOpened WasIt error =
+    WasAnswered error ⊎ ((file : OpenedFile) × WasIt file × IsNotWhole file × (error_kind error ≡ InvalidData))

@@ -5,3 +5,4 @@ pub mod Settled
 pub mod FileModel
 pub mod FileOpening
 pub mod Slots
+pub mod FileDevices

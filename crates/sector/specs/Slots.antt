@@ -1,8 +1,12 @@
 -- What a crash may leave of a device in memory.
-use Rattle.std.specs.Prelude.{◌≡◌, ◌⊎◌, ◌<◌, ◌-◌, ℕ, suc, Bool, List, [], ◌∷◌, length, map, slice_get, slice_index_or, All, Some, None, IfSome, unwrap_or, refl}
-use Rattle.std.specs.{Borrow.Bor, Option.is_none}
 use Rattle.std.proofs.Common.{ap}
-use Rattle.sector.specs.{Failures.greatest, declared.memory.Slot.Slot, declared.memory.MemSectors.MemSectors}
+use Rattle.std.specs.Borrow.{Bor}
+use Rattle.std.specs.Option.{is_none}
+use Rattle.std.specs.Prelude.{◌≡◌, ◌⊎◌, ◌<◌, ◌-◌, ℕ, suc, Bool, List, [], ◌∷◌, length, map, slice_get, slice_index_or}
+use Rattle.std.specs.Prelude.{All, Some, None, IfSome, unwrap_or, refl}
+use Rattle.sector.specs.Failures.{greatest}
+use Rattle.sector.specs.declared.memory.MemSectors.{MemSectors}
+use Rattle.sector.specs.declared.memory.Slot.{Slot}
 
 -- what was last written to each sector
 abbrev pub written : List Slot → List (List ℕ)
@@ -18,11 +22,13 @@ IsLeft old new = (new.settled ≡ None) × (old.settled ≡ None → new.written
 -- after a crash a sector that was unsettled holds what is given of its settled and its last written content
 abbrev pub IsFilled : (Bor (List ℕ) → Bor (List ℕ) → List ℕ → Type 0) → Slot → Slot → Type 0
 IsFilled Gives old new =
-    IfSome old.settled (λ settled. (was : Bor (List ℕ)) × (last : Bor (List ℕ)) × (was.now ≡ settled) × (last.now ≡ old.written) × Gives was last new.written)
+    IfSome old.settled (λ settled. (was : Bor (List ℕ)) × (last : Bor (List ℕ)) × (was.now ≡ settled)
+    × (last.now ≡ old.written) × Gives was last new.written)
 
 -- and so does each of these, by its place
 abbrev pub AreFilled : (ℕ → Bor (List ℕ) → Bor (List ℕ) → List ℕ → Type 0) → List Slot → List Slot → Type 0
-AreFilled Gives old new = (k : ℕ) (d : Slot) → k < length old → IsFilled (Gives k) (slice_index_or old k d) (slice_index_or new k d)
+AreFilled Gives old new = (k : ℕ) (d : Slot) → k < length old
+    → IsFilled (Gives k) (slice_index_or old k d) (slice_index_or new k d)
 
 -- a sector after a sync
 abbrev pub settled_slot : Slot → Slot

@@ -1,7 +1,8 @@
 //! The device as the crates above see it.
 ghost use Rattle.std.specs.Prelude.{◌≡◌, ◌≢◌, ◌<◌, ◌≤◌, ◌+◌, ◌/◌, ◌%◌, ◌^◌, ℕ, List, length, OnOk, OnErr};
 ghost use Rattle.sector.specs.Failures.{Rose, Stayed, StayedOver};
-ghost use Rattle.sector.specs.SectorModel.{FollowsBytes, FollowsWrite, LeavesNoMore, MightRead, ReadsBytes, ReadsNoMore, ReadsNoMoreOutside, Syncs, TimeGoesOn};
+ghost use Rattle.sector.specs.SectorModel.{FollowsBytes, FollowsWrite, LeavesNoMore, MightRead, ReadsBytes};
+ghost use Rattle.sector.specs.SectorModel.{ReadsNoMore, ReadsNoMoreOutside, Syncs, TimeGoesOn};
 
 use thiserror::Error;
 

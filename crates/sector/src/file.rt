@@ -1,10 +1,13 @@
 //! A device over a file. What a file gives back and keeps is left open.
-ghost use Rattle.std.specs.Prelude.{true, false, ◌≡◌, ◌≢◌, ◌<◌, ◌≤◌, ◌*◌, ◌%◌, ◌^◌, ◌↔◌, MatchOption, IfSome, IfOk, IsOk, IsErrAnd, OnOk, OnErr, replicate, IfErr, Bool, length};
+ghost use Rattle.std.specs.Prelude.{true, false, ◌≡◌, ◌≢◌, ◌<◌, ◌≤◌, ◌*◌, ◌%◌, ◌^◌, ◌↔◌, MatchOption, IfSome, IfOk};
+ghost use Rattle.std.specs.Prelude.{IsOk, IsErrAnd, OnOk, OnErr, replicate, IfErr, Bool, length};
 ghost use Rattle.std.specs.IoError.{error_kind};
-ghost use Rattle.file_calls.specs.HappenedCalls.{WasOpened, WasOpenedToRead, WasRead, WasWritten, WasSynced, HadNameSettled, HadCopiesDropped};
+ghost use Rattle.file_calls.specs.HappenedCalls.{WasClosed, WasOpened, WasOpenedToRead, WasRead, WasWritten};
+ghost use Rattle.file_calls.specs.HappenedCalls.{WasSynced, HadNameSettled, HadCopiesDropped};
 ghost use Rattle.file_calls.specs.OpenFacts.{next};
 ghost use Rattle.sector.specs.Failures.{Rose, Stayed, Tells, greatest};
-ghost use Rattle.sector.specs.FileOpening.{WasMadeOfZeros, WasOpenedWhole, WasOpenedWholeToRead, IsWhole, WhyNotOpened};
+ghost use Rattle.sector.specs.FileOpening.{WasMadeOfZeros, WasOpenedWhole, WasOpenedWholeToRead, IsWhole};
+ghost use Rattle.sector.specs.FileOpening.{WhyNotOpened};
 
 use crate::{DeviceFault, SECTOR_SIZE, Sector, Sectors};
 use file_calls::{CountedFile, OpenedFile};
@@ -97,6 +100,13 @@ impl FileSectors {
         ensures refused { IfErr result (λ e. WhyNotOpened (λ f. WasOpenedToRead f path.now) e) }
     {
         with_whole_sectors(OpenedFile::open_to_read(rt, path)?, true)
+    }
+
+    /// Closes the file, of which no more is called. Takes no memory.
+    pub fn close(self)
+        ensures { WasClosed self.file }
+    {
+        self.file.close();
     }
 
     /// Counts a call of the file, and tells how it ended. Where the count stands at its end, each call fails.

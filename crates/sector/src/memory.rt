@@ -1,5 +1,6 @@
 //! A device in memory, which a test can make fail and crash.
-ghost use Rattle.std.specs.Prelude.{◌≡◌, ◌≢◌, ◌<◌, ◌≤◌, ◌*◌, ◌%◌, ◌^◌, ◌↔◌, ℕ, List, length, false, IfOk, OnOk, OnErr, IsErr, IsTrue, MatchBool, MatchResult, slice_set, map, replicate};
+ghost use Rattle.std.specs.Prelude.{◌≡◌, ◌≢◌, ◌<◌, ◌≤◌, ◌*◌, ◌%◌, ◌^◌, ◌↔◌, ℕ, List, length, false, IfOk, OnOk};
+ghost use Rattle.std.specs.Prelude.{OnErr, IsErr, IsTrue, MatchBool, MatchResult, slice_set, map, replicate};
 ghost use Rattle.std.specs.List.{concat};
 ghost use Rattle.sector.specs.Failures.{Rose, Stayed};
 ghost use Rattle.sector.specs.Settled.{AreSettledBefore, AreSettledFrom};
@@ -71,7 +72,8 @@ pub struct MemSectors {
 }
 
 impl MemSectors {
-    ghost use Rattle.sector.specs.Slots.{image, AreFilled, MayLeave, IsAllSettled, calls_to_failure, FailsNext, CountsDown};
+    ghost use Rattle.sector.specs.Slots.{image, AreFilled, MayLeave, IsAllSettled, calls_to_failure, FailsNext};
+    ghost use Rattle.sector.specs.Slots.{CountsDown};
 
     /// A device of `count` sectors of zeros, all settled. It takes about 1 KiB for each sector; `Memory` where they are refused.
     pub fn new(alloc: Global, count: u64) -> Result<Self, Memory>
@@ -208,7 +210,8 @@ impl Slot {
 
 impl Sectors for MemSectors {
     ghost use Rattle.sector.specs.SectorModel.{FollowsWrite, LeavesNoMore, ReadsNoMore, Syncs, TimeGoesOn};
-    ghost use Rattle.sector.specs.Slots.{image, settled_image, settled_sectors, MayBeLeft, MayRead, length-left, IsSettledAs, HasSameSectors, FailsNext, CountsDown};
+    ghost use Rattle.sector.specs.Slots.{image, settled_image, settled_sectors, MayBeLeft, MayRead, length-left};
+    ghost use Rattle.sector.specs.Slots.{IsSettledAs, HasSameSectors, FailsNext, CountsDown};
 
     ghost size = { λ m. length m.slots.items };
 

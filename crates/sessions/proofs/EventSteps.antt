@@ -1,8 +1,18 @@
 -- What an event does to a hub, by its outcome.
-use Rattle.sessions.proofs.Words.{common_steps, ◌≡◌, ℕ, Bool, List, [], ◌∷◌, length, Some, None, option_map, refl, sym, ap, subst, ◌∙◌, nat_cmp, arith, lookup, remove_entry, set_value, insert_entry, is_at, length-map, Outcome, HubState, SessionState, SessionStream, HubEvent, Leaves, Serves, Front, More, Aborts, Choice, IsPossible, hub_step, stream_of, Continued, HasEffect, ServesSession, chosen, has_failed, Ghosts, Hub, StandsFor, HubLeads, at_hand, status_or_absent, room_or_none, pending_or_none, status_of, room_of, pending_of, status_in, room_in, pending_in}
+use Rattle.std.proofs.Common.{◌≡◌, ℕ, Bool, List, [], ◌∷◌, length, Some, None, option_map, refl, sym, ap, subst, ◌∙◌}
+use Rattle.std.proofs.Common.{nat_cmp, arith}
+use Rattle.std.proofs.lemmas.Grind.{common_steps}
+use Rattle.std.proofs.lemmas.List.{length-map}
 use Rattle.std.proofs.lemmas.Map.Made.{lookup-map_values}
+use Rattle.std.specs.BTreeMap.{insert_entry, is_at}
+use Rattle.std.specs.Map.{lookup, remove_entry, set_value}
 use Rattle.engine.specs.Meaning.{StandsFor as EngineStandsFor}
+use Rattle.sessions.specs.Calls.{Aborts, HasEffect, ServesSession, chosen, has_failed}
+use Rattle.sessions.specs.SessionStreams.{Outcome, HubState, SessionState, SessionStream, HubEvent, Leaves, Serves}
+use Rattle.sessions.specs.SessionStreams.{Front, More, Choice, IsPossible, hub_step, stream_of, Continued}
 use Rattle.sessions.specs.SessionStreams.{Done as OfDone}
+use Rattle.sessions.specs.StandsFor.{Ghosts, Hub, StandsFor, HubLeads, at_hand, status_or_absent, room_or_none}
+use Rattle.sessions.specs.StandsFor.{pending_or_none, status_of, room_of, pending_of, status_in, room_in, pending_in}
 
 -- ---- what is at hand in the list of sessions
 
@@ -21,7 +31,8 @@ module _ (s : ℕ) where
   remove-at_hand [] = refl
   remove-at_hand (e ∷ es) = grind (arith, common_steps, remove-at_hand es)
 
-  pub insert-at_hand : (st : SessionStream) (es : List (ℕ × SessionStream)) → insert_entry nat_cmp (at_hand es) s st.now ≡ at_hand (insert_entry nat_cmp es s st)
+  pub insert-at_hand : (st : SessionStream) (es : List (ℕ × SessionStream))
+      → insert_entry nat_cmp (at_hand es) s st.now ≡ at_hand (insert_entry nat_cmp es s st)
   insert-at_hand st [] = refl
   insert-at_hand st (e ∷ es) = grind (arith, common_steps, insert-at_hand st es)
 
@@ -75,7 +86,8 @@ module _ {D : Type 0} {g : Ghosts D} (old new : Hub D g) (e : HubEvent) (outcome
   pub leads : ((h : HubState) → StandsFor old h → IsPossible h e told × IsAfter new outcome (hub_step h e told)) → HubLeads old new e outcome
   leads f = (told, refl, refl, λ h stands. (let x = f h stands in let reached = Continued h e told x.0 stands.reached in grind (arith, common_steps)))
 
-pub serves : {D : Type 0} {g : Ghosts D} (old new : Hub D g) (s : ℕ) (before after : SessionState) (outcome : Outcome) → Some before ≡ lookup (test s) old.sessions → new.sessions ≡ set_value (test s) old.sessions after → new.latest ≡ old.latest
+pub serves : {D : Type 0} {g : Ghosts D} (old new : Hub D g) (s : ℕ) (before after : SessionState) (outcome : Outcome)
+    → Some before ≡ lookup (test s) old.sessions → new.sessions ≡ set_value (test s) old.sessions after → new.latest ≡ old.latest
     → ServesSession old.engine new.engine s before after outcome → HubLeads old new (Serves s) outcome
 unfolding hub_step
 serves old new s before after outcome found sessions latest x = leads old new (Serves s) outcome x.0 (λ h stands. (
@@ -83,7 +95,12 @@ serves old new s before after outcome found sessions latest x = leads old new (S
     let E : SessionState → Type 0 = λ n. HasEffect old.engine new.engine s (told old new (Serves s) outcome x.0) h.machine n after outcome in
     let effect = subst E (sym f.now) (x.1 h.machine stands.engine) in (
       rw f.is effect.possible,
-      rw f.is (record { engine = effect.engine; sessions = sessions ∙ set_is old h stands s after _ effect.session; latest = latest ∙ stands.latest; outcome_is = effect.outcome_is }),
+      rw f.is (record {
+        engine = effect.engine;
+        sessions = sessions ∙ set_is old h stands s after _ effect.session;
+        latest = latest ∙ stands.latest;
+        outcome_is = effect.outcome_is;
+      }),
     )))
 
 -- a session that is present leaves, and its transaction is aborted

@@ -1,10 +1,19 @@
 -- A hub's events, evaluated by the definitions.
-use Rattle.sessions.proofs.Words.{flat_map, lit≤, lit<, ◌<◌, ◌≡◌, ℕ, suc, ◌-◌, List, [], ◌∷◌, ◌++◌, take, refl, codes, replicate, zero, length, drop, Some, None, Option, false, inbox_max, array_of_bulks, IsPart, IsRequest, crlf, step, opened, Bytes, Unknown, Idle, NoRoom, BadCount, HubState, ArePossible, HubEvent, Choice, hub_step, run, outcomes, stream_of, Joins, Receives, Serves, Sends, Leaves, Whole, More, SessionStream, Front, hub_over, Bad, room_in, pending_in, status_in}
-use Rattle.std.specs.Fmt.{digits}
+use Rattle.std.proofs.Common.{flat_map, lit≤, lit<, ◌<◌, ◌≡◌, ℕ, suc, ◌-◌, List, [], ◌∷◌, ◌++◌, take, refl, codes}
+use Rattle.std.proofs.Common.{replicate, zero, length, drop, Some, None, Option, false}
 use Rattle.std.proofs.lemmas.List.Elements.{All-from_recursion}
+use Rattle.std.specs.Fmt.{digits}
+use Rattle.model.specs.Bounds.{inbox_max}
 use Rattle.model.specs.CommandTable.{command_in, alone_in, get_in, set_in}
-use Rattle.sessions.specs.{declared.events.Status.TheVariants.Absent, declared.events.Status.TheVariants.Ending, SessionStreams.Done}
+use Rattle.model.specs.Grammar.{array_of_bulks, IsPart, IsRequest, crlf}
+use Rattle.model.specs.Machine.{step, opened}
+use Rattle.model.specs.Map.{Bytes}
 use Rattle.model.specs.Verdict.{verdict}
+use Rattle.sessions.specs.SessionStreams.{Unknown, Idle, NoRoom, BadCount, HubState, ArePossible, HubEvent, Choice}
+use Rattle.sessions.specs.SessionStreams.{hub_step, run, outcomes, stream_of, Joins, Receives, Serves, Sends, Leaves}
+use Rattle.sessions.specs.SessionStreams.{Whole, More, SessionStream, Front, hub_over, Bad, Done}
+use Rattle.sessions.specs.StandsFor.{room_in, pending_in, status_in}
+use Rattle.sessions.specs.declared.events.Status.TheVariants.{Absent, Ending}
 
 start : HubState
 start = hub_over (opened [] 2 4096)
@@ -110,7 +119,8 @@ abbrev fourteen : HubState
 fourteen = run start ((Joins 1, chosen More) ∷ waiting 14 1 (array_of_bulks (codes "BEGIN" ∷ [])))
 
 bytes_one_at_a_time : (pending_in (stream_of fourteen 1) ≡ [])
-    × (pending_in (stream_of (run fourteen ((Receives 1 (10 ∷ []), chosen More) ∷ (Serves 1, chosen (Whole (codes "BEGIN" ∷ []) 15)) ∷ [])) 1) ≡ codes "+OK" ++ crlf)
+    × (pending_in (stream_of (run fourteen ((Receives 1 (10 ∷ []), chosen More) ∷ (Serves 1, chosen (Whole (codes "BEGIN" ∷ []) 15)) ∷ [])) 1)
+    ≡ codes "+OK" ++ crlf)
 unfolding start hub_step digits step command_in alone_in
 bytes_one_at_a_time = (refl, refl)
 

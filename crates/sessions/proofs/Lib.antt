@@ -8,4 +8,4 @@ pub mod LivesLaws
 pub mod HubEvents
 pub mod Places
 pub mod ReplyLengths
-pub mod Words
+pub mod Records

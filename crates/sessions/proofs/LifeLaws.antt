@@ -1,8 +1,20 @@
 -- Runs that follow each other, and what a crash leaves of them.
-use Rattle.sessions.proofs.Words.{common_steps, Option, ◌≡◌, ◌≤◌, ◌+◌, ◌⊎◌, inl, inr, ℕ, zero, suc, Bool, true, false, List, [], ◌∷◌, ◌++◌, length, length-append, Some, None, refl, sym, ap, subst, ◌∙◌, arith, both_ways, cases_Bool, LeavesOnly, KeyMap, Operation, Commit, State, Running, step, step_of, running_of, commit, record_to_commit, HubState, HubEvent, Choice, hub_step, run, Ghosts, Hub, StandsFor, device, HoldsBeforeOrAfter, IsSound, Steps as StepsBy, MayFind, Holds, FoundAfter, FoundDuring}
+use Rattle.std.proofs.Common.{Option, ◌≡◌, ◌≤◌, ◌+◌, ◌⊎◌, inl, inr, ℕ, zero, suc, Bool, true, false, List, [], ◌∷◌}
+use Rattle.std.proofs.Common.{◌++◌, length, length-append, Some, None, refl, sym, ap, subst, ◌∙◌, arith}
+use Rattle.std.proofs.lemmas.Bool.{both_ways, cases_Bool}
+use Rattle.std.proofs.lemmas.Grind.{common_steps}
 use Rattle.model.specs.History.{Record, map_at}
+use Rattle.model.specs.Machine.{State, Running, step, step_of, running_of, commit, record_to_commit}
+use Rattle.model.specs.Map.{KeyMap}
+use Rattle.model.specs.Operations.{Operation, Commit}
+use Rattle.sector.specs.SectorModel.{LeavesOnly}
 use Rattle.engine.specs.Recovery.{committed_map}
 use Rattle.sessions.proofs.StreamLaws.{Moved, Steps, moved}
+use Rattle.sessions.specs.Crashes.{HoldsBeforeOrAfter}
+use Rattle.sessions.specs.Laws.{IsSound, Steps as StepsBy}
+use Rattle.sessions.specs.Life.{MayFind, Holds, FoundAfter, FoundDuring}
+use Rattle.sessions.specs.SessionStreams.{HubState, HubEvent, Choice, hub_step, run}
+use Rattle.sessions.specs.StandsFor.{Ghosts, Hub, StandsFor, device}
 
 -- ---- what a step makes of the commits
 
@@ -14,7 +26,8 @@ pub data CommitsBy (m : State) (f : Bool) (n : State) : Type 0 where
 
 -- the same of a COMMIT that makes this record
 abbrev Adds : State → Record → Bool → State → Type 0
-Adds m r f n = (n.base ≡ m.base) × (((n.history ≡ m.history) × (n.stopped ≡ m.stopped)) ⊎ (((m.stopped ≡ false) × (n.history ≡ m.history ++ r ∷ []) × (n.stopped ≡ m.stopped))
+Adds m r f n = (n.base ≡ m.base)
+    × (((n.history ≡ m.history) × (n.stopped ≡ m.stopped)) ⊎ (((m.stopped ≡ false) × (n.history ≡ m.history ++ r ∷ []) × (n.stopped ≡ m.stopped))
     ⊎ ((f ≡ true) × (m.stopped ≡ false) × (n.history ≡ m.history) × (n.stopped ≡ true))))
 
 commit_adds : (m : State) (s : ℕ) (t : Running) (f : Bool) → Adds m (record_to_commit m t) f (commit m s t f).0
@@ -74,7 +87,8 @@ earlier h [] (f ∷ fs) (suc k) map le x = absurd (omega (arith, le))
 earlier h (e ∷ es) fs zero map le x = grind (arith, common_steps, earlier (hub_step h e.0 e.1).0 es fs zero map (omega arith))
 earlier h (e ∷ es) fs (suc k) map le x = elim x [ inl a ↦ inl a | inr y ↦ inr (earlier (hub_step h e.0 e.1).0 es fs k map (omega (arith, le)) y) ]
 
-later : (h : HubState) (es fs : List (HubEvent × Choice)) (k n : ℕ) (map : KeyMap) → n ≡ length es + k → MayFind (run h es) fs k map → MayFind h (es ++ fs) n map
+later : (h : HubState) (es fs : List (HubEvent × Choice)) (k n : ℕ) (map : KeyMap) → n ≡ length es + k → MayFind (run h es) fs k map
+    → MayFind h (es ++ fs) n map
 later h [] fs k n map is x = let same : k ≡ n = omega (arith, is) in subst (λ i. MayFind h fs i map) same x
 later h (e ∷ es) fs k zero map is x = absurd (omega (arith, is))
 later h (e ∷ es) fs k (suc n) map is x = inr (later (hub_step h e.0 e.1).0 es fs k n map (omega (arith, is)) x)
@@ -86,13 +100,15 @@ idle h (f ∷ fs) map stop x =
     inr (idle (hub_step h f.0 f.1).0 fs map there (x ∙ sym (hub-same h f.0 f.1 there)))
 
 -- a stopped store leaves what there was
-rests : (h : HubState) (es fs : List (HubEvent × Choice)) (map : KeyMap) → (run h es).machine.stopped ≡ true → MayFind h es (length es) map → MayFind h (es ++ fs) (length (es ++ fs)) map
+rests : (h : HubState) (es fs : List (HubEvent × Choice)) (map : KeyMap) → (run h es).machine.stopped ≡ true → MayFind h es (length es) map
+    → MayFind h (es ++ fs) (length (es ++ fs)) map
 rests h [] fs map stop x = idle h fs map stop x
 rests h (e ∷ es) fs map stop x = elim x [ inl a ↦ inl a | inr y ↦ inr (rests (hub_step h e.0 e.1).0 es fs map stop y) ]
 
 pub found_after : FoundAfter
 found_after h [] map x = inl x
-found_after h (e ∷ es) map x = elim x [ inl a ↦ inr (inl a) | inr y ↦ elim (found_after (hub_step h e.0 e.1).0 es map y) [ inl z ↦ inl z | inr d ↦ inr (inr d) ] ]
+found_after h (e ∷ es) map x =
+    elim x [ inl a ↦ inr (inl a) | inr y ↦ elim (found_after (hub_step h e.0 e.1).0 es map y) [ inl z ↦ inl z | inr d ↦ inr (inr d) ] ]
 
 pub found_during : FoundDuring
 found_during h [] e map x = elim x [ inl a ↦ inl a | inr y ↦ elim y [ inl b ↦ inr (inl b) | inr z ↦ inr (inr (inl z)) ] ]
@@ -101,10 +117,12 @@ found_during h (d ∷ es) e map x = grind (arith, common_steps, found_during (hu
 -- ---- crashes
 
 module _ {D : Type 0} (moment : D → ℕ) (left_since : D → ℕ → List (List ℕ) → Type 0) where
-  pub weaker : (old new : D) (P Q : List (List ℕ) → Type 0) → ((c : List (List ℕ)) → P c → Q c) → LeavesOnly moment left_since old new P → LeavesOnly moment left_since old new Q
+  pub weaker : (old new : D) (P Q : List (List ℕ) → Type 0) → ((c : List (List ℕ)) → P c → Q c) → LeavesOnly moment left_since old new P
+      → LeavesOnly moment left_since old new Q
   weaker old new P Q f x = grind (arith, common_steps)
 
-  joined : (old mid new : D) (P : List (List ℕ) → Type 0) → LeavesOnly moment left_since old mid P → LeavesOnly moment left_since mid new P → LeavesOnly moment left_since old new P
+  joined : (old mid new : D) (P : List (List ℕ) → Type 0) → LeavesOnly moment left_since old mid P → LeavesOnly moment left_since mid new P
+      → LeavesOnly moment left_since old new P
   joined old mid new P x y = grind (arith, common_steps)
 
 abbrev pub OnlyNow : (D : Type 0) → Ghosts D → Type 0
@@ -123,7 +141,8 @@ pub record Survives {D : Type 0} {g : Ghosts D} (old new : Hub D g) (h : HubStat
       → ((h.machine.stopped ≡ false) × Holds h es (length es) c) ⊎ ((h.machine.stopped ≡ true) × g.may_leave (device old) c)
 
 -- a run and another run
-module _ {D : Type 0} {g : Ghosts D} (old mid new : Hub D g) (h : HubState) (es fs : List (HubEvent × Choice)) (first : Survives old mid h es) (second : Survives mid new (run h es) fs) where
+module _ {D : Type 0} {g : Ghosts D} (old mid new : Hub D g) (h : HubState) (es fs : List (HubEvent × Choice)) (first : Survives old mid h es)
+    (second : Survives mid new (run h es) fs) where
   abbrev All : List (List ℕ) → Type 0
   All = Holds h (es ++ fs) zero
 
@@ -136,17 +155,20 @@ module _ {D : Type 0} {g : Ghosts D} (old mid new : Hub D g) (h : HubState) (es 
   leaves_by : (b : Bool) → (run h es).machine.stopped ≡ b → h.machine.stopped ≡ false → LeavesOnly g.moment g.left_since (device old) (device new) All
   leaves_by b is up = grind (arith, common_steps, weaker, holds_first, joined, holds_second)
 
-  now_by : (b : Bool) → (run h es).machine.stopped ≡ b → h.machine.stopped ≡ false → (c : List (List ℕ)) → g.may_leave (device new) c → Holds h (es ++ fs) (length (es ++ fs)) c
+  now_by : (b : Bool) → (run h es).machine.stopped ≡ b → h.machine.stopped ≡ false → (c : List (List ℕ)) → g.may_leave (device new) c
+      → Holds h (es ++ fs) (length (es ++ fs)) c
   now_by b is up c left = grind (arith, common_steps, rests, later, length-append)
 
   pub goes_on : Survives old new h (es ++ fs)
   goes_on = grind (arith, common_steps, stays_stopped, leaves_by (run h es).machine.stopped refl, now_by (run h es).machine.stopped refl)
 
-  pub loses_nothing : OnlyNow D g → g.keeps_model → h.machine.stopped ≡ false → (c : List (List ℕ)) → g.left_since (device new) (g.moment (device mid)) c → Holds h (es ++ fs) (length es) c
+  pub loses_nothing : OnlyNow D g → g.keeps_model → h.machine.stopped ≡ false → (c : List (List ℕ)) → g.left_since (device new) (g.moment (device mid)) c
+      → Holds h (es ++ fs) (length es) c
   loses_nothing only_now keeps up c left = grind (arith, common_steps, cases_Bool (run h es).machine.stopped, first.now, second.now, earlier, later)
 
 -- no event
-pub nothing : {D : Type 0} {g : Ghosts D} (hub new : Hub D g) (h : HubState) → device new ≡ device hub → OnlyNow D g → StandsFor hub h → IsSound hub → g.keeps_model → Survives hub new h []
+pub nothing : {D : Type 0} {g : Ghosts D} (hub new : Hub D g) (h : HubState) → device new ≡ device hub → OnlyNow D g → StandsFor hub h → IsSound hub
+    → g.keeps_model → Survives hub new h []
 nothing hub new h same only_now stands sound keeps = let stored = sound.stored keeps h stands in grind (arith, common_steps)
 
 -- one event
@@ -161,8 +183,10 @@ module _ {D : Type 0} {g : Ghosts D} (old new : Hub D g) (h : HubState) (e : Hub
     | inr y ↦ (_, y.2, inr (inl (y.0, y.1, refl)))
   ]
 
-  now_after : (b : Bool) → (hub_step h e n).0.machine.stopped ≡ b → h.machine.stopped ≡ false → (c : List (List ℕ)) → g.may_leave (device new) c → Holds h one (suc zero) c
-  now_after false runs up c left = (committed_map (hub_step h e n).0.machine, sound.stored keeps (hub_step h e n).0 (steps.leads h stands).1 runs c left, inr refl)
+  now_after : (b : Bool) → (hub_step h e n).0.machine.stopped ≡ b → h.machine.stopped ≡ false → (c : List (List ℕ)) → g.may_leave (device new) c
+      → Holds h one (suc zero) c
+  now_after false runs up c left =
+      (committed_map (hub_step h e n).0.machine, sound.stored keeps (hub_step h e n).0 (steps.leads h stands).1 runs c left, inr refl)
   now_after true stop up c left =
       let x = steps.crash keeps h stands up in
       elim (x.each c (counts_now keeps (device new) (g.moment (device old)) c x.later left)) [
@@ -171,4 +195,13 @@ module _ {D : Type 0} {g : Ghosts D} (old new : Hub D g) (h : HubState) (e : Hub
       ]
 
   pub one_event : Survives old new h one
-  one_event = grind (arith, common_steps, weaker, during, steps.still, steps.crash keeps h stands, stands.engine.stopped, now_after (hub_step h e n).0.machine.stopped refl)
+  one_event = grind (
+    arith,
+    common_steps,
+    weaker,
+    during,
+    steps.still,
+    steps.crash keeps h stands,
+    stands.engine.stopped,
+    now_after (hub_step h e n).0.machine.stopped refl,
+  )

@@ -1,13 +1,24 @@
 -- The lives of a store, one after another.
-use Rattle.sessions.proofs.Words.{common_steps, ◌∙◌, arith, ◌≡◌, ℕ, List, [], ◌∷◌, ◌++◌, length, Result, refl, sym, subst, zero, suc, false, KeyMap, opened, State, IsReached, Asks, step, Ghosts, Hub, Ran, HubState, HubEvent, Choice, hub_over, hub_step, MayFind, Commit}
-use Rattle.commit_log.specs.declared.faults.Unopened.{Unopened}
-use Rattle.engine.specs.Recovery.{HoldsMap, committed_map}
-use Rattle.sessions.specs.Lives.{Begins, CutsReopen, EndOfLife, EndsWith, FollowOn, IsLeftAt, Life, LoseNothing, MapAt, Opens, KeepsAnswered, InOpening, InRun, IsLeftLast}
-use Rattle.sessions.proofs.Runs.{CountsNow, OnlyNow, loses_nothing, ran_parts}
+use Rattle.std.proofs.Common.{◌∙◌, arith, ◌≡◌, ℕ, List, [], ◌∷◌, ◌++◌, length, Result, refl, sym, subst, zero, suc}
+use Rattle.std.proofs.Common.{false}
+use Rattle.std.proofs.lemmas.Grind.{common_steps}
+use Rattle.model.specs.Machine.{opened, State, IsReached, Asks, step}
+use Rattle.model.specs.Map.{KeyMap}
+use Rattle.model.specs.Operations.{Commit}
 use Rattle.model.specs.Restarts.{FollowEachOther, RestartLaw}
-use Rattle.sessions.specs.OneOrder.{MayComeTo, LeavesStates, ComeTo, HaveOneHistory}
+use Rattle.commit_log.specs.declared.faults.Unopened.{Unopened}
 use Rattle.engine.proofs.Steps.{reached_next}
-use Rattle.sessions.proofs.{StreamLaws.machine_reached, StreamLaws.moved, StreamLaws.reached_moved, LifeLaws.commits_in_event, LifeLaws.commits_in_step}
+use Rattle.engine.specs.Recovery.{HoldsMap, committed_map}
+use Rattle.sessions.proofs.LifeLaws.{commits_in_event, commits_in_step}
+use Rattle.sessions.proofs.Runs.{CountsNow, OnlyNow, loses_nothing, ran_parts}
+use Rattle.sessions.proofs.StreamLaws.{machine_reached, moved, reached_moved}
+use Rattle.sessions.specs.Laws.{Ran}
+use Rattle.sessions.specs.Life.{MayFind}
+use Rattle.sessions.specs.Lives.{Begins, CutsReopen, EndOfLife, EndsWith, FollowOn, IsLeftAt, Life, LoseNothing}
+use Rattle.sessions.specs.Lives.{MapAt, Opens, KeepsAnswered, InOpening, InRun, IsLeftLast}
+use Rattle.sessions.specs.OneOrder.{MayComeTo, LeavesStates, ComeTo, HaveOneHistory}
+use Rattle.sessions.specs.SessionStreams.{HubState, HubEvent, Choice, hub_over, hub_step}
+use Rattle.sessions.specs.StandsFor.{Ghosts, Hub}
 
 -- one image was left
 pub cuts_reopen : {D : Type 0} {g : Ghosts D} (hub : Hub D g) → CutsReopen hub
@@ -15,7 +26,8 @@ cuts_reopen hub life dev disk was settled = grind (arith, common_steps)
 
 module _ {D : Type 0} {g : Ghosts D} (any : Hub D g) (only_now : OnlyNow D g) (counts_now : CountsNow D g) (keeps : g.keeps_model) where
   -- what the end of a life leaves, whose opening ended with this map
-  pub left : (dev : D) (result : Result (Hub D g) (Unopened D)) (Left : List (List ℕ) → Type 0) (Maps : KeyMap → Type 0) (map : KeyMap) → Opens dev result → EndsWith dev result map
+  pub left : (dev : D) (result : Result (Hub D g) (Unopened D)) (Left : List (List ℕ) → Type 0) (Maps : KeyMap → Type 0) (map : KeyMap) → Opens dev result
+      → EndsWith dev result map
       → ((c : List (List ℕ)) → g.may_leave dev c → Left c) → ((c : List (List ℕ)) → Left c → (m : KeyMap) × Maps m × HoldsMap c m)
       → (ending : EndOfLife dev result) (c : List (List ℕ)) → IsLeftAt ending c → (next : KeyMap) × MapAt Maps map ending next × HoldsMap c next
   left dev result Left Maps map opens ends may holds InOpening c l = holds c (may c (opens.during.each c l))
@@ -25,16 +37,21 @@ module _ {D : Type 0} {g : Ghosts D} (any : Hub D g) (only_now : OnlyNow D g) (c
       let z = loses_nothing any only_now counts_now keeps hub answered last es fs ran more h begins.stands refl c l in
       (z.0, (begins, z.2), z.1)
 
-  pub lose_nothing : (lives : List (Life D g)) (Left : List (List ℕ) → Type 0) (Maps : KeyMap → Type 0) → ((c : List (List ℕ)) → Left c → (m : KeyMap) × Maps m × HoldsMap c m) → FollowOn Left lives
+  pub lose_nothing : (lives : List (Life D g)) (Left : List (List ℕ) → Type 0) (Maps : KeyMap → Type 0)
+      → ((c : List (List ℕ)) → Left c → (m : KeyMap) × Maps m × HoldsMap c m) → FollowOn Left lives
       → LoseNothing Maps lives
   lose_nothing [] Left Maps holds follow = tt
   lose_nothing (life ∷ lives) Left Maps holds follow =
       let found = holds follow.0.image follow.0.was_left in
       let ends : EndsWith life.dev life.result found.0 = life.opens.ends follow.0.image found.0 follow.0.size_is follow.0.read found.2 in
-      let leaves = left life.dev life.result Left Maps found.0 life.opens ends follow.0.left holds life.ending in
-      (found.0, record { was = found.1; opening = ends; leaves = leaves }, lose_nothing lives (IsLeftAt life.ending) (MapAt Maps found.0 life.ending) leaves follow.1)
+      let leaves = left life.dev life.result Left Maps found.0 life.opens ends follow.0.left holds life.ending in (
+        found.0,
+        record { was = found.1; opening = ends; leaves = leaves },
+        lose_nothing lives (IsLeftAt life.ending) (MapAt Maps found.0 life.ending) leaves follow.1,
+      )
 
-  pub from_disk : (disk : List (List ℕ)) (map : KeyMap) (lives : List (Life D g)) → HoldsMap disk map → FollowOn (λ c. c ≡ disk) lives → LoseNothing (λ m. m ≡ map) lives
+  pub from_disk : (disk : List (List ℕ)) (map : KeyMap) (lives : List (Life D g)) → HoldsMap disk map → FollowOn (λ c. c ≡ disk) lives
+      → LoseNothing (λ m. m ≡ map) lives
   from_disk disk map lives holds follow =
       lose_nothing lives (λ c. c ≡ disk) (λ m. m ≡ map) (λ c is. (map, refl, subst (λ (d : List (List ℕ)). HoldsMap d map) (sym is) holds)) follow
 
@@ -48,7 +65,8 @@ keeps_answered {D} {g} hub only_now counts_now keeps served es fs is =
 -- ---- what was committed in all of them has one order
 
 -- a state whose map a crash may leave
-comes_to : (h : HubState) (es : List (HubEvent × Choice)) (n : ℕ) (map : KeyMap) → MayFind h es n map → (st : State) × MayComeTo h es n st × (map ≡ committed_map st)
+comes_to : (h : HubState) (es : List (HubEvent × Choice)) (n : ℕ) (map : KeyMap) → MayFind h es n map
+    → (st : State) × MayComeTo h es n st × (map ≡ committed_map st)
 comes_to h [] n map x = (h.machine, refl, x)
 comes_to h (e ∷ es) zero map x = grind (arith, common_steps, comes_to (hub_step h e.0 e.1).0 es zero map)
 comes_to h (e ∷ es) (suc n) map x = grind (arith, common_steps, comes_to (hub_step h e.0 e.1).0 es n map)
@@ -75,7 +93,14 @@ is_over : (h : HubState) (es : List (HubEvent × Choice)) (n : ℕ) (st : State)
 is_over h [] n st r x = over_same h.machine st r x
 is_over h (e ∷ es) zero st r x =
     let m = over_event h e.0 e.1 r in
-    grind (arith, common_steps, over_same h.machine st r, over_commit, over_after h.machine (hub_step h e.0 e.1).0.machine st m, is_over (hub_step h e.0 e.1).0 es zero st m.reached)
+    grind (
+      arith,
+      common_steps,
+      over_same h.machine st r,
+      over_commit,
+      over_after h.machine (hub_step h e.0 e.1).0.machine st m,
+      is_over (hub_step h e.0 e.1).0 es zero st m.reached,
+    )
 is_over h (e ∷ es) (suc n) st r x =
     let m = over_event h e.0 e.1 r in
     grind (arith, common_steps, over_commit, over_after h.machine (hub_step h e.0 e.1).0.machine st m, is_over (hub_step h e.0 e.1).0 es n st m.reached)
@@ -86,14 +111,16 @@ is_over h (e ∷ es) (suc n) st r x =
 abbrev CameFrom : {D : Type 0} {g : Ghosts D} {dev : D} {result : Result (Hub D g) (Unopened D)} → (KeyMap → Type 0) → EndOfLife dev result → KeyMap → Type 0
 CameFrom Maps ending next = (map : KeyMap) × Maps map × (own : List State) × LeavesStates ending map own next
 
-came : {D : Type 0} {g : Ghosts D} (dev : D) (result : Result (Hub D g) (Unopened D)) (Maps : KeyMap → Type 0) (map next : KeyMap) → Maps map → (ending : EndOfLife dev result) → MapAt Maps map ending next → CameFrom Maps ending next
+came : {D : Type 0} {g : Ghosts D} (dev : D) (result : Result (Hub D g) (Unopened D)) (Maps : KeyMap → Type 0) (map next : KeyMap) → Maps map
+    → (ending : EndOfLife dev result) → MapAt Maps map ending next → CameFrom Maps ending next
 came dev result Maps map next was InOpening is = (next, is, [], (refl, refl))
 came {D} {g} dev result Maps map next was (InRun hub answered last es fs ok ran more) is =
     let c = comes_to (hub_over (opened map is.0.used (g.size dev))) (es ++ fs) (length es) next is.1 in
     (map, was, c.0 ∷ [], (is.0, c.0, refl, c.1, c.2))
 
 -- before the states to which the later lives came
-before : {D : Type 0} {g : Ghosts D} (dev : D) (result : Result (Hub D g) (Unopened D)) (map next found : KeyMap) (own rest : List State) (ending : EndOfLife dev result) →
+before : {D : Type 0} {g : Ghosts D} (dev : D) (result : Result (Hub D g) (Unopened D)) (map next found : KeyMap) (own rest : List State)
+    (ending : EndOfLife dev result) →
     LeavesStates ending map own next → FollowEachOther next rest found → FollowEachOther map (own ++ rest) found
 before dev result map next found own rest ending comes follow = grind (arith, common_steps, is_over, machine_reached)
 
@@ -105,7 +132,8 @@ record Story {D : Type 0} {g : Ghosts D} (map : KeyMap) (disk : List (List ℕ))
   follow : FollowEachOther map states found
 
 module _ {D : Type 0} {g : Ghosts D} (any : Hub D g) (only_now : OnlyNow D g) (counts_now : CountsNow D g) (keeps : g.keeps_model) where
-  told : (lives : List (Life D g)) (Left : List (List ℕ) → Type 0) (Maps : KeyMap → Type 0) → ((c : List (List ℕ)) → Left c → (m : KeyMap) × Maps m × HoldsMap c m) → FollowOn Left lives
+  told : (lives : List (Life D g)) (Left : List (List ℕ) → Type 0) (Maps : KeyMap → Type 0)
+      → ((c : List (List ℕ)) → Left c → (m : KeyMap) × Maps m × HoldsMap c m) → FollowOn Left lives
       → (last : List (List ℕ)) → IsLeftLast Left lives last → (map : KeyMap) × Maps map × Story map last lives
   told [] Left Maps holds follow last l = let m = holds last l in (m.0, m.1, record { states = []; found = m.0; came_to = (refl, refl, m.2); follow = refl })
   told (life ∷ lives) Left Maps holds follow last l =
@@ -124,8 +152,10 @@ module _ {D : Type 0} {g : Ghosts D} (any : Hub D g) (only_now : OnlyNow D g) (c
         },
       )
 
-  pub one_history : RestartLaw → (disk last : List (List ℕ)) (map : KeyMap) (lives : List (Life D g)) → HoldsMap disk map → FollowOn (λ c. c ≡ disk) lives → IsLeftLast (λ c. c ≡ disk) lives last → HaveOneHistory map last lives
+  pub one_history : RestartLaw → (disk last : List (List ℕ)) (map : KeyMap) (lives : List (Life D g)) → HoldsMap disk map → FollowOn (λ c. c ≡ disk) lives
+      → IsLeftLast (λ c. c ≡ disk) lives last → HaveOneHistory map last lives
   one_history law disk last map lives holds follow l =
-      let told_from = told lives (λ c. c ≡ disk) (λ m. m ≡ map) (λ c is. (map, refl, subst (λ (d : List (List ℕ)). HoldsMap d map) (sym is) holds)) follow last l in
+      let told_from = told lives (λ c. c ≡ disk) (λ m. m
+      ≡ map) (λ c is. (map, refl, subst (λ (d : List (List ℕ)). HoldsMap d map) (sym is) holds)) follow last l in
       let story : Story map last lives = subst (λ (m : KeyMap). Story m last lives) told_from.1 told_from.2 in
       record { states = story.states; found = story.found; came = story.came_to; order = law map story.states story.found story.follow }

@@ -1,7 +1,15 @@
 -- How long the text of a reply is.
-use Rattle.sessions.proofs.Words.{◌≡◌, ℕ, ◌*◌, ◌≤◌, List, [], ◌∷◌, ◌++◌, length, Option, Some, None, Result, Ok, Err, OnOk, OnErr, arith, length-append, IfSome, option_copied, Bor, flat_map, bulk_size, key_digits, key_max, part_max, range_reply_max, Bytes, KeyMap, IsInBounds, bulk, Value, Pairs, Response, reply_text, pair_text, Writes}
+use Rattle.std.proofs.Common.{◌≡◌, ℕ, ◌*◌, ◌≤◌, [], ◌∷◌, length, Option, Some, None, Result, Ok, Err}
+use Rattle.std.proofs.Common.{OnOk, OnErr, arith, length-append, IfSome, option_copied, Bor, flat_map}
 use Rattle.std.proofs.lemmas.Fmt.{length-decimal-le}
-use Rattle.model.specs.{declared.refusals.Memory.Memory, Key.IsKey, Key.IsValue}
+use Rattle.model.specs.Bounds.{bulk_size, key_digits, key_max, part_max, range_reply_max}
+use Rattle.model.specs.Grammar.{bulk}
+use Rattle.model.specs.Key.{IsKey, IsValue}
+use Rattle.model.specs.Map.{Bytes, KeyMap, IsInBounds}
+use Rattle.model.specs.Operations.{Value, Pairs, Response}
+use Rattle.model.specs.ReplyText.{reply_text, pair_text}
+use Rattle.model.specs.declared.refusals.Memory.{Memory}
+use Rattle.sessions.specs.Calls.{Writes}
 
 key_bulk : (key : Bytes) → IsKey key → length (bulk key) ≤ bulk_size key_digits key_max
 key_bulk key h =

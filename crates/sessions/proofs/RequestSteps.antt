@@ -1,13 +1,31 @@
 -- How a request's parts make one step of the machine, and the parts of a Serve its effect.
-use Rattle.sessions.proofs.Words.{common_steps, ◌≡◌, ◌≢◌, ℕ, Bool, true, false, not, List, [], ◌∷◌, ◌++◌, Option, Some, None, Result, Ok, Err, OnOk, OnErr, IsTrue, refl, sym, ap, subst, ◌∙◌, nat_cmp, arith, length, drop, if◌then◌else◌, inl, inr, ◌==◌, put, where_key, Bytes, Operation, Response, Commit, Done, Refused as Refusing, State, step, leave, reply_text, Writes, Executes, has_failed, refusal_to_read, LeavesSame, Aborts, HasEffect, ServesSession, Open, Ending, Idle as OfIdle, Outcome, takes_memory, SessionState, Choice, IsServed, Whole, More, Bad, IsFront, asks, bad_frame, serve_front, may_serve, IsProperBeginning, array_of_bulks, LeavesOnly, SurvivesCommit, SurvivesRequest, SurvivesFront}
-use Rattle.sector.specs.declared.device.Sectors.{Ghosts}
-use Rattle.model.specs.declared.refusals.Memory.{Memory}
+use Rattle.std.proofs.Common.{◌≡◌, ◌≢◌, ℕ, Bool, true, false, not, List, [], ◌∷◌, Option, Some, None, Result}
+use Rattle.std.proofs.Common.{Ok, Err, OnOk, OnErr, IsTrue, refl, sym, ap, subst, ◌∙◌, nat_cmp, arith, length, drop}
+use Rattle.std.proofs.Common.{if◌then◌else◌, inl, inr, ◌==◌}
+use Rattle.std.proofs.lemmas.Grind.{common_steps}
+use Rattle.std.specs.FinMap.Entries.{put, where_key}
 use Rattle.model.proofs.Leading.{stepped}
-use Rattle.engine.specs.{declared.engine.Engine.Engine, declared.faults.EngineFault.EngineFault, declared.faults.ReadFault.ReadFault}
-use Rattle.engine.specs.Meaning.{StandsFor, Leads, IsNotRefused, device_of, failures_of, has_risen, response_to, response_to_read, IsLeftByCommit}
+use Rattle.model.specs.Grammar.{IsProperBeginning, array_of_bulks}
+use Rattle.model.specs.Machine.{State, step, leave}
+use Rattle.model.specs.Map.{Bytes}
+use Rattle.model.specs.Operations.{Operation, Response, Commit, Done, Refused as Refusing}
+use Rattle.model.specs.ReplyText.{reply_text}
+use Rattle.model.specs.declared.refusals.Memory.{Memory}
+use Rattle.sector.specs.SectorModel.{LeavesOnly}
+use Rattle.sector.specs.declared.device.Sectors.{Ghosts}
 use Rattle.snapshot.specs.Made.{is_refused}
+use Rattle.engine.specs.Meaning.{StandsFor, Leads, IsNotRefused, device_of, failures_of, has_risen, response_to}
+use Rattle.engine.specs.Meaning.{response_to_read, IsLeftByCommit}
+use Rattle.engine.specs.declared.engine.Engine.{Engine}
+use Rattle.engine.specs.declared.faults.EngineFault.{EngineFault}
 use Rattle.engine.specs.declared.faults.EngineFault.TheVariants.{Refused as RefusedFor, Memory as OutOfMemory}
-use Rattle.sessions.specs.SessionStreams.{Refused, Done as OfDone, Memory as OfMemory}
+use Rattle.engine.specs.declared.faults.ReadFault.{ReadFault}
+use Rattle.sessions.specs.Calls.{Writes, Executes, has_failed, refusal_to_read, LeavesSame, Aborts, HasEffect}
+use Rattle.sessions.specs.Calls.{ServesSession}
+use Rattle.sessions.specs.Crashes.{SurvivesCommit, SurvivesRequest, SurvivesFront}
+use Rattle.sessions.specs.SessionStreams.{Open, Ending, Idle as OfIdle, Outcome, takes_memory, SessionState, Choice}
+use Rattle.sessions.specs.SessionStreams.{IsServed, Whole, More, Bad, IsFront, asks, bad_frame, serve_front}
+use Rattle.sessions.specs.SessionStreams.{may_serve, Refused, Done as OfDone, Memory as OfMemory}
 
 -- ---- the machine
 
@@ -21,7 +39,8 @@ unfolding step
 step_flag m s q b e = grind (arith, common_steps)
 
 -- what is put there is among no others
-others-put : {X : Type 0} (s : ℕ) (t : X) (es : List (ℕ × X)) → where_key nat_cmp (λ x. not (x == s)) (put nat_cmp s t es) ≡ where_key nat_cmp (λ x. not (x == s)) es
+others-put : {X : Type 0} (s : ℕ) (t : X) (es : List (ℕ × X))
+    → where_key nat_cmp (λ x. not (x == s)) (put nat_cmp s t es) ≡ where_key nat_cmp (λ x. not (x == s)) es
 others-put s t [] = grind (arith, common_steps)
 others-put s t (e ∷ es) = grind (arith, common_steps, others-put s t es)
 
@@ -34,12 +53,15 @@ leave-own m s q no_commit takes = grind (arith, common_steps, others-put)
 
 module _ {D : Type 0} {g : Ghosts D} (old new : Engine D g) (s : ℕ) (q : Operation) (b : Bool) where
   -- a call that takes no memory, and then its response written
-  pub executes_always : (response : Response) (after : Bytes) (r : Result (Unit {0}) Memory) → Leads old new s q b (Some response) → Writes (Some response) after r → Executes old new s q b after r
-  executes_always response after (Ok done) leads said = λ m h. let n = leads m h in let x = stepped StandsFor new n.0 response (step m s q b) n.1 n.2 in (x.0, said ∙ ap reply_text (sym x.1))
+  pub executes_always : (response : Response) (after : Bytes) (r : Result (Unit {0}) Memory) → Leads old new s q b (Some response)
+      → Writes (Some response) after r → Executes old new s q b after r
+  executes_always response after (Ok done) leads said = λ m h. let n = leads m h in let x =
+      stepped StandsFor new n.0 response (step m s q b) n.1 n.2 in (x.0, said ∙ ap reply_text (sym x.1))
   executes_always response after (Err refused) leads said = absurd said
 
   -- the same of one that may be refused memory
-  pub executes_from : (response : Option Response) (after : Bytes) (r : Result (Unit {0}) Memory) → IsTrue (takes_memory q) → Leads old new s q b response → Writes response after r → Executes old new s q b after r
+  pub executes_from : (response : Option Response) (after : Bytes) (r : Result (Unit {0}) Memory) → IsTrue (takes_memory q) → Leads old new s q b response
+      → Writes response after r → Executes old new s q b after r
   executes_from (Some response) after r takes leads said = executes_always response after r leads said
   executes_from None after (Ok done) takes leads said = absurd said
   executes_from None after (Err refused) takes leads said = (takes, λ m h. (m, (leads.0 m).0 h, refl), said, leads.1)
@@ -50,13 +72,17 @@ module _ {D : Type 0} {g : Ghosts D} (old new : Engine D g) (s : ℕ) (q : Opera
   executes_flag after (Err refused) e x = x
 
 -- a call that takes no memory and a reclamation after it, and then its response written
-executes_kept : {D : Type 0} {g : Ghosts D} (old mid new : Engine D g) (s : ℕ) (q : Operation) (b : Bool) (response : Response) (after : Bytes) (r : Result (Unit {0}) Memory) → Leads old mid s q b (Some response)
+executes_kept : {D : Type 0} {g : Ghosts D} (old mid new : Engine D g) (s : ℕ) (q : Operation) (b : Bool) (response : Response) (after : Bytes)
+    (r : Result (Unit {0}) Memory) → Leads old mid s q b (Some response)
     → ((m : State) → StandsFor mid m → StandsFor new m) → Writes (Some response) after r → Executes old new s q b after r
-executes_kept old mid new s q b response after r leads keeps said = executes_always old new s q b response after r (λ m h. let n = leads m h in (n.0, keeps n.0 n.1, n.2)) said
+executes_kept old mid new s q b response after r leads keeps said =
+    executes_always old new s q b response after r (λ m h. let n = leads m h in (n.0, keeps n.0 n.1, n.2)) said
 
 -- the same of a COMMIT
-pub executes_commit : {D : Type 0} {g : Ghosts D} (old mid new : Engine D g) (s : ℕ) (response : Response) (after : Bytes) (r : Result (Unit {0}) Memory) → device_of new ≡ device_of mid
-    → Leads old mid s Commit (has_failed old mid) (Some response) → ((m : State) → StandsFor mid m → StandsFor new m) → Writes (Some response) after r → Executes old new s Commit (has_failed old new) after r
+pub executes_commit : {D : Type 0} {g : Ghosts D} (old mid new : Engine D g) (s : ℕ) (response : Response) (after : Bytes) (r : Result (Unit {0}) Memory)
+    → device_of new ≡ device_of mid
+    → Leads old mid s Commit (has_failed old mid) (Some response) → ((m : State) → StandsFor mid m → StandsFor new m) → Writes (Some response) after r
+    → Executes old new s Commit (has_failed old new) after r
 executes_commit {D} {g} old mid new s response after r same leads keeps said =
     executes_kept old mid new s Commit (has_failed old new) response after r
     (subst (λ (d : D). Leads old mid s Commit (has_risen (failures_of old) (g.failures d)) (Some response)) (sym same) leads) keeps said
@@ -79,17 +105,22 @@ same_refusal : {T : Type 0} (f : T → Response) (fault : ReadFault) → respons
 same_refusal f fault = grind (arith, common_steps)
 
 -- a read that was refused
-pub executes_refused : {T D : Type 0} {g : Ghosts D} (old new : Engine D g) (s : ℕ) (q : Operation) (f : T → Response) (result : Result T ReadFault) (fault : ReadFault) (after : Bytes) (r : Result (Unit {0}) Memory)
-    → IsTrue (takes_memory q) → result ≡ Err fault → Leads old new s q false (response_to_read f result) → Writes (refusal_to_read fault) after r → Executes old new s q false after r
+pub executes_refused : {T D : Type 0} {g : Ghosts D} (old new : Engine D g) (s : ℕ) (q : Operation) (f : T
+    → Response) (result : Result T ReadFault) (fault : ReadFault) (after : Bytes) (r : Result (Unit {0}) Memory)
+    → IsTrue (takes_memory q) → result ≡ Err fault → Leads old new s q false (response_to_read f result) → Writes (refusal_to_read fault) after r
+    → Executes old new s q false after r
 executes_refused old new s q f result fault after r takes is leads said =
-    executes_from old new s q false (refusal_to_read fault) after r takes (subst (λ o. Leads old new s q false o) (ap (response_to_read f) is ∙ same_refusal f fault) leads) said
+    executes_from old new s q false (refusal_to_read fault) after r takes
+    (subst (λ o. Leads old new s q false o) (ap (response_to_read f) is ∙ same_refusal f fault) leads) said
 
 -- a call that takes no memory, and a reclamation after it
-pub executes_ended : {D : Type 0} {g : Ghosts D} (old mid new : Engine D g) (s : ℕ) (q : Operation) (answer : Result (Unit {0}) EngineFault) (after : Bytes) (r : Result (Unit {0}) Memory)
+pub executes_ended : {D : Type 0} {g : Ghosts D} (old mid new : Engine D g) (s : ℕ) (q : Operation) (answer : Result (Unit {0}) EngineFault) (after : Bytes)
+    (r : Result (Unit {0}) Memory)
     → answer ≢ Err OutOfMemory → Leads old mid s q false (response_to (λ (u : Unit {0}). Done) answer) → ((m : State) → StandsFor mid m → StandsFor new m)
     → Writes (response_to (λ (u : Unit {0}). Done) answer) after r → Executes old new s q false after r
 executes_ended old mid new s q (Ok done) after r answered leads keeps said = executes_kept old mid new s q false Done after r leads keeps said
-executes_ended old mid new s q (Err (RefusedFor refusal)) after r answered leads keeps said = executes_kept old mid new s q false (Refusing refusal) after r leads keeps said
+executes_ended old mid new s q (Err (RefusedFor refusal)) after r answered leads keeps said =
+    executes_kept old mid new s q false (Refusing refusal) after r leads keeps said
 executes_ended old mid new s q (Err OutOfMemory) after r answered leads keeps said = absurd (answered refl)
 
 -- ---- a Serve
@@ -104,7 +135,8 @@ pub nothing_pending : (opened : Bool) (xs : Bytes) → (if opened then length xs
 nothing_pending opened xs there = grind (arith, common_steps)
 
 module _ {D : Type 0} {g : Ghosts D} (old new : Engine D g) (s : ℕ) (before after : SessionState) (may : may_serve before ≡ true) where
-  effects : (c : Choice) (m : State) (outcome : Outcome) → IsServed m s before.inbox c → StandsFor new (serve_front c.front c m s before).machine → after ≡ (serve_front c.front c m s before).now → outcome ≡ (serve_front c.front c m s before).outcome
+  effects : (c : Choice) (m : State) (outcome : Outcome) → IsServed m s before.inbox c → StandsFor new (serve_front c.front c m s before).machine
+      → after ≡ (serve_front c.front c m s before).now → outcome ≡ (serve_front c.front c m s before).outcome
       → HasEffect old new s c m before after outcome
   effects c m outcome front stands now is = grind (arith, common_steps)
 
@@ -139,19 +171,22 @@ nothing_begins : IsProperBeginning []
 nothing_begins = (array_of_bulks ([] ∷ []), [] ∷ [], omega arith, (record { some = omega arith; few = omega arith; each = grind (arith, common_steps) }, refl))
 
 -- where nothing came in, nothing is done
-pub nothing_came : {D : Type 0} {g : Ghosts D} (e : Engine D g) (s : ℕ) (before : SessionState) → may_serve before ≡ true → before.inbox ≡ [] → ServesSession e e s before before OfIdle
+pub nothing_came : {D : Type 0} {g : Ghosts D} (e : Engine D g) (s : ℕ) (before : SessionState) → may_serve before ≡ true → before.inbox ≡ []
+    → ServesSession e e s before before OfIdle
 nothing_came e s before may none =
     more e e s before before may (subst IsProperBeginning (sym none) nothing_begins) refl (nothing_pending _ _ may) refl refl
 
 -- ---- what a crash during it leaves
 
 -- a call that leaves the device alone may follow
-pub survives_after : {D : Type 0} {g : Ghosts D} (old mid new : Engine D g) (s : ℕ) → device_of new ≡ device_of mid → SurvivesCommit old mid s → SurvivesCommit old new s
+pub survives_after : {D : Type 0} {g : Ghosts D} (old mid new : Engine D g) (s : ℕ) → device_of new ≡ device_of mid → SurvivesCommit old mid s
+    → SurvivesCommit old new s
 survives_after {D} {g} old mid new s same crash keeps m h =
     subst (λ (d : D). LeavesOnly g.moment g.left_since (device_of old) d (IsLeftByCommit old m s)) (sym same) (crash keeps m h)
 
 module _ {D : Type 0} {g : Ghosts D} (old mid new : Engine D g) (s : ℕ) (inbox : Bytes) (same : device_of new ≡ device_of mid) where
   -- a request at the front of the inbox, and then calls that don't reach the device
-  pub survives_front : (parts : List Bytes) (used : ℕ) → IsFront inbox (Whole parts used) → SurvivesRequest old mid s (asks parts) → SurvivesFront old new s inbox
+  pub survives_front : (parts : List Bytes) (used : ℕ) → IsFront inbox (Whole parts used) → SurvivesRequest old mid s (asks parts)
+      → SurvivesFront old new s inbox
   survives_front parts used front (inl unchanged) = inl (same ∙ unchanged)
   survives_front parts used front (inr x) = inr (record { parts = parts; used = used; front = front; asked = x.0 }, survives_after old mid new s same x.1)

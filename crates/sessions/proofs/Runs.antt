@@ -1,16 +1,38 @@
 -- Runs, event by event.
-use Rattle.sessions.proofs.Words.{common_steps, ◌≡◌, ◌≤◌, ℕ, zero, suc, Bool, true, false, inl, inr, List, [], ◌∷◌, ◌++◌, take, length, refl, sym, subst, ◌∙◌, arith, ◌⊎◌, both_ways, has_failed, LeavesOnly, HoldsBeforeOrAfter, IsLeftByEvent, KeepsCommitted, AppliesWhole, SurvivesEvent, ServesCommit, Commits, HubState, HubEvent, Choice, IsPossible, hub_step, run, IsReachedHub, Ghosts, Hub, StandsFor, device, failures, is_stopped, IsLawful, IsSound, LeadsTo, Ran, Steps, Holds, Operation, State, step}
+use Rattle.std.proofs.Common.{◌≡◌, ◌≤◌, ℕ, zero, suc, Bool, true, false, inl, inr, List, [], ◌∷◌, ◌++◌, take, length}
+use Rattle.std.proofs.Common.{refl, sym, subst, ◌∙◌, arith, ◌⊎◌}
+use Rattle.std.proofs.lemmas.Bool.{both_ways}
+use Rattle.std.proofs.lemmas.Grind.{common_steps}
 use Rattle.model.specs.Laws.{MachineLaw, PlacesLaw}
-use Rattle.sessions.proofs.LifeLaws.{hub-stopped, Survives, goes_on, nothing, one_event, weaker, loses_nothing as survivors_lose_nothing}
+use Rattle.model.specs.Machine.{State, step}
+use Rattle.model.specs.Operations.{Operation}
+use Rattle.sector.specs.SectorModel.{LeavesOnly}
+use Rattle.sessions.proofs.EventSteps.{stream-some}
+use Rattle.sessions.proofs.LifeLaws.{hub-stopped, Survives, goes_on, nothing, one_event, weaker}
+use Rattle.sessions.proofs.LifeLaws.{loses_nothing as survivors_lose_nothing}
 pub use Rattle.sessions.proofs.LifeLaws.{CountsNow, OnlyNow}
-use Rattle.sessions.proofs.{StreamLaws.always, StreamLaws.machine_reached, StreamLaws.are_streams, EventSteps.stream-some}
+use Rattle.sessions.proofs.StreamLaws.{always, machine_reached, are_streams}
+use Rattle.sessions.specs.Calls.{has_failed}
+use Rattle.sessions.specs.Crashes.{HoldsBeforeOrAfter, IsLeftByEvent, KeepsCommitted, AppliesWhole, SurvivesEvent}
+use Rattle.sessions.specs.Crashes.{ServesCommit, Commits}
+use Rattle.sessions.specs.Laws.{IsLawful, IsSound, LeadsTo, Ran, Steps}
+use Rattle.sessions.specs.Life.{Holds}
+use Rattle.sessions.specs.SessionStreams.{HubState, HubEvent, Choice, IsPossible, hub_step, run, IsReachedHub}
+use Rattle.sessions.specs.StandsFor.{Ghosts, Hub, StandsFor, device, failures, is_stopped}
 
 -- every state that events lead to is lawful
 pub lawful_at : MachineLaw → (h : HubState) → IsReachedHub h → IsLawful h
 lawful_at law h reached =
     let machine = machine_reached h reached in
     let streams = are_streams h reached in
-    record { reached = machine; isolated = (law h.machine machine).0; serializable = (law h.machine machine).1; transactions = (always h reached).ends; present = streams.present; gone = streams.gone }
+    record {
+      reached = machine;
+      isolated = (law h.machine machine).0;
+      serializable = (law h.machine machine).1;
+      transactions = (always h reached).ends;
+      present = streams.present;
+      gone = streams.gone;
+    }
 
 -- between two events
 pub sound : {D : Type 0} {g : Ghosts D} (hub : Hub D g) → MachineLaw → PlacesLaw → (g.keeps_model → KeepsCommitted hub) → IsSound hub
@@ -56,7 +78,8 @@ module _ {D : Type 0} {g : Ghosts D} where
   ran_lawful old new (e ∷ es) r h s (suc n) = ran_lawful r.1 new es r.3 (hub_step h e.0 e.1).0 (r.2.leads h s).1 n
 
   pub leads_to : (old new : Hub D g) (es : List (HubEvent × Choice)) → Ran old new es → (h : HubState) → StandsFor old h → LeadsTo new h es
-  leads_to old new [] r h s = record { possible = tt; stands = r.2.stands h s; lawful = ran_lawful old new [] r h s; one_failure = omega arith; none_then = λ stop. refl }
+  leads_to old new [] r h s =
+      record { possible = tt; stands = r.2.stands h s; lawful = ran_lawful old new [] r h s; one_failure = omega arith; none_then = λ stop. refl }
   leads_to old new (e ∷ es) r h s =
       let there : StandsFor r.1 (hub_step h e.0 e.1).0 = (r.2.leads h s).1 in
       let rest = leads_to r.1 new es r.3 (hub_step h e.0 e.1).0 there in
@@ -80,12 +103,15 @@ module _ {D : Type 0} {g : Ghosts D} (any : Hub D g) (only_now : OnlyNow D g) (c
       (one_event old r.1 h e.0 e.1 counts_now s r.2 keeps (first_sound r.1 new es r.3))
       (ran_survives r.1 new es r.3 (hub_step h e.0 e.1).0 there)
 
-  pub loses_nothing : (old mid new : Hub D g) (es fs : List (HubEvent × Choice)) → Ran old mid es → Ran mid new fs → (h : HubState) → StandsFor old h → h.machine.stopped ≡ false
+  pub loses_nothing : (old mid new : Hub D g) (es fs : List (HubEvent × Choice)) → Ran old mid es → Ran mid new fs → (h : HubState) → StandsFor old h
+      → h.machine.stopped ≡ false
       → (c : List (List ℕ)) → g.left_since (device new) (g.moment (device mid)) c → Holds h (es ++ fs) (length es) c
   loses_nothing old mid new es fs p q h s up =
-      survivors_lose_nothing old mid new h es fs (ran_survives old mid es p h s) (ran_survives mid new fs q (run h es) (ran_stands old mid es p h s)) only_now keeps up
+      survivors_lose_nothing old mid new h es fs (ran_survives old mid es p h s) (ran_survives mid new fs q (run h es) (ran_stands old mid es p h s)) only_now
+      keeps up
 
-pub survives : {D : Type 0} {g : Ghosts D} (old new : Hub D g) (e : HubEvent) → OnlyNow D g → (g.keeps_model → KeepsCommitted old) → SurvivesEvent old new e → g.keeps_model → AppliesWhole old new e
+pub survives : {D : Type 0} {g : Ghosts D} (old new : Hub D g) (e : HubEvent) → OnlyNow D g → (g.keeps_model → KeepsCommitted old) → SurvivesEvent old new e
+    → g.keeps_model → AppliesWhole old new e
 survives old new e only_now stored (inl same) keeps h stands = grind (arith, common_steps)
 survives {D} {g} old new e only_now stored (inr x) keeps h stands =
     let f = stream-some old h stands x.0 x.1 (sym x.3) in
@@ -104,7 +130,8 @@ flagged : (m : State) (s : ℕ) (q : Operation) → (step m s q true ≡ step m 
 unfolding step
 flagged m s q = grind (arith, common_steps)
 
-hub-flagged : (h : HubState) (e : HubEvent) (c : Choice) → (hub_step h e (flag c true) ≡ hub_step h e (flag c false)) ⊎ ((h.machine.stopped ≡ false) × ((hub_step h e (flag c true)).0.machine.stopped ≡ true))
+hub-flagged : (h : HubState) (e : HubEvent) (c : Choice)
+    → (hub_step h e (flag c true) ≡ hub_step h e (flag c false)) ⊎ ((h.machine.stopped ≡ false) × ((hub_step h e (flag c true)).0.machine.stopped ≡ true))
 unfolding hub_step
 hub-flagged h e c = grind (arith, common_steps, flagged)
 
@@ -116,18 +143,23 @@ choice_is c b e = λ i. record { front = c.front; refused = c.refused; failed = 
 
 -- ---- one event
 
-module _ {D : Type 0} {g : Ghosts D} (old new : Hub D g) (e : HubEvent) (sound_old : IsSound old) (sound_new : IsSound new) (counted : failures old ≤ failures new) (crash : g.keeps_model → AppliesWhole old new e) (still : is_stopped old ≡ true → device new ≡ device old)
-    (c : Choice) (told : c.failed ≡ has_failed old.engine new.engine) (leads : (h : HubState) → StandsFor old h → IsPossible h e c × StandsFor new (hub_step h e c).0) where
+module _ {D : Type 0} {g : Ghosts D} (old new : Hub D g) (e : HubEvent) (sound_old : IsSound old) (sound_new : IsSound new) (counted : failures old
+    ≤ failures new) (crash : g.keeps_model → AppliesWhole old new e) (still : is_stopped old ≡ true → device new ≡ device old)
+    (c : Choice) (told : c.failed ≡ has_failed old.engine new.engine) (leads : (h : HubState) → StandsFor old h
+    → IsPossible h e c × StandsFor new (hub_step h e c).0) where
   abbrev Alone : Type 0
   Alone = (d : Choice) × ((h : HubState) → StandsFor old h → (hub_step h e d).0 ≡ (hub_step h e c).0) × Ran old new ((e, d) ∷ [])
 
   -- of a store that isn't stopped
-  runs : g.keeps_model → (h : HubState) → StandsFor old h → h.machine.stopped ≡ false → LeavesOnly g.moment g.left_since (device old) (device new) (HoldsBeforeOrAfter h e)
+  runs : g.keeps_model → (h : HubState) → StandsFor old h → h.machine.stopped ≡ false
+      → LeavesOnly g.moment g.left_since (device old) (device new) (HoldsBeforeOrAfter h e)
   runs keeps h s up =
-      weaker g.moment g.left_since (device old) (device new) (IsLeftByEvent old h e) (HoldsBeforeOrAfter h e) (λ d x. elim x [ inl a ↦ a.1 | inr b ↦ absurd (both_ways h.machine.stopped up b.0) ]) (crash keeps h s)
+      weaker g.moment g.left_since (device old) (device new) (IsLeftByEvent old h e) (HoldsBeforeOrAfter h e)
+      (λ d x. elim x [ inl a ↦ a.1 | inr b ↦ absurd (both_ways h.machine.stopped up b.0) ]) (crash keeps h s)
 
   -- by a choice that leads to the same
-  by_choice : (d : Choice) → ((h : HubState) → StandsFor old h → (hub_step h e d).0 ≡ (hub_step h e c).0) → ((h : HubState) → StandsFor old h → IsPossible h e d)
+  by_choice : (d : Choice) → ((h : HubState) → StandsFor old h → (hub_step h e d).0 ≡ (hub_step h e c).0)
+      → ((h : HubState) → StandsFor old h → IsPossible h e d)
       → (d.failed ≡ true → (has_failed old.engine new.engine ≡ true) × (is_stopped old ≡ false) × (is_stopped new ≡ true)) → Alone
   by_choice d same possible fails =
       let steps : Steps old new e d = grind (arith, common_steps, runs) in

@@ -1,11 +1,36 @@
 -- Every state that a hub stands for is lawful.
-use Rattle.sessions.proofs.Words.{common_steps, arith, ◌≡◌, ℕ, Bool, true, false, not, length, List, [], ◌∷◌, ◌++◌, take, drop, Option, Some, None, IsTrue, refl, sym, ap, subst, ◌∙◌, nat_cmp, nat_le, nat_lt, if◌then◌else◌, map, inl, inr, append_assoc, lookup, remove_entry, set_value, insert_entry, is_at, append-nil, take-append-drop, map-append, Bytes, Operation, Response, Begin, Commit, Abort, Done, State, Asks, IsReached, step, leave, Running, step_of, running_of, snapshot, reply_text, Outcome, bad_frame, is_above, HubState, SessionState, SessionStream, HubEvent, Joins, Receives, Serves, Sends, Leaves, Front, Whole, More, Bad, Choice, Effect, IsFront, IsServed, IsPossible, hub_step, stream_of, new_stream, is_open, may_serve, serve, serve_front, out_of_memory, broken_frame, served_with, no_effect, asks, replies_text, receive, serve_session, send, depart, IsReachedHub, Begun, Continued, with_stream, IsSessionStream, EndsStream, EndsItsStream, IsLawful, SameBytes, EndsOutput, own_bytes, cases_eq, cond_both, not-false, find, put}
+use Rattle.std.proofs.Common.{arith, ◌≡◌, ℕ, Bool, true, false, not, length, List, [], ◌∷◌, ◌++◌, take, drop, Option}
+use Rattle.std.proofs.Common.{Some, None, IsTrue, refl, sym, ap, subst, ◌∙◌, nat_cmp, nat_le, nat_lt, if◌then◌else◌}
+use Rattle.std.proofs.Common.{map, inl, inr, append_assoc}
+use Rattle.std.proofs.lemmas.Bool.{cases_eq, cond_both, not-false}
+use Rattle.std.proofs.lemmas.Grind.{common_steps}
+use Rattle.std.proofs.lemmas.List.{append-nil, take-append-drop, map-append}
+use Rattle.std.proofs.lemmas.List.Concat.{flat_map-append}
+use Rattle.std.proofs.lemmas.List.Elements.{recursion_from_All}
+use Rattle.std.specs.BTreeMap.{insert_entry, is_at}
+use Rattle.std.specs.FinMap.Entries.{find, put}
 use Rattle.std.specs.List.{AllByRecursion, flat_map}
-use Rattle.std.proofs.{lemmas.List.Concat.flat_map-append, lemmas.List.Elements.recursion_from_All}
-use Rattle.model.specs.{Machine.Leaves as LeavesIt, Laws.IsIsolated, PrivateCopy.copy_of, PrivateCopy.responses}
-use Rattle.model.proofs.{Elements.all-append, Lookups.some_same, Steps.running_of-with_running, Steps.running_of-leave}
+use Rattle.std.specs.Map.{lookup, remove_entry, set_value}
+use Rattle.model.proofs.Elements.{all-append}
+use Rattle.model.proofs.Lookups.{some_same}
+use Rattle.model.proofs.Steps.{running_of-with_running, running_of-leave}
+use Rattle.model.specs.Laws.{IsIsolated}
+use Rattle.model.specs.Machine.{State, Asks, IsReached, step, leave, Running, step_of, running_of, snapshot}
+use Rattle.model.specs.Machine.{Leaves as LeavesIt}
+use Rattle.model.specs.Map.{Bytes}
+use Rattle.model.specs.Operations.{Operation, Response, Begin, Commit, Abort, Done}
+use Rattle.model.specs.PrivateCopy.{copy_of, responses}
+use Rattle.model.specs.ReplyText.{reply_text}
 use Rattle.engine.proofs.Steps.{reached_next}
 use Rattle.sessions.proofs.RequestSteps.{is_open_there, nothing_pending}
+use Rattle.sessions.specs.Laws.{IsSessionStream, EndsStream, EndsItsStream, IsLawful, SameBytes, EndsOutput}
+use Rattle.sessions.specs.Laws.{own_bytes}
+use Rattle.sessions.specs.SessionStreams.{Outcome, bad_frame, is_above, HubState, SessionState, SessionStream}
+use Rattle.sessions.specs.SessionStreams.{HubEvent, Joins, Receives, Serves, Sends, Leaves, Front, Whole, More, Bad}
+use Rattle.sessions.specs.SessionStreams.{Choice, Effect, IsFront, IsServed, IsPossible, hub_step, stream_of}
+use Rattle.sessions.specs.SessionStreams.{new_stream, is_open, may_serve, serve, serve_front, out_of_memory}
+use Rattle.sessions.specs.SessionStreams.{broken_frame, served_with, no_effect, asks, replies_text, receive}
+use Rattle.sessions.specs.SessionStreams.{serve_session, send, depart, IsReachedHub, Begun, Continued, with_stream}
 
 -- ---- the machine of a hub
 
@@ -62,10 +87,18 @@ pub record AreStreams (h : HubState) : Type 0 where
   pub present : AllStreams h.present
   pub gone : AllStreams h.gone
 
-brought_more : (st : SessionStream) (piece : Bytes) → IsSessionStream st → IsSessionStream (record st { now = record { inbox = st.now.inbox ++ piece; pending = st.now.pending; status = st.now.status }; received = st.received ++ piece })
+brought_more : (st : SessionStream) (piece : Bytes) → IsSessionStream st
+    → IsSessionStream (record st {
+      now = record { inbox = st.now.inbox ++ piece; pending = st.now.pending; status = st.now.status };
+      received = st.received ++ piece;
+    })
 brought_more st piece h = grind (arith, common_steps)
 
-sent_some : (st : SessionStream) (n : ℕ) → IsSessionStream st → IsSessionStream (record st { now = record { inbox = st.now.inbox; pending = drop n st.now.pending; status = st.now.status }; sent = st.sent ++ take n st.now.pending })
+sent_some : (st : SessionStream) (n : ℕ) → IsSessionStream st
+    → IsSessionStream (record st {
+      now = record { inbox = st.now.inbox; pending = drop n st.now.pending; status = st.now.status };
+      sent = st.sent ++ take n st.now.pending;
+    })
 sent_some st n h = grind (arith, common_steps)
 
 abbrev pub after_effect : SessionStream → Effect → SessionStream
@@ -80,9 +113,11 @@ module _ (st : SessionStream) (h : IsSessionStream st) (c : Choice) (m : State) 
     all_sent = h.output ∙ ap (λ xs. st.sent ++ xs) (nothing_pending (is_open st.now.status) st.now.pending may) ∙ append-nil st.sent
 
     one_more : (r : Response) → flat_map reply_text (st.replies ++ r ∷ []) ≡ st.sent ++ reply_text r
-    one_more r = flat_map-append reply_text st.replies (r ∷ []) ∙ ap (λ ys. flat_map reply_text st.replies ++ ys) (append-nil (reply_text r)) ∙ ap (λ xs. xs ++ reply_text r) all_sent
+    one_more r = flat_map-append reply_text st.replies (r ∷ []) ∙ ap (λ ys. flat_map reply_text st.replies ++ ys) (append-nil (reply_text r))
+        ∙ ap (λ xs. xs ++ reply_text r) all_sent
 
-    whole : (parts : List Bytes) (used : ℕ) (answer : State × Response) → IsFront st.now.inbox (Whole parts used) → IsSessionStream (after_effect st (served_with answer st.now parts used))
+    whole : (parts : List Bytes) (used : ℕ) (answer : State × Response) → IsFront st.now.inbox (Whole parts used)
+        → IsSessionStream (after_effect st (served_with answer st.now parts used))
     whole parts used answer front =
         let own = h.inbox (is_open_there st.now may) in
         let read = front.1.1 in
@@ -94,7 +129,12 @@ module _ (st : SessionStream) (h : IsSessionStream st) (c : Choice) (m : State) 
         }
 
     starving : IsSessionStream (after_effect st (out_of_memory m s))
-    starving = record { rest = h.rest; input = grind (arith, common_steps, h.input); inbox = λ bad. absurd (cc); output = grind (arith, common_steps, all_sent) }
+    starving = record {
+      rest = h.rest;
+      input = grind (arith, common_steps, h.input);
+      inbox = λ bad. absurd (cc);
+      output = grind (arith, common_steps, all_sent);
+    }
 
     breaking : IsSessionStream (after_effect st (broken_frame m s))
     breaking = record { rest = h.rest; input = grind (arith, common_steps, h.input); inbox = λ bad. absurd (cc); output = one_more bad_frame }
@@ -113,7 +153,19 @@ module _ (st : SessionStream) (h : IsSessionStream st) (c : Choice) (m : State) 
 
 pub streams_step : (h : HubState) (e : HubEvent) (c : Choice) → IsPossible h e c → AreStreams h → AreStreams (hub_step h e c).0
 unfolding hub_step
-streams_step h e c possible a = grind (arith, common_steps, all-lookup, all-insert, all-set, all-remove, all-append (λ (x : ℕ × SessionStream). IsSessionStream x.1), brought_more, sent_some, serving)
+streams_step h e c possible a =
+    grind (
+      arith,
+      common_steps,
+      all-lookup,
+      all-insert,
+      all-set,
+      all-remove,
+      all-append (λ (x : ℕ × SessionStream). IsSessionStream x.1),
+      brought_more,
+      sent_some,
+      serving,
+    )
 
 pub are_streams : (h : HubState) → IsReachedHub h → AreStreams h
 are_streams h (Begun m r none) = record { present = tt; gone = tt }
@@ -125,7 +177,8 @@ are_streams h (Continued g e c possible r) = streams_step g e c possible (are_st
 pub data Ran (m : State) (s : ℕ) (q : Operation) (a : State × Response) : Type 0 where
   Kept : running_of m s ≡ None → a.0.running ≡ m.running → Ran m s q a
   Opened : (t : Running) → q ≡ Begin → a.1 ≡ Done → t.requests ≡ [] → t.replies ≡ [] → a.0.running ≡ put nat_cmp s t m.running → Ran m s q a
-  Owned : (t after : Running) → running_of m s ≡ Some t → after.requests ≡ t.requests ++ q ∷ [] → after.replies ≡ t.replies ++ a.1 ∷ [] → a.0.running ≡ put nat_cmp s after m.running → Ran m s q a
+  Owned : (t after : Running) → running_of m s ≡ Some t → after.requests ≡ t.requests ++ q ∷ [] → after.replies ≡ t.replies ++ a.1 ∷ []
+      → a.0.running ≡ put nat_cmp s after m.running → Ran m s q a
   Ended : a.0.running ≡ (leave m s).running → Ran m s q a
 
 pub ran : (m : State) (s : ℕ) (q : Operation) (f : Bool) → Ran m s q (step m s q f)
@@ -133,7 +186,8 @@ unfolding step
 ran m s q f = by (running_of m s) q refl
   where
     by : (o : Option Running) (q : Operation) → running_of m s ≡ o → Ran m s q (step_of o m s q f)
-    by None Begin e = by_if (Ran m s Begin) m.stopped _ _ (Kept e refl) (by_if (Ran m s Begin) (nat_lt (length m.running) 64) _ _ (Opened _ refl refl refl refl refl) (Kept e refl))
+    by None Begin e = by_if (Ran m s Begin) m.stopped _ _ (Kept e refl)
+        (by_if (Ran m s Begin) (nat_lt (length m.running) 64) _ _ (Opened _ refl refl refl refl refl) (Kept e refl))
     by None other e = Kept e refl
     by (Some t) Commit e = grind (arith, common_steps)
     by (Some t) Abort e = Ended refl
@@ -207,21 +261,27 @@ module _ (h : HubState) (invariant : Invariant h) (s : ℕ) (st : SessionStream)
   ended : (v : SessionStream) → Invariant (record (with_stream h s v) { machine = leave h.machine s })
   ended v = changed v (leave h.machine s) (λ q t apart e. (left-some h.machine s q t e).1) (λ t e. absurd ((left-some h.machine s s t e).0 refl))
 
-  stepped : (parts : List Bytes) (f : Bool) (v : SessionStream) → v.replies ≡ st.replies ++ (step h.machine s (asks parts) f).1 ∷ [] → v.served ≡ st.served ++ parts ∷ [] →
+  stepped : (parts : List Bytes) (f : Bool) (v : SessionStream) → v.replies ≡ st.replies ++ (step h.machine s (asks parts) f).1 ∷ []
+      → v.served ≡ st.served ++ parts ∷ [] →
       Invariant (record (with_stream h s v) { machine = (step h.machine s (asks parts) f).0 })
   stepped parts f v replies served = by (ran h.machine s (asks parts) f)
     where
       asked_all : map asks v.served ≡ map asks st.served ++ asks parts ∷ []
       asked_all = ap (map asks) served ∙ map-append asks st.served (parts ∷ [])
 
-      by : Ran h.machine s (asks parts) (step h.machine s (asks parts) f) → Invariant (record (with_stream h s v) { machine = (step h.machine s (asks parts) f).0 })
-      by (Kept none e) = changed v _ (λ q t apart k. sym (ap (find nat_cmp q) e) ∙ k) (λ t k. (let bad : None ≡ Some t = sym none ∙ sym (ap (find nat_cmp s) e) ∙ k in absurd (cc)))
-      by (Opened t0 begins answered no_requests no_replies e) = changed v _ (λ q t apart k. sym (put-apart h.machine s q t0 apart) ∙ sym (ap (find nat_cmp q) e) ∙ k) (λ t k.
+      by : Ran h.machine s (asks parts) (step h.machine s (asks parts) f)
+          → Invariant (record (with_stream h s v) { machine = (step h.machine s (asks parts) f).0 })
+      by (Kept none e) = changed v _ (λ q t apart k. sym (ap (find nat_cmp q) e)
+          ∙ k) (λ t k. (let bad : None ≡ Some t = sym none ∙ sym (ap (find nat_cmp s) e) ∙ k in absurd (cc)))
+      by (Opened t0 begins answered no_requests no_replies e) =
+          changed v _ (λ q t apart k. sym (put-apart h.machine s q t0 apart) ∙ sym (ap (find nat_cmp q) e) ∙ k) (λ t k.
           let same : t0 ≡ t = some_same (sym (put-same h.machine s t0) ∙ sym (ap (find nat_cmp s) e) ∙ k) in grind (arith, common_steps, asked_all))
-      by (Owned t0 t1 was requests_are replies_are e) = changed v _ (λ q t apart k. sym (put-apart h.machine s q t1 apart) ∙ sym (ap (find nat_cmp q) e) ∙ k) (λ t k.
+      by (Owned t0 t1 was requests_are replies_are e) =
+          changed v _ (λ q t apart k. sym (put-apart h.machine s q t1 apart) ∙ sym (ap (find nat_cmp q) e) ∙ k) (λ t k.
           let same : t1 ≡ t = some_same (sym (put-same h.machine s t1) ∙ sym (ap (find nat_cmp s) e) ∙ k) in
           let o = had t0 was in grind (arith, common_steps, asked_all))
-      by (Ended e) = changed v _ (λ q t apart k. (left-some h.machine s q t (sym (ap (find nat_cmp q) e) ∙ k)).1) (λ t k. absurd ((left-some h.machine s s t (sym (ap (find nat_cmp s) e) ∙ k)).0 refl))
+      by (Ended e) = changed v _ (λ q t apart k. (left-some h.machine s q t (sym (ap (find nat_cmp q) e) ∙ k)).1)
+          (λ t k. absurd ((left-some h.machine s s t (sym (ap (find nat_cmp s) e) ∙ k)).0 refl))
 
   served : (c : Choice) → Invariant (record (with_stream h s (after_effect st (serve c h.machine s st.now))) { machine = (serve c h.machine s st.now).machine })
   served c = grind (arith, common_steps, by_if, after_effect, same_session, ended, stepped)
@@ -229,7 +289,8 @@ module _ (h : HubState) (invariant : Invariant h) (s : ℕ) (st : SessionStream)
   parted : Invariant (record { machine = leave h.machine s; present = remove_entry (test s) h.present; gone = h.gone ++ (s, st) ∷ []; latest = h.latest })
   parted = grind (arith, common_steps, known_too, left-some, remove-apart)
 
-joined_too : (h : HubState) → Invariant h → (s : ℕ) → is_above s h.latest ≡ true → Invariant (record h { present = insert_entry nat_cmp h.present s new_stream; latest = Some s })
+joined_too : (h : HubState) → Invariant h → (s : ℕ) → is_above s h.latest ≡ true
+    → Invariant (record h { present = insert_entry nat_cmp h.present s new_stream; latest = Some s })
 joined_too h invariant s above = grind (arith, common_steps, cases_eq, insert-apart)
 
 pub invariant_step : (h : HubState) (e : HubEvent) (c : Choice) → Invariant h → Invariant (hub_step h e c).0
@@ -237,13 +298,15 @@ unfolding hub_step
 invariant_step h (Joins s) c invariant =
     let P : HubState × Outcome → Type 0 = λ r. Invariant r.0 in
     let joined = λ (above : not (is_above s h.latest) ≡ false). joined_too h invariant s (not-false (is_above s h.latest) above) in
-    cond_both (not (is_above s h.latest)) _ _ P (λ _. invariant) (λ above. by_if P (nat_le 128 (length h.present)) _ _ invariant (by_if P c.refused _ _ invariant (joined above)))
+    cond_both (not (is_above s h.latest)) _ _ P (λ _. invariant)
+    (λ above. by_if P (nat_le 128 (length h.present)) _ _ invariant (by_if P c.refused _ _ invariant (joined above)))
 invariant_step h (Receives s piece) c invariant = brought (stream_of h s) refl
   where
     brought : (o : Option SessionStream) → stream_of h s ≡ o → Invariant (receive o h s piece).0
     brought o is = grind (arith, common_steps, by_if, nat_lt, same_session)
 invariant_step h (Serves s) c invariant =
-    elim (stream_of h s) as (λ o. stream_of h s ≡ o → Invariant (serve_session o h s c).0) [ None ↦ λ e. invariant | Some st ↦ λ e. served h invariant s st e c ] refl
+    elim (stream_of h s) as (λ o. stream_of h s ≡ o
+    → Invariant (serve_session o h s c).0) [ None ↦ λ e. invariant | Some st ↦ λ e. served h invariant s st e c ] refl
 invariant_step h (Sends s n) c invariant = sent (stream_of h s) refl
   where
     sent : (o : Option SessionStream) → stream_of h s ≡ o → Invariant (send o h s n).0
@@ -277,7 +340,8 @@ ends_output h s t law e =
 pub same_bytes : SameBytes
 same_bytes h k s r t u a b e f alike requests =
     let same : t.replies ≡ u.replies =
-    private_replies h.machine s t a.isolated e ∙ ap (λ c. responses (copy_of c) t.requests) alike ∙ ap (λ qs. responses (copy_of (snapshot k.machine u)) qs) requests ∙ sym (private_replies k.machine r u b.isolated f) in
+    private_replies h.machine s t a.isolated e ∙ ap (λ c. responses (copy_of c) t.requests) alike
+    ∙ ap (λ qs. responses (copy_of (snapshot k.machine u)) qs) requests ∙ sym (private_replies k.machine r u b.isolated f) in
     record {
       replies = same;
       first = ends_output h s t a e;

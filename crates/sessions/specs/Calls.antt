@@ -1,14 +1,24 @@
 -- What the parts of a Serve do to an engine and an output.
 use Rattle.std.specs.Prelude.{◌≡◌, ℕ, Bool, List, [], drop, Option, Some, None, Result, Ok, Err, true, false, IsTrue}
-use Rattle.sector.specs.declared.device.Sectors.{Ghosts}
-use Rattle.model.specs.{declared.refusals.Memory.Memory, declared.ranges.RangeRef.RangeRef, KeyBytes.key_bytes, KeyBytes.end_bytes, Leading.LeadsBy, Map.Bytes}
-use Rattle.model.specs.{Operations.Operation, Operations.Response, Operations.Done, Operations.Operation.Range, Machine.State, Machine.step, Machine.leave}
+use Rattle.model.specs.KeyBytes.{key_bytes, end_bytes}
+use Rattle.model.specs.Leading.{LeadsBy}
+use Rattle.model.specs.Machine.{State, step, leave}
+use Rattle.model.specs.Map.{Bytes}
+use Rattle.model.specs.Operations.{Operation, Response, Done}
+use Rattle.model.specs.Operations.Operation.{Range}
 use Rattle.model.specs.ReplyText.{reply_text}
-use Rattle.engine.specs.{declared.engine.Engine.Engine, Meaning.StandsFor, Meaning.IsNotRefused, Meaning.response_to_read, declared.faults.ReadFault.ReadFault}
+use Rattle.model.specs.declared.ranges.RangeRef.{RangeRef}
+use Rattle.model.specs.declared.refusals.Memory.{Memory}
+use Rattle.sector.specs.declared.device.Sectors.{Ghosts}
+use Rattle.engine.specs.Meaning.{StandsFor, IsNotRefused, response_to_read}
 pub use Rattle.engine.specs.Meaning.{has_failed}
-use Rattle.sessions.specs.{declared.buffer.Buffer.Buffer, declared.requests.Served.Served}
+use Rattle.engine.specs.declared.engine.Engine.{Engine}
+use Rattle.engine.specs.declared.faults.ReadFault.{ReadFault}
+use Rattle.sessions.specs.SessionStreams.{Memory as OfMemory, Outcome, SessionState, Front, Whole, More, Bad, IsFront}
+use Rattle.sessions.specs.SessionStreams.{Choice, IsServed, asks, takes_memory, bad_frame, serve, may_serve}
+use Rattle.sessions.specs.declared.buffer.Buffer.{Buffer}
+use Rattle.sessions.specs.declared.requests.Served.{Served}
 use Rattle.sessions.specs.declared.requests.Served.TheVariants.{Answered, Incomplete, Broken, Refused}
-use Rattle.sessions.specs.SessionStreams.{Memory as OfMemory, Outcome, SessionState, Front, Whole, More, Bad, IsFront, Choice, IsServed, asks, takes_memory, bad_frame, serve, may_serve}
 
 -- the bytes that were not given out yet
 abbrev pub rest : Buffer → Bytes
@@ -33,33 +43,39 @@ refusal_to_read fault = response_to_read (λ (u : Unit {0}). Done) (Err fault)
 abbrev pub LeavesSame : {D : Type 0} {g : Ghosts D} → Engine D g → Engine D g → ℕ → Type 0
 LeavesSame old new s = LeadsBy StandsFor old new (λ m left. leave left s ≡ leave m s)
 
--- the request was executed and its response written to an empty output; where memory was refused, though the request isn't, nothing
--- was written, and the transaction is still to be aborted
-abbrev pub Executes : {D : Type 0} {g : Ghosts D} → Engine D g → Engine D g → ℕ → Operation → Bool → Bytes → Result (Unit {0}) Memory → Type 0
+-- the request was executed and its response written to an empty output; where memory was refused, though the request
+-- isn't, nothing was written, and the transaction is still to be aborted
+abbrev pub Executes : {D : Type 0} {g : Ghosts D} → Engine D g → Engine D g → ℕ → Operation → Bool → Bytes
+    → Result (Unit {0}) Memory → Type 0
 Executes old new s q failed after (Ok done) =
     (m : State) → StandsFor old m → StandsFor new (step m s q failed).0 × (after ≡ reply_text (step m s q failed).1)
-Executes old new s q failed after (Err refused) = IsTrue (takes_memory q) × LeavesSame old new s × (after ≡ []) × IsNotRefused old s q
+Executes old new s q failed after (Err refused) =
+    IsTrue (takes_memory q) × LeavesSame old new s × (after ≡ []) × IsNotRefused old s q
 
 -- the session's transaction is aborted, if it has one
 abbrev pub Aborts : {D : Type 0} {g : Ghosts D} → Engine D g → Engine D g → ℕ → Type 0
 Aborts old new s = (m : State) → StandsFor old m → StandsFor new (leave m s)
 
 -- what was found at the front of an inbox and answered into an empty output
-abbrev pub ServesFront : {D : Type 0} {g : Ghosts D} → Engine D g → Engine D g → ℕ → Bool → Bytes → Bytes → Served → Type 0
+abbrev pub ServesFront : {D : Type 0} {g : Ghosts D} → Engine D g → Engine D g → ℕ → Bool → Bytes → Bytes → Served
+    → Type 0
 ServesFront old new s failed inbox after (Answered used) =
     (parts : List Bytes) × IsFront inbox (Whole parts used)
-    × ((m : State) → StandsFor old m → StandsFor new (step m s (asks parts) failed).0 × (after ≡ reply_text (step m s (asks parts) failed).1))
+    × ((m : State) → StandsFor old m
+    → StandsFor new (step m s (asks parts) failed).0 × (after ≡ reply_text (step m s (asks parts) failed).1))
 ServesFront old new s failed inbox after Incomplete = IsFront inbox More × (new ≡ old) × (after ≡ [])
 ServesFront old new s failed inbox after Broken = IsFront inbox Bad × Aborts old new s × (after ≡ reply_text bad_frame)
 ServesFront old new s failed inbox after Refused =
-    (parts : List Bytes) × (used : ℕ) × IsFront inbox (Whole parts used) × IsTrue (takes_memory (asks parts)) × Aborts old new s × (after ≡ []) × IsNotRefused old s (asks parts)
+    (parts : List Bytes) × (used : ℕ) × IsFront inbox (Whole parts used) × IsTrue (takes_memory (asks parts))
+    × Aborts old new s × (after ≡ []) × IsNotRefused old s (asks parts)
 
 abbrev pub is_memory : Outcome → Bool
 is_memory OfMemory = true
 is_memory other = false
 
 -- the choice may be made, and this is the effect of a Serve by it
-pub record HasEffect {D : Type 0} {g : Ghosts D} (old new : Engine D g) (s : ℕ) (c : Choice) (m : State) (before after : SessionState) (outcome : Outcome) : Type 0 where
+pub record HasEffect {D : Type 0} {g : Ghosts D} (old new : Engine D g) (s : ℕ) (c : Choice) (m : State)
+    (before after : SessionState) (outcome : Outcome) : Type 0 where
   pub possible : IsTrue (may_serve before) → IsServed m s before.inbox c
   pub engine : StandsFor new (serve c m s before).machine
   pub session : after ≡ (serve c m s before).now
@@ -70,9 +86,11 @@ abbrev pub chosen : Front → Outcome → Bool → Choice
 chosen front outcome failed = record { front = front; refused = is_memory outcome; failed = failed }
 
 -- one Serve of a session: what the grammar finds is one front for all states
-abbrev pub ServesSession : {D : Type 0} {g : Ghosts D} → Engine D g → Engine D g → ℕ → SessionState → SessionState → Outcome → Type 0
+abbrev pub ServesSession : {D : Type 0} {g : Ghosts D} → Engine D g → Engine D g → ℕ → SessionState → SessionState
+    → Outcome → Type 0
 ServesSession old new s before after outcome =
-    (front : Front) × ((m : State) → StandsFor old m → HasEffect old new s (chosen front outcome (has_failed old new)) m before after outcome)
+    (front : Front) × ((m : State) → StandsFor old m
+    → HasEffect old new s (chosen front outcome (has_failed old new)) m before after outcome)
 
 -- what a RANGE with this limit asks
 abbrev pub range_of : RangeRef → ℕ → Operation

@@ -1,11 +1,18 @@
 -- What a crash at an event leaves on the device.
+use Rattle.std.specs.BTreeMap.{is_at}
+use Rattle.std.specs.Map.{lookup}
+use Rattle.std.specs.Ordering.{nat_cmp}
 use Rattle.std.specs.Prelude.{◌≡◌, ◌⊎◌, ℕ, false, true, List, Some}
-use Rattle.std.specs.{Map.lookup, BTreeMap.is_at, Ordering.nat_cmp}
+use Rattle.model.specs.Machine.{step}
+use Rattle.model.specs.Map.{Bytes}
+use Rattle.model.specs.Operations.{Operation, Commit}
 use Rattle.sector.specs.SectorModel.{LeavesOnly}
-use Rattle.model.specs.{Map.Bytes, Operations.Operation, Operations.Commit, Machine.step}
-use Rattle.engine.specs.{declared.engine.Engine.Engine, Meaning.device_of, Recovery.HoldsMap, Recovery.LeavesCommitted, Recovery.committed_map}
+use Rattle.engine.specs.Meaning.{device_of}
 pub use Rattle.engine.specs.Meaning.{SurvivesCommit}
-use Rattle.sessions.specs.SessionStreams.{HubState, HubEvent, Serves, SessionState, SessionStream, Whole, IsFront, asks, may_serve, stream_of}
+use Rattle.engine.specs.Recovery.{HoldsMap, LeavesCommitted, committed_map}
+use Rattle.engine.specs.declared.engine.Engine.{Engine}
+use Rattle.sessions.specs.SessionStreams.{HubState, HubEvent, Serves, SessionState, SessionStream, Whole, IsFront}
+use Rattle.sessions.specs.SessionStreams.{asks, may_serve, stream_of}
 use Rattle.sessions.specs.StandsFor.{Ghosts, Hub, StandsFor, device}
 
 -- the device is as it was, or the request is a COMMIT
@@ -33,7 +40,8 @@ SurvivesServe old new s n = (device_of new ≡ device_of old) ⊎ (ServesCommit 
 abbrev pub SurvivesEvent : {D : Type 0} {g : Ghosts D} → Hub D g → Hub D g → HubEvent → Type 0
 SurvivesEvent old new e =
     (device new ≡ device old)
-    ⊎ ((s : ℕ) × (n : SessionState) × (e ≡ Serves s) × (lookup (is_at (nat_cmp s)) old.sessions ≡ Some n) × ServesCommit n × SurvivesCommit old.engine new.engine s)
+    ⊎ ((s : ℕ) × (n : SessionState) × (e ≡ Serves s) × (lookup (is_at (nat_cmp s)) old.sessions ≡ Some n)
+    × ServesCommit n × SurvivesCommit old.engine new.engine s)
 
 -- the event executes a COMMIT of this session
 pub record Commits (h : HubState) (e : HubEvent) (s : ℕ) : Type 0 where
@@ -42,19 +50,25 @@ pub record Commits (h : HubState) (e : HubEvent) (s : ℕ) : Type 0 where
   pub present : stream_of h s ≡ Some stream
   pub serves : ServesCommit stream.now
 
--- the image holds the map committed before the event or, where this executes a COMMIT, that with the transaction's writes
+-- the image holds the map committed before the event or, where this executes a COMMIT, that with the transaction's
+-- writes
 abbrev pub HoldsBeforeOrAfter : HubState → HubEvent → List (List ℕ) → Type 0
-HoldsBeforeOrAfter h e c = HoldsMap c (committed_map h.machine) ⊎ ((s : ℕ) × Commits h e s × HoldsMap c (committed_map (step h.machine s Commit false).0))
+HoldsBeforeOrAfter h e c =
+    HoldsMap c (committed_map h.machine)
+    ⊎ ((s : ℕ) × Commits h e s × HoldsMap c (committed_map (step h.machine s Commit false).0))
 
--- what a crash may leave at a moment of the event: such an image; of a store that was stopped, what it could have left before
+-- what a crash may leave at a moment of the event: such an image; of a store that was stopped, what it could have left
+-- before
 abbrev pub IsLeftByEvent : {D : Type 0} {g : Ghosts D} → Hub D g → HubState → HubEvent → List (List ℕ) → Type 0
-IsLeftByEvent {D} {g} old h e c = ((h.machine.stopped ≡ false) × HoldsBeforeOrAfter h e c) ⊎ ((h.machine.stopped ≡ true) × g.may_leave (device old) c)
+IsLeftByEvent {D} {g} old h e c =
+    ((h.machine.stopped ≡ false) × HoldsBeforeOrAfter h e c) ⊎ ((h.machine.stopped ≡ true) × g.may_leave (device old) c)
 
 -- a crash at any moment of the event leaves only that
 abbrev pub AppliesWhole : {D : Type 0} {g : Ghosts D} → Hub D g → Hub D g → HubEvent → Type 0
-AppliesWhole {D} {g} old new e = (h : HubState) → StandsFor old h → LeavesOnly g.moment g.left_since (device old) (device new) (IsLeftByEvent old h e)
+AppliesWhole {D} {g} old new e = (h : HubState) → StandsFor old h
+    → LeavesOnly g.moment g.left_since (device old) (device new) (IsLeftByEvent old h e)
 
--- a crash now leaves the map that is committed; once the store is stopped, that or the one with the writes of the COMMIT that was
--- answered a store fault
+-- a crash now leaves the map that is committed; once the store is stopped, that or the one with the writes of the
+-- COMMIT that was answered a store fault
 abbrev pub KeepsCommitted : {D : Type 0} {g : Ghosts D} → Hub D g → Type 0
 KeepsCommitted {D} {g} hub = (h : HubState) → StandsFor hub h → LeavesCommitted h.machine (g.may_leave (device hub))

@@ -1,12 +1,20 @@
 -- The lives of a store, one after another: each is opened over what the end of the one before left.
-use Rattle.std.specs.Prelude.{◌≡◌, ◌⊎◌, ◌<◌, ℕ, List, [], ◌∷◌, ◌++◌, length, Result, Ok, MatchResult, IfErr, IsErrAnd, ⊤}
+use Rattle.std.specs.Prelude.{◌≡◌, ◌⊎◌, ◌<◌, ℕ, List, [], ◌∷◌, ◌++◌, length, Result, Ok, MatchResult, IfErr, IsErrAnd}
+use Rattle.std.specs.Prelude.{⊤}
+use Rattle.model.specs.Machine.{opened}
+use Rattle.model.specs.Map.{KeyMap}
 use Rattle.sector.specs.SectorModel.{IsSettled, LeavesOnly}
-use Rattle.model.specs.{Map.KeyMap, Machine.opened}
-use Rattle.commit_log.specs.{declared.faults.LogFault.TheVariants.NotALog, declared.faults.LogFault.TheVariants.Device, declared.faults.Unopened.Unopened}
-use Rattle.commit_log.specs.{Format.current, LogFaults.IsDeviceOrMemory, LogFaults.IsOpenFault, LogImage.IsLogImage, Reading.ReadsAs, Reading.TellsFailure}
+use Rattle.commit_log.specs.Format.{current}
+use Rattle.commit_log.specs.LogFaults.{IsDeviceOrMemory, IsOpenFault}
+use Rattle.commit_log.specs.LogImage.{IsLogImage}
 use Rattle.commit_log.specs.OpenedLog.{FindsDamage, FindsNoLog, FindsOldHead}
+use Rattle.commit_log.specs.Reading.{ReadsAs, TellsFailure}
+use Rattle.commit_log.specs.declared.faults.LogFault.TheVariants.{NotALog, Device}
+use Rattle.commit_log.specs.declared.faults.Unopened.{Unopened}
 use Rattle.engine.specs.Recovery.{HoldsMap}
-use Rattle.sessions.specs.{Laws.Ran, Life.Holds, Life.MayFind, SessionStreams.HubEvent, SessionStreams.Choice, SessionStreams.hub_over}
+use Rattle.sessions.specs.Laws.{Ran}
+use Rattle.sessions.specs.Life.{Holds, MayFind}
+use Rattle.sessions.specs.SessionStreams.{HubEvent, Choice, hub_over}
 use Rattle.sessions.specs.StandsFor.{Ghosts, Hub, StandsFor, device, device_after}
 
 -- the hub begins with this map
@@ -18,13 +26,15 @@ pub record Begins {D : Type 0} {g : Ghosts D} (dev : D) (hub : Hub D g) (map : K
 abbrev pub EndsWith : {D : Type 0} {g : Ghosts D} → D → Result (Hub D g) (Unopened D) → KeyMap → Type 0
 EndsWith dev result map = MatchResult result (λ hub. Begins dev hub map) (λ u. IsDeviceOrMemory u.fault)
 
--- What an opening does, be it one that fails: a crash at any moment of it leaves what one before it could have left. Where reads give the
--- image of a map, it ends with that map.
+-- What an opening does, be it one that fails: a crash at any moment of it leaves what one before it could have left.
+-- Where reads give the image of a map, it ends with that map.
 pub record Opens {D : Type 0} {g : Ghosts D} (dev : D) (result : Result (Hub D g) (Unopened D)) : Type 0 where
   pub during : LeavesOnly g.moment g.left_since dev (device_after result) (g.may_leave dev)
-  pub ends : (image : List (List ℕ)) (map : KeyMap) → length image ≡ g.size dev → ReadsAs (g.may_read dev) image → HoldsMap image map → EndsWith dev result map
+  pub ends : (image : List (List ℕ)) (map : KeyMap) → length image ≡ g.size dev → ReadsAs (g.may_read dev) image
+      → HoldsMap image map → EndsWith dev result map
 
--- An opening tells why it gives no hub: `Device` exactly where a call failed; and what is too short, damaged, no log or has an old head as that.
+-- An opening tells why it gives no hub: `Device` exactly where a call failed; and what is too short, damaged, no log or
+-- has an old head as that.
 pub record TellsWhy {D : Type 0} {g : Ghosts D} (dev : D) (result : Result (Hub D g) (Unopened D)) : Type 0 where
   pub faults : IfErr result (λ u. IsOpenFault u.fault)
   pub cause : IfErr result (λ u. TellsFailure (g.failures dev) (g.failures u.device) u.fault)
@@ -50,10 +60,12 @@ pub record Served {D : Type 0} {g : Ghosts D} (hub : Hub D g) : Type 0 where
 abbrev pub IsServed : {D : Type 0} {g : Ghosts D} → Hub D g → Type 0
 IsServed hub = ∥ Served hub ∥₁
 
--- how the life of a process ended: at a moment of the opening, or at one after `answered`, up to `last`, of a run of its hub
+-- how the life of a process ended: at a moment of the opening, or at one after `answered`, up to `last`, of a run of
+-- its hub
 pub data EndOfLife {D : Type 0} {g : Ghosts D} (dev : D) (result : Result (Hub D g) (Unopened D)) : Type 0 where
   InOpening : EndOfLife dev result
-  InRun : (hub answered last : Hub D g) (es fs : List (HubEvent × Choice)) → result ≡ Ok hub → Ran hub answered es → Ran answered last fs → EndOfLife dev result
+  InRun : (hub answered last : Hub D g) (es fs : List (HubEvent × Choice)) → result ≡ Ok hub → Ran hub answered es
+      → Ran answered last fs → EndOfLife dev result
 
 -- one life of a store: an opening over a device, with its result, and how it ended
 pub record Life (D : Type 0) (g : Ghosts D) : Type 0 where
@@ -63,19 +75,23 @@ pub record Life (D : Type 0) (g : Ghosts D) : Type 0 where
   pub ending : EndOfLife dev result
 
 -- the images that a crash may leave there
-abbrev pub IsLeftAt : {D : Type 0} {g : Ghosts D} {dev : D} {result : Result (Hub D g) (Unopened D)} → EndOfLife dev result → List (List ℕ) → Type 0
+abbrev pub IsLeftAt : {D : Type 0} {g : Ghosts D} {dev : D} {result : Result (Hub D g) (Unopened D)}
+    → EndOfLife dev result → List (List ℕ) → Type 0
 IsLeftAt {D} {g} {dev} {result} InOpening c = g.left_since (device_after result) (g.moment dev) c
-IsLeftAt {D} {g} (InRun hub answered last es fs is ran more) c = g.left_since (device last) (g.moment (device answered)) c
+IsLeftAt {D} {g} (InRun hub answered last es fs is ran more) c =
+    g.left_since (device last) (g.moment (device answered)) c
 
--- the maps that it may leave there: those of before the opening; or, of a run that began with this map, those that it may leave once all up to `answered` was answered
-abbrev pub MapAt : {D : Type 0} {g : Ghosts D} {dev : D} {result : Result (Hub D g) (Unopened D)} → (KeyMap → Type 0) → KeyMap → EndOfLife dev result → KeyMap → Type 0
+-- the maps that it may leave there: those of before the opening; or, of a run that began with this map, those that it
+-- may leave once all up to `answered` was answered
+abbrev pub MapAt : {D : Type 0} {g : Ghosts D} {dev : D} {result : Result (Hub D g) (Unopened D)} → (KeyMap → Type 0)
+    → KeyMap → EndOfLife dev result → KeyMap → Type 0
 MapAt Maps map InOpening next = Maps next
 MapAt {D} {g} {dev} Maps map (InRun hub answered last es fs is ran more) next =
     (begins : Begins dev hub map) × MayFind (hub_over (opened map begins.used (g.size dev))) (es ++ fs) (length es) next
 
--- A device over what was left: reads give one of the images that could be left, and a crash leaves none but such. So it is after the power
--- was cut, where one image is left, and after the process alone was killed, where reads give what was written and a later cut may still
--- leave less.
+-- A device over what was left: reads give one of the images that could be left, and a crash leaves none but such. So it
+-- is after the power was cut, where one image is left, and after the process alone was killed, where reads give what
+-- was written and a later cut may still leave less.
 pub record Reopens {D : Type 0} (g : Ghosts D) (Left : List (List ℕ) → Type 0) (dev : D) : Type 0 where
   pub image : List (List ℕ)
   pub was_left : Left image
@@ -86,7 +102,8 @@ pub record Reopens {D : Type 0} (g : Ghosts D) (Left : List (List ℕ) → Type 
 -- an image that a power cut left is such
 abbrev pub CutsReopen : {D : Type 0} {g : Ghosts D} → Hub D g → Type 0
 CutsReopen {D} {g} hub =
-    (life : Life D g) (dev : D) (disk : List (List ℕ)) → IsLeftAt life.ending disk → IsSettled (g.size dev) (g.may_read dev) (g.may_leave dev) disk → Reopens g (IsLeftAt life.ending) dev
+    (life : Life D g) (dev : D) (disk : List (List ℕ)) → IsLeftAt life.ending disk
+    → IsSettled (g.size dev) (g.may_read dev) (g.may_leave dev) disk → Reopens g (IsLeftAt life.ending) dev
 
 -- each life is over what the one before left, the first one over this
 abbrev pub FollowOn : {D : Type 0} {g : Ghosts D} → (List (List ℕ) → Type 0) → List (Life D g) → Type 0
@@ -94,17 +111,21 @@ FollowOn Left [] = ⊤
 FollowOn {g = g} Left (life ∷ lives) = Reopens g Left life.dev × FollowOn (IsLeftAt life.ending) lives
 
 -- the images that the end of the last of the lives may leave; before any life, these
-abbrev pub IsLeftLast : {D : Type 0} {g : Ghosts D} → (List (List ℕ) → Type 0) → List (Life D g) → List (List ℕ) → Type 0
+abbrev pub IsLeftLast : {D : Type 0} {g : Ghosts D} → (List (List ℕ) → Type 0) → List (Life D g) → List (List ℕ)
+    → Type 0
 IsLeftLast Left [] c = Left c
 IsLeftLast {g = g} Left (life ∷ lives) c = IsLeftLast (IsLeftAt life.ending) lives c
 
--- A life that began with a map of these. Its opening ends with that map, and each image that its end may leave holds one that it may leave.
+-- A life that began with a map of these. Its opening ends with that map, and each image that its end may leave holds
+-- one that it may leave.
 pub record Lived {D : Type 0} {g : Ghosts D} (Maps : KeyMap → Type 0) (life : Life D g) (map : KeyMap) : Type 0 where
   pub was : Maps map
   pub opening : EndsWith life.dev life.result map
-  pub leaves : (c : List (List ℕ)) → IsLeftAt life.ending c → (next : KeyMap) × MapAt Maps map life.ending next × HoldsMap c next
+  pub leaves : (c : List (List ℕ)) → IsLeftAt life.ending c
+      → (next : KeyMap) × MapAt Maps map life.ending next × HoldsMap c next
 
--- each life begins with a map that the one before may have left, the first one with one of these; so none is found damaged
+-- each life begins with a map that the one before may have left, the first one with one of these; so none is found
+-- damaged
 abbrev pub LoseNothing : {D : Type 0} {g : Ghosts D} → (KeyMap → Type 0) → List (Life D g) → Type 0
 LoseNothing Maps [] = ⊤
 LoseNothing Maps (life ∷ lives) = (map : KeyMap) × Lived Maps life map × LoseNothing (MapAt Maps map life.ending) lives
@@ -112,16 +133,20 @@ LoseNothing Maps (life ∷ lives) = (map : KeyMap) × Lived Maps life map × Los
 -- of any number of lives, from the image of any map
 abbrev pub LivesLoseNothing : {D : Type 0} {g : Ghosts D} → Hub D g → Type 0
 LivesLoseNothing {D} {g} hub =
-    (disk : List (List ℕ)) (map : KeyMap) (lives : List (Life D g)) → HoldsMap disk map → FollowOn (λ c. c ≡ disk) lives → LoseNothing (λ m. m ≡ map) lives
+    (disk : List (List ℕ)) (map : KeyMap) (lives : List (Life D g)) → HoldsMap disk map → FollowOn (λ c. c ≡ disk) lives
+    → LoseNothing (λ m. m ≡ map) lives
 
 -- and so from an empty log
 abbrev pub LivesFromNothing : {D : Type 0} {g : Ghosts D} → Hub D g → Type 0
-LivesFromNothing {D} {g} hub = (disk : List (List ℕ)) (lives : List (Life D g)) → IsLogImage current [] disk → FollowOn (λ c. c ≡ disk) lives → LoseNothing (λ m. m ≡ []) lives
+LivesFromNothing {D} {g} hub = (disk : List (List ℕ)) (lives : List (Life D g)) → IsLogImage current [] disk
+    → FollowOn (λ c. c ≡ disk) lives → LoseNothing (λ m. m ≡ []) lives
 
--- What a process has answered, it keeps: after each of its events a hub stands that it has come to, and a crash at any moment since leaves no
--- map that is older than the one committed there.
+-- What a process has answered, it keeps: after each of its events a hub stands that it has come to, and a crash at any
+-- moment since leaves no map that is older than the one committed there.
 abbrev pub KeepsAnswered : {D : Type 0} {g : Ghosts D} → Hub D g → Type 0
 KeepsAnswered {D} {g} hub =
-    g.keeps_model → (served : Served hub) (es fs : List (HubEvent × Choice)) → served.choices ≡ es ++ fs → (answered : Hub D g) × Ran served.first answered es × Ran answered hub fs
+    g.keeps_model → (served : Served hub) (es fs : List (HubEvent × Choice)) → served.choices ≡ es ++ fs
+    → (answered : Hub D g) × Ran served.first answered es × Ran answered hub fs
     × ((c : List (List ℕ)) → g.left_since (device hub) (g.moment (device answered)) c
-    → Holds (hub_over (opened served.start.map served.start.begins.used (g.size served.start.dev))) (es ++ fs) (length es) c)
+    → Holds (hub_over (opened served.start.map served.start.begins.used (g.size served.start.dev))) (es
+    ++ fs) (length es) c)

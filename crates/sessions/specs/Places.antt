@@ -1,8 +1,13 @@
 -- Where a session stands among the sessions that are present, or would stand, and what they end as where one is lent.
-use Rattle.std.specs.Prelude.{◌≡◌, ℕ, ◌<◌, ◌≤◌, List, length, Option, Some, None, slice_index_or, slice_set, insert, remove}
-use Rattle.std.specs.{Map.lookup, Map.set_value, Map.remove_entry, BTreeMap.insert_entry, BTreeMap.is_at, Ordering.nat_cmp}
+use Rattle.std.specs.BTreeMap.{insert_entry, is_at}
 use Rattle.std.specs.Borrow.{Lends, LendsIf, Fml, MutBor}
-use Rattle.sessions.specs.{SessionStreams.SessionState, contracts.session.Session.the_row as session_row, contracts.present.Present.the_row as present_row}
+use Rattle.std.specs.Map.{lookup, set_value, remove_entry}
+use Rattle.std.specs.Ordering.{nat_cmp}
+use Rattle.std.specs.Prelude.{◌≡◌, ℕ, ◌<◌, ◌≤◌, List, length, Option, Some, None, slice_index_or, slice_set, insert}
+use Rattle.std.specs.Prelude.{remove}
+use Rattle.sessions.specs.SessionStreams.{SessionState}
+use Rattle.sessions.specs.contracts.present.Present.{the_row as present_row}
+use Rattle.sessions.specs.contracts.session.Session.{the_row as session_row}
 
 module _ {X : Type 0} (rows : List (ℕ × X)) (s i : ℕ) where
   -- it stands at place i

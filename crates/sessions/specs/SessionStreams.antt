@@ -1,15 +1,25 @@
 -- The byte streams of sessions over the machine, and what each event does to them.
-use Rattle.std.specs.Prelude.{◌≡◌, ℕ, ◌-◌, ◌≤◌, Bool, true, false, not, nat_le, nat_lt, ◌==◌, if◌then◌else◌, List, [], ◌∷◌, ◌++◌, length, take, drop, Option, Some, None, Result, Ok, Err, IsTrue, IsFalse, ⊤, flat_map}
-use Rattle.std.specs.{Ordering.nat_cmp, Map.lookup, Map.remove_entry, Map.set_value, BTreeMap.insert_entry, BTreeMap.is_at}
-use Rattle.model.specs.{Bounds.inbox_max, declared.refusals.Refusal.Refusal, declared.refusals.Refusal.TheVariants.BadFrame, CommandTable.command_in, Map.Bytes}
-use Rattle.model.specs.{Grammar.Spells, Grammar.IsProperBeginning, Grammar.array_of_bulks, ReplyText.reply_text}
+use Rattle.std.specs.BTreeMap.{insert_entry, is_at}
+use Rattle.std.specs.Map.{lookup, remove_entry, set_value}
+use Rattle.std.specs.Ordering.{nat_cmp}
+use Rattle.std.specs.Prelude.{◌≡◌, ℕ, ◌-◌, ◌≤◌, Bool, true, false, not, nat_le, nat_lt, ◌==◌, if◌then◌else◌, List, []}
+use Rattle.std.specs.Prelude.{◌∷◌, ◌++◌, length, take, drop, Option, Some, None, Result, Ok, Err, IsTrue, IsFalse, ⊤}
+use Rattle.std.specs.Prelude.{flat_map}
+use Rattle.model.specs.Bounds.{inbox_max}
+use Rattle.model.specs.CommandTable.{command_in}
+use Rattle.model.specs.Grammar.{Spells, IsProperBeginning, array_of_bulks}
 use Rattle.model.specs.Machine.{State, step, leave, IsReached}
+use Rattle.model.specs.Map.{Bytes}
 use Rattle.model.specs.Operations.{Operation, Response, Abort, Ping, Faulty, Refused as RefusedFor}
+use Rattle.model.specs.ReplyText.{reply_text}
+use Rattle.model.specs.declared.refusals.Refusal.{Refusal}
+use Rattle.model.specs.declared.refusals.Refusal.TheVariants.{BadFrame}
 use Rattle.snapshot.specs.Made.{is_refused}
+pub use Rattle.sessions.specs.declared.events.Outcome.{Outcome}
+pub use Rattle.sessions.specs.declared.events.Outcome.TheVariants.{Done, Unknown, Crowded, Idle, NoRoom, BadCount}
+pub use Rattle.sessions.specs.declared.events.Outcome.TheVariants.{Memory}
 pub use Rattle.sessions.specs.declared.events.Status.{Status}
 pub use Rattle.sessions.specs.declared.events.Status.TheVariants.{Open, Ending, Refused}
-pub use Rattle.sessions.specs.declared.events.Outcome.{Outcome}
-pub use Rattle.sessions.specs.declared.events.Outcome.TheVariants.{Done, Unknown, Crowded, Idle, NoRoom, BadCount, Memory}
 
 -- what a session has at hand: the bytes that came in and were not read yet, those that are to be sent, and its status
 pub record SessionState : Type 0 where
@@ -58,7 +68,8 @@ pub data HubEvent : Type 0 where
   Sends : ℕ → ℕ → HubEvent
   Leaves : ℕ → HubEvent
 
--- what stands at the front of an inbox: a request of these parts, spelled by so many bytes; the beginning of one; neither
+-- what stands at the front of an inbox: a request of these parts, spelled by so many bytes; the beginning of one;
+-- neither
 pub data Front : Type 0 where
   Whole : List Bytes → ℕ → Front
   More : Front
@@ -68,10 +79,11 @@ pub data Front : Type 0 where
 abbrev pub IsFront : Bytes → Front → Type 0
 IsFront bytes (Whole parts n) = (n ≤ length bytes) × Spells (take n bytes) parts
 IsFront bytes More = IsProperBeginning bytes
-IsFront bytes Bad = ((parts : List Bytes) (n : ℕ) → n ≤ length bytes → Spells (take n bytes) parts → ⊥) × (IsProperBeginning bytes → ⊥)
+IsFront bytes Bad = ((parts : List Bytes) (n : ℕ) → n ≤ length bytes → Spells (take n bytes) parts → ⊥)
+    × (IsProperBeginning bytes → ⊥)
 
--- what is not the hub's to decide at an event: what the grammar finds at the front of the inbox, whether memory was refused,
--- and whether the device failed
+-- what is not the hub's to decide at an event: what the grammar finds at the front of the inbox, whether memory was
+-- refused, and whether the device failed
 pub record Choice : Type 0 where
   pub front : Front
   pub refused : Bool
@@ -114,7 +126,14 @@ receive None h s piece = (h, Unknown)
 receive (Some st) h s piece =
     if not (is_open st.now.status) then (h, Idle)
     else (if nat_lt (room st.now) (length piece) then (h, NoRoom)
-    else (with_stream h s (record st { now = record { inbox = st.now.inbox ++ piece; pending = st.now.pending; status = st.now.status }; received = st.received ++ piece }), Done))
+    else (
+      with_stream h s (record
+          st {
+            now = record { inbox = st.now.inbox ++ piece; pending = st.now.pending; status = st.now.status };
+            received = st.received ++ piece;
+          }),
+      Done,
+    ))
 
 -- what one Serve does: the machine and the session after it, what was served and replied, and the outcome
 pub record Effect : Type 0 where
@@ -154,17 +173,30 @@ served_with answer n parts used = record {
 
 -- a session that memory was refused for is closed, and is answered no more
 abbrev pub out_of_memory : State → ℕ → Effect
-out_of_memory m s = record { machine = leave m s; now = record { inbox = []; pending = []; status = Refused }; served = []; replies = []; outcome = Memory }
+out_of_memory m s = record {
+  machine = leave m s;
+  now = record { inbox = []; pending = []; status = Refused };
+  served = [];
+  replies = [];
+  outcome = Memory;
+}
 
 -- the reply to what begins no request is the last
 abbrev pub broken_frame : State → ℕ → Effect
-broken_frame m s = record { machine = leave m s; now = record { inbox = []; pending = reply_text bad_frame; status = Ending }; served = []; replies = bad_frame ∷ []; outcome = Done }
+broken_frame m s = record {
+  machine = leave m s;
+  now = record { inbox = []; pending = reply_text bad_frame; status = Ending };
+  served = [];
+  replies = bad_frame ∷ [];
+  outcome = Done;
+}
 
 abbrev pub no_effect : State → SessionState → Effect
 no_effect m n = record { machine = m; now = n; served = []; replies = []; outcome = Idle }
 
 abbrev pub serve_front : Front → Choice → State → ℕ → SessionState → Effect
-serve_front (Whole parts used) c m s n = if c.refused then out_of_memory m s else served_with (step m s (asks parts) c.failed) n parts used
+serve_front (Whole parts used) c m s n =
+    if c.refused then out_of_memory m s else served_with (step m s (asks parts) c.failed) n parts used
 serve_front More c m s n = no_effect m n
 serve_front Bad c m s n = broken_frame m s
 
@@ -176,8 +208,14 @@ abbrev pub serve : Choice → State → ℕ → SessionState → Effect
 serve c m s n = if may_serve n then serve_front c.front c m s n else no_effect m n
 
 abbrev pub with_effect : HubState → ℕ → SessionStream → Effect → HubState × Outcome
-with_effect h s st e =
-    (record (with_stream h s (record st { now = e.now; served = st.served ++ e.served; replies = st.replies ++ e.replies })) { machine = e.machine }, e.outcome)
+with_effect h s st e = (
+  record (with_stream h s
+      (record st { now = e.now; served = st.served ++ e.served; replies = st.replies ++ e.replies })) {
+        machine =
+            e.machine;
+      },
+  e.outcome,
+)
 
 abbrev pub serve_session : Option SessionStream → HubState → ℕ → Choice → HubState × Outcome
 serve_session None h s c = (h, Unknown)
@@ -187,13 +225,27 @@ abbrev pub send : Option SessionStream → HubState → ℕ → ℕ → HubState
 send None h s n = (h, Unknown)
 send (Some st) h s n =
     if nat_le n (length st.now.pending)
-    then (with_stream h s (record st { now = record { inbox = st.now.inbox; pending = drop n st.now.pending; status = st.now.status }; sent = st.sent ++ take n st.now.pending }), Done)
+    then (
+      with_stream h s (record
+          st {
+            now = record { inbox = st.now.inbox; pending = drop n st.now.pending; status = st.now.status };
+            sent = st.sent ++ take n st.now.pending;
+          }),
+      Done,
+    )
     else (h, BadCount)
 
 abbrev pub depart : Option SessionStream → HubState → ℕ → HubState × Outcome
 depart None h s = (h, Unknown)
-depart (Some st) h s =
-    (record { machine = leave h.machine s; present = remove_entry (is_at (nat_cmp s)) h.present; gone = h.gone ++ (s, st) ∷ []; latest = h.latest }, Done)
+depart (Some st) h s = (
+  record {
+    machine = leave h.machine s;
+    present = remove_entry (is_at (nat_cmp s)) h.present;
+    gone = h.gone ++ (s, st) ∷ [];
+    latest = h.latest;
+  },
+  Done,
+)
 
 -- one event
 unfoldable pub hub_step : HubState → HubEvent → Choice → HubState × Outcome
@@ -205,7 +257,8 @@ hub_step h (Leaves s) c = depart (stream_of h s) h s
 
 -- the request at the front takes memory, and the machine's reply to it would be no refusal, the device's failure aside
 abbrev pub MayWantMemory : State → ℕ → Front → Type 0
-MayWantMemory m s (Whole parts used) = IsTrue (takes_memory (asks parts)) × IsFalse (is_refused (step m s (asks parts) false).1)
+MayWantMemory m s (Whole parts used) =
+    IsTrue (takes_memory (asks parts)) × IsFalse (is_refused (step m s (asks parts) false).1)
 MayWantMemory m s other = ⊥
 
 -- the grammar finds this front, and memory was refused only where it may be
@@ -237,4 +290,5 @@ ArePossible h (e ∷ es) = IsPossible h e.0 e.1 × ArePossible (hub_step h e.0 e
 -- a hub state to which events lead from a machine that was reached, with no transaction open
 pub data IsReachedHub : HubState → Type 0 where
   Begun : (m : State) → IsReached m → m.running ≡ [] → IsReachedHub (hub_over m)
-  Continued : (h : HubState) (e : HubEvent) (c : Choice) → IsPossible h e c → IsReachedHub h → IsReachedHub (hub_step h e c).0
+  Continued : (h : HubState) (e : HubEvent) (c : Choice) → IsPossible h e c → IsReachedHub h
+      → IsReachedHub (hub_step h e c).0

@@ -1,14 +1,24 @@
 -- Which states a hub stands for, and what an event does to them.
-use Rattle.std.specs.Prelude.{◌≡◌, ℕ, Bool, List, [], map, Option, Some, None, option_map, Result, Ok, Err}
-use Rattle.std.specs.{Ordering.nat_cmp, Map.lookup, BTreeMap.is_at}
-pub use Rattle.sector.specs.declared.device.Sectors.{Ghosts}
+use Rattle.std.specs.BTreeMap.{is_at}
+use Rattle.std.specs.Map.{lookup}
+use Rattle.std.specs.Ordering.{nat_cmp}
+use Rattle.std.specs.Prelude.{◌≡◌, ◌⊎◌, ℕ, ◌+◌, Bool, true, false, List, [], map, Option, Some, None, option_map}
+use Rattle.std.specs.Prelude.{Result, Ok, Err}
 use Rattle.model.specs.Leading.{LeadsBy}
-use Rattle.engine.specs.Meaning.{StandsFor as EngineStandsFor, device_of, failures_of, is_stopped as has_engine_stopped}
+pub use Rattle.sector.specs.declared.device.Sectors.{Ghosts}
 use Rattle.commit_log.specs.declared.faults.Unopened.{Unopened}
-use Rattle.sessions.specs.{declared.events.Status.TheVariants.Absent, declared.events.Event.Event, Calls.is_memory, Calls.has_failed}
+use Rattle.commit_log.specs.declared.log.Log.{Log}
+use Rattle.engine.specs.Meaning.{StandsFor as EngineStandsFor, device_of, failures_of}
+use Rattle.engine.specs.Meaning.{is_stopped as has_engine_stopped, has_written as has_engine_written}
+use Rattle.engine.specs.Meaning.{log_of, records_of as engine_records}
+use Rattle.sessions.specs.Calls.{is_memory, has_failed}
+use Rattle.sessions.specs.SessionStreams.{Status, Outcome, HubState, SessionState, SessionStream, HubEvent, Joins}
+use Rattle.sessions.specs.SessionStreams.{Receives, Serves, Sends, Leaves, Choice, IsPossible, hub_step, room}
+use Rattle.sessions.specs.SessionStreams.{IsReachedHub}
+use Rattle.sessions.specs.declared.events.Event.{Event}
 use Rattle.sessions.specs.declared.events.Event.TheVariants.{Joined, Bytes, Serve, Sent, Left}
+use Rattle.sessions.specs.declared.events.Status.TheVariants.{Absent}
 pub use Rattle.sessions.specs.declared.hub.Hub.{Hub}
-use Rattle.sessions.specs.SessionStreams.{Status, Outcome, HubState, SessionState, SessionStream, HubEvent, Joins, Receives, Serves, Sends, Leaves, Choice, IsPossible, hub_step, room, IsReachedHub}
 
 abbrev pub event_of : Event → HubEvent
 event_of (Joined s) = Joins s
@@ -28,6 +38,10 @@ pub record StandsFor {D : Type 0} {g : Ghosts D} (hub : Hub D g) (h : HubState) 
   pub latest : hub.latest ≡ h.latest
   pub reached : IsReachedHub h
 
+-- the log of the hub's engine
+abbrev pub log : {D : Type 0} {g : Ghosts D} → Hub D g → Log D g
+log hub = log_of hub.engine
+
 -- the device of the hub's engine, and how many of its calls have failed
 abbrev pub device : {D : Type 0} {g : Ghosts D} → Hub D g → D
 device hub = device_of hub.engine
@@ -44,6 +58,28 @@ device_after (Err unopened) = unopened.device
 abbrev pub is_stopped : {D : Type 0} {g : Ghosts D} → Hub D g → Bool
 is_stopped hub = has_engine_stopped hub.engine
 
+-- has the session's open transaction, if it has one, written a key?
+abbrev pub has_written : {D : Type 0} {g : Ghosts D} → Hub D g → ℕ → Bool
+has_written hub s = has_engine_written hub.engine s
+
+-- how many records the log of the hub's engine has
+abbrev pub records_of : {D : Type 0} {g : Ghosts D} → Hub D g → ℕ
+records_of hub = engine_records hub.engine
+
+-- The event serves a request of a session whose transaction has written, and adds one record to the log. The session's
+-- transaction has then ended: it has none that has written.
+pub record AddsRecord {D : Type 0} {g : Ghosts D} (old new : Hub D g) (e : HubEvent) : Type 0 where
+  pub session : ℕ
+  pub serves : e ≡ Serves session
+  pub one : records_of new ≡ records_of old + 1
+  pub wrote : has_written old session ≡ true
+  pub ended : has_written new session ≡ false
+
+-- an event does so, or the log has as many records as before
+abbrev pub CountsRecords : {D : Type 0} {g : Ghosts D} → Hub D g → Hub D g → HubEvent → Type 0
+CountsRecords old new e =
+    (h : HubState) → StandsFor old h → (records_of new ≡ records_of old) ⊎ AddsRecord old new e
+
 -- by a choice that is possible, an event leads to this state and outcome
 pub record Reaches (h : HubState) (e : HubEvent) (c : Choice) (later : HubState) (outcome : Outcome) : Type 0 where
   pub possible : IsPossible h e c
@@ -53,7 +89,8 @@ pub record Reaches (h : HubState) (e : HubEvent) (c : Choice) (later : HubState)
 -- count says so, from every state that the old hub stood for to the next
 abbrev pub HubLeads : {D : Type 0} {g : Ghosts D} → Hub D g → Hub D g → HubEvent → Outcome → Type 0
 HubLeads old new e outcome =
-    (c : Choice) × (c.refused ≡ is_memory outcome) × (c.failed ≡ has_failed old.engine new.engine) × LeadsBy StandsFor old new (λ h later. Reaches h e c later outcome)
+    (c : Choice) × (c.refused ≡ is_memory outcome) × (c.failed ≡ has_failed old.engine new.engine)
+    × LeadsBy StandsFor old new (λ h later. Reaches h e c later outcome)
 
 -- how a session stands, how many bytes its inbox has room for and what is pending: of one that is not present, nothing
 abbrev pub status_or_absent : Option SessionState → Status

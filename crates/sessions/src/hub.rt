@@ -1,7 +1,7 @@
 //! The sessions that are present, over one engine.
-ghost use Rattle.std.specs.Prelude.{◌≡◌, ◌≤◌, ℕ, true, [], length, map};
-ghost use Rattle.engine.specs.Meaning.{device_of};
-ghost use Rattle.engine.specs.Meaning.{StandsFor as EngineStandsFor};
+ghost use Rattle.std.specs.Prelude.{◌≡◌, ◌↔◌, ◌≤◌, ℕ, true, false, [], length, map};
+ghost use Rattle.engine.specs.Changes.{AddsOneAtMost};
+ghost use Rattle.engine.specs.Meaning.{IsReadOnly, StandsFor as EngineStandsFor, device_of};
 ghost use Rattle.model.specs.Laws.{IsOrderedByPlace};
 ghost use Rattle.model.specs.Machine.{State};
 ghost use Rattle.sessions.specs.Crashes.{SurvivesEvent, AppliesWhole, KeepsCommitted};
@@ -10,7 +10,8 @@ ghost use Rattle.sessions.specs.Life.{LosesNothing};
 ghost use Rattle.sessions.specs.Lives.{CutsReopen, KeepsAnswered, LivesLoseNothing, LivesFromNothing};
 ghost use Rattle.sessions.specs.OneOrder.{LivesHaveOneHistory};
 ghost use Rattle.sessions.specs.SessionStreams.{HubState, is_above, hub_over, Joins, Receives, Serves, Sends, Leaves};
-ghost use Rattle.sessions.specs.StandsFor.{HubLeads, StandsFor, event_of, status_of, room_of, pending_of, device, failures, is_stopped};
+ghost use Rattle.sessions.specs.StandsFor.{HubLeads, StandsFor, event_of, status_of, room_of, pending_of, device};
+ghost use Rattle.sessions.specs.StandsFor.{CountsRecords, failures, has_written, is_stopped, log, records_of};
 
 use crate::events::{Event, Outcome, SESSIONS_MAX, Status};
 use crate::present::Present;
@@ -71,8 +72,8 @@ impl<D: Sectors> Hub<D> {
         }
     }
 
-    /// How many bytes the session's inbox has room for, from 0 to `INBOX_MAX`; 0 for an absent session. One that is not `Open` takes none of
-    /// them, whatever its room. Takes no memory.
+    /// How many bytes the session's inbox has room for, from 0 to `INBOX_MAX`; 0 for an absent session. One that is not `Open` takes none
+    /// of them, whatever its room. Takes no memory.
     pub fn room(&self, s: u64) -> usize
         ensures { result ≡ room_of self.now s }
     {
@@ -100,6 +101,21 @@ impl<D: Sectors> Hub<D> {
         self.engine.stopped()
     }
 
+    /// Has the session's open transaction written a key? Where none is open it hasn't. Takes no memory.
+    pub fn has_written(&self, s: u64) -> bool
+        ensures buffer { result ≡ has_written self.now s }
+        ensures written { (h : HubState) → StandsFor self.now h → (result ≡ false) ↔ IsReadOnly h.machine s }
+    {
+        self.engine.has_written(s)
+    }
+
+    /// How many records the log has. Takes no memory.
+    pub fn records(&self) -> u64
+        ensures { result ≡ records_of self.now }
+    {
+        self.engine.records()
+    }
+
     /// The device of the engine, lent. Takes no memory.
     pub fn device(&self) -> &D
         ensures { result.now ≡ device self.now }
@@ -123,7 +139,7 @@ impl<D: Sectors> Hub<D> {
     /// A session joins.
     fn join(&mut self, s: u64) -> Outcome
         ensures step { HubLeads self.old self.new (Joins s) result }
-        ensures device { device self.new ≡ device self.old }
+        ensures log { log self.new ≡ log self.old }
     {
         if !is_above(s, self.latest) {
             return Outcome::Unknown;
@@ -146,7 +162,7 @@ impl<D: Sectors> Hub<D> {
     /// A piece of a session's bytes comes in.
     fn receive(&mut self, s: u64, piece: &[u8]) -> Outcome
         ensures step { HubLeads self.old self.new (Receives s piece.now) result }
-        ensures device { device self.new ≡ device self.old }
+        ensures log { log self.new ≡ log self.old }
     {
         match self.sessions.get_mut(s) {
             Some(session) => {
@@ -169,6 +185,7 @@ impl<D: Sectors> Hub<D> {
         ensures crash { SurvivesEvent self.old self.new (Serves s) }
         ensures still { is_stopped self.old ≡ true → device self.new ≡ device self.old }
         ensures device { failures self.old ≤ failures self.new }
+        ensures records { AddsOneAtMost (log self.old) (log self.new) }
     {
         match self.sessions.get_mut(s) {
             Some(session) => session.serve(&mut self.engine, s),
@@ -179,7 +196,7 @@ impl<D: Sectors> Hub<D> {
     /// Pending bytes of a session were sent.
     fn sent(&mut self, s: u64, n: usize) -> Outcome
         ensures step { HubLeads self.old self.new (Sends s n) result }
-        ensures device { device self.new ≡ device self.old }
+        ensures log { log self.new ≡ log self.old }
     {
         match self.sessions.get_mut(s) {
             Some(session) => {
@@ -196,7 +213,7 @@ impl<D: Sectors> Hub<D> {
     /// A session leaves.
     fn left(&mut self, s: u64) -> Outcome
         ensures step { HubLeads self.old self.new (Leaves s) result }
-        ensures device { device self.new ≡ device self.old }
+        ensures log { log self.new ≡ log self.old }
     {
         match self.sessions.remove(s) {
             Some(_session) => {
@@ -214,6 +231,7 @@ impl<D: Sectors> Hub<D> {
         ensures crash { SurvivesEvent self.old self.new (event_of event.now) }
         ensures still { is_stopped self.old ≡ true → device self.new ≡ device self.old }
         ensures device { failures self.old ≤ failures self.new }
+        ensures records { AddsOneAtMost (log self.old) (log self.new) }
     {
         match event {
             Event::Joined(s) => self.join(*s),
@@ -240,7 +258,8 @@ impl<D: Sectors> Hub<D> {
     ///
     /// A crash at any moment of the event leaves the map committed before it or, where it executes a COMMIT, that with the
     /// transaction's writes; after the event it leaves the map that is then committed. A store that is stopped leaves the device alone.
-    /// The event, alone, is a run.
+    /// The event, alone, is a run. It adds a record to the log only where it serves a request of a session whose transaction has written:
+    /// one, and that transaction is over.
     #[inline(always)]
     pub fn step(&mut self, event: &Event<'_>) -> Outcome
         ensures step { HubLeads self.old self.new (event_of event.now) result }
@@ -249,6 +268,7 @@ impl<D: Sectors> Hub<D> {
         ensures stored { D.keeps_model → KeepsCommitted self.new }
         ensures ran { RunsAlone self.old self.new (event_of event.now) }
         ensures device { failures self.old ≤ failures self.new }
+        ensures records { CountsRecords self.old self.new (event_of event.now) }
     {
         machine_is_serializable();
         self.is_stored();
@@ -274,10 +294,10 @@ impl<D: Sectors> Hub<D> {
         }
     }
 
-    /// Drops what no open transaction needs, a step of it, and answers whether more is due. It may come between any two events, and is none:
-    /// what the hub stands for stays, and so does the device. Ends of transactions take such a step themselves; called again until it answers
-    /// no, it ends what an old reader has left. It looks at 2 of the lists of old versions that are due, and gives back 1,024 written keys and as
-    /// many steps of last readers of old runs, so it is short. Takes no memory.
+    /// Drops what no open transaction needs, a step of it, and answers whether more is due. It may come between any two events, and is
+    /// none: what the hub stands for stays, and so does the device. Ends of transactions take such a step themselves; called again until it
+    /// answers no, it ends what an old reader has left. It looks at 2 of the lists of old versions that are due, and gives back 1,024
+    /// written keys and as many steps of last readers of old runs, so it is short. Takes no memory.
     pub fn reclaim_step(&mut self) -> bool
         ensures { GivesBack self.old self.new result }
     {

@@ -13,9 +13,9 @@ impl<D: Sectors> Hub<D> {
     /// A hub over the store whose log a device holds. Nobody has joined. Faults are those of `Engine::open`; the device is given back with
     /// each.
     ///
-    /// Where an earlier hub left the device at any moment, what is found is the map of its last answered COMMIT, or that with one COMMIT more,
-    /// which was under way then or was answered a store fault. A crash at any moment of the call, also where it fails, leaves what one
-    /// before it could have left, so it loses nothing either.
+    /// Where an earlier hub left the device at any moment, what is found is the map of its last answered COMMIT, or that with one COMMIT
+    /// more, which was under way then or was answered a store fault. A crash at any moment of the call, also where it fails, leaves what
+    /// one before it could have left, so it loses nothing either.
     pub fn open(alloc: Global, dev: D) -> Result<Hub<D>, Unopened<D>>
         ensures begins { IfOk result (λ hub. (map : KeyMap) × Begins dev hub map) }
         ensures opens { D.keeps_model → Opens dev result }

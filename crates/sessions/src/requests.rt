@@ -4,7 +4,8 @@ ghost use Rattle.model.specs.KeyBytes.{key_bytes, end_bytes};
 ghost use Rattle.model.specs.Operations.{operation_of, IsFit};
 ghost use Rattle.model.specs.Operations.Operation.{Get, Range, Abort as ToAbort, Commit as ToCommit};
 ghost use Rattle.model.specs.Operations.Response.{Done};
-ghost use Rattle.engine.specs.Meaning.{failures_of, device_of, is_stopped, response_to};
+ghost use Rattle.engine.specs.Changes.{AddsOneAtMost};
+ghost use Rattle.engine.specs.Meaning.{failures_of, device_of, is_stopped, log_of, response_to};
 ghost use Rattle.sessions.specs.Calls.{range_of, Writes, refusal_to_read, Executes, Aborts, ServesFront, has_failed};
 ghost use Rattle.sessions.specs.Crashes.{SurvivesCommit, SurvivesRequest, SurvivesFront};
 ghost use Rattle.sessions.specs.SessionStreams.{asks};
@@ -48,7 +49,7 @@ fn get<D: Sectors>(
 ) -> Result<(), Memory>
     requires { out.old ≡ [] }
     ensures step { Executes engine.old engine.new s (Get (key_bytes key.entry)) false out.new result }
-    ensures device { device_of engine.new ≡ device_of engine.old }
+    ensures log { log_of engine.new ≡ log_of engine.old }
 {
     match engine.get(s, key) {
         Ok(value) => out.write_value(value),
@@ -67,7 +68,7 @@ fn range<D: Sectors>(
     requires empty { out.old ≡ [] }
     requires limit { (1 ≤ limit) × (limit ≤ 128) }
     ensures step { Executes engine.old engine.new s (range_of range.entry limit) false out.new result }
-    ensures device { device_of engine.new ≡ device_of engine.old }
+    ensures log { log_of engine.new ≡ log_of engine.old }
 {
     match engine.range(s, range, limit) {
         Ok(rows) => out.write_pairs(rows),
@@ -82,6 +83,7 @@ fn commit<D: Sectors>(engine: &mut Engine<D>, s: u64, out: &mut ReplyBuffer) -> 
     ensures crash { SurvivesCommit engine.old engine.new s }
     ensures still { is_stopped engine.old ≡ true → device_of engine.new ≡ device_of engine.old }
     ensures device { failures_of engine.old ≤ failures_of engine.new }
+    ensures records { AddsOneAtMost (log_of engine.old) (log_of engine.new) }
 {
     match engine.commit(s) {
         Ok(number) => {
@@ -100,7 +102,7 @@ fn commit<D: Sectors>(engine: &mut Engine<D>, s: u64, out: &mut ReplyBuffer) -> 
 fn abort<D: Sectors>(engine: &mut Engine<D>, s: u64, out: &mut ReplyBuffer) -> Result<(), Memory>
     requires { out.old ≡ [] }
     ensures step { Executes engine.old engine.new s ToAbort false out.new result }
-    ensures device { device_of engine.new ≡ device_of engine.old }
+    ensures log { log_of engine.new ≡ log_of engine.old }
 {
     let answer = engine.abort(s);
     engine.reclaim_step();
@@ -120,6 +122,7 @@ fn execute<D: Sectors>(
     ensures crash { SurvivesRequest engine.old engine.new s (operation_of command.entry) }
     ensures still { is_stopped engine.old ≡ true → device_of engine.new ≡ device_of engine.old }
     ensures device { failures_of engine.old ≤ failures_of engine.new }
+    ensures records { AddsOneAtMost (log_of engine.old) (log_of engine.new) }
 {
     match command {
         Command::Begin => {
@@ -157,6 +160,7 @@ fn execute_request<D: Sectors>(
     ensures crash { SurvivesRequest engine.old engine.new s (asks request.now) }
     ensures still { is_stopped engine.old ≡ true → device_of engine.new ≡ device_of engine.old }
     ensures device { failures_of engine.old ≤ failures_of engine.new }
+    ensures records { AddsOneAtMost (log_of engine.old) (log_of engine.new) }
 {
     match command(request) {
         Ok(command) => execute(engine, s, command, out),
@@ -170,7 +174,7 @@ fn execute_request<D: Sectors>(
 /// Aborts the session's transaction, if it has one. Takes no memory.
 pub(crate) fn abort_transaction<D: Sectors>(engine: &mut Engine<D>, s: u64)
     ensures left { Aborts engine.old engine.new s }
-    ensures device { device_of engine.new ≡ device_of engine.old }
+    ensures log { log_of engine.new ≡ log_of engine.old }
 {
     match engine.abort(s) {
         Ok(()) => {
@@ -205,6 +209,7 @@ pub(crate) fn serve_request<D: Sectors>(
     ensures crash { SurvivesFront engine.old engine.new s inbox.now }
     ensures still { is_stopped engine.old ≡ true → device_of engine.new ≡ device_of engine.old }
     ensures device { failures_of engine.old ≤ failures_of engine.new }
+    ensures records { AddsOneAtMost (log_of engine.old) (log_of engine.new) }
 {
     match decode(inbox) {
         Decoded::Whole(request, used) => match execute_request(engine, s, &request, out) {

@@ -1,8 +1,20 @@
 -- The first pairs of a range, and the last of their keys.
-use Rattle.snapshot.proofs.Words.{common_steps, ◌≡◌, ℕ, zero, suc, ◌+◌, ◌<◌, ◌≤◌, Bool, true, false, cond, List, [], ◌∷◌, length, take, drop, Option, Some, None, refl, sym, ap, subst, ◌∙◌, arith, add-one, eqb, is_le, nat_cmp, slice_cmp, where_key, and_parts, eqb-true, key_bytes, end_bytes, Bytes, KeyMap, KeyWrite, IsInBounds, key_cmp, is_in_range, is_below, pairs_in_range, last_key, page_end, View, with_value, merged_one, merged, all_rows, rows_of}
-use Rattle.std.specs.List.{AllByRecursion}
+use Rattle.std.proofs.Common.{◌≡◌, ℕ, zero, suc, ◌+◌, ◌<◌, ◌≤◌, Bool, true, false, cond, List, [], ◌∷◌, length, take}
+use Rattle.std.proofs.Common.{drop, Option, Some, None, refl, sym, ap, subst, ◌∙◌, arith, add-one, eqb}
+use Rattle.std.proofs.lemmas.Bool.{and_parts, eqb-true}
+use Rattle.std.proofs.lemmas.Grind.{common_steps}
 use Rattle.std.proofs.lemmas.List.{take_all}
-use Rattle.model.specs.{declared.ranges.RangeRef.RangeRef, Key.IsKey, Key.IsValue}
+use Rattle.std.specs.Cmp.Lexicographic.{slice_cmp}
+use Rattle.std.specs.FinMap.Entries.{where_key}
+use Rattle.std.specs.List.{AllByRecursion}
+use Rattle.std.specs.Ordering.{is_le, nat_cmp}
+use Rattle.model.specs.Key.{IsKey, IsValue}
+use Rattle.model.specs.KeyBytes.{key_bytes, end_bytes}
+use Rattle.model.specs.Map.{Bytes, KeyMap, KeyWrite, IsInBounds, key_cmp, is_in_range, is_below, pairs_in_range}
+use Rattle.model.specs.PrivateCopy.{last_key, page_end}
+use Rattle.model.specs.declared.ranges.RangeRef.{RangeRef}
+use Rattle.snapshot.specs.Merged.{with_value, merged_one, merged, all_rows, rows_of}
+use Rattle.snapshot.specs.View.{View}
 
 -- ---- one pair after another
 
@@ -23,12 +35,15 @@ pub one_more : (all : KeyMap) (n : ℕ) (e : Bytes × Bytes) (rest : KeyMap) →
 one_more all n e rest h = rw add-one (one_suc all n e rest h)
 
 -- with one more that is in bounds, the first are
-in_bounds_suc : (all : KeyMap) (n : ℕ) (e : Bytes × Bytes) (rest : KeyMap) → drop n all ≡ e ∷ rest → IsKey e.0 → IsValue e.1 → IsInBounds (take n all) → IsInBounds (take (suc n) all)
+in_bounds_suc : (all : KeyMap) (n : ℕ) (e : Bytes × Bytes) (rest : KeyMap) → drop n all ≡ e ∷ rest → IsKey e.0 → IsValue e.1 → IsInBounds (take n all)
+    → IsInBounds (take (suc n) all)
 in_bounds_suc [] n e rest h key value b = tt
-in_bounds_suc (x ∷ xs) zero e rest h key value b = let same : x ≡ e = cc in subst (λ (p : Bytes × Bytes). IsKey p.0 × IsValue p.1 × Unit {0}) (sym same) (key, value, tt)
+in_bounds_suc (x ∷ xs) zero e rest h key value b = let same : x ≡ e =
+    cc in subst (λ (p : Bytes × Bytes). IsKey p.0 × IsValue p.1 × Unit {0}) (sym same) (key, value, tt)
 in_bounds_suc (x ∷ xs) (suc n) e rest h key value b = (b.0, b.1, in_bounds_suc xs n e rest h key value b.2)
 
-pub one_more_in_bounds : (all : KeyMap) (n : ℕ) (e : Bytes × Bytes) (rest : KeyMap) → drop n all ≡ e ∷ rest → IsKey e.0 → IsValue e.1 → IsInBounds (take n all) → IsInBounds (take (n + 1) all)
+pub one_more_in_bounds : (all : KeyMap) (n : ℕ) (e : Bytes × Bytes) (rest : KeyMap) → drop n all ≡ e ∷ rest → IsKey e.0 → IsValue e.1 → IsInBounds (take n all)
+    → IsInBounds (take (n + 1) all)
 one_more_in_bounds all n e rest h key value b = rw add-one (in_bounds_suc all n e rest h key value b)
 
 -- where none is left, all are among the first n
@@ -72,7 +87,8 @@ module _ (p : Bytes → Bool) where
   keys-with_value k None es h g = g
   keys-with_value k (Some v) es h g = (h, g)
 
-  keys-merged_one : (w : KeyWrite) (f : KeyMap → KeyMap) → p w.0 ≡ true → ((es : KeyMap) → HaveKeys p es → HaveKeys p (f es)) → (es : KeyMap) → HaveKeys p es → HaveKeys p (merged_one w f es)
+  keys-merged_one : (w : KeyWrite) (f : KeyMap → KeyMap) → p w.0 ≡ true → ((es : KeyMap) → HaveKeys p es → HaveKeys p (f es)) → (es : KeyMap) → HaveKeys p es
+      → HaveKeys p (merged_one w f es)
   keys-merged_one w f h keeps [] g = keys-with_value w.0 w.1 (f []) h (keeps [] tt)
   keys-merged_one w f h keeps (e ∷ es) g = grind (arith, common_steps, keys-with_value, keys-merged_one w f h keeps es g.1)
 
@@ -90,11 +106,15 @@ module _ (p : Bytes → Bool) where
   last_has (x ∷ y ∷ es) k h e = last_has (y ∷ es) k h.1 e
 
 -- so the end of a page isn't below the range's lower end
-pub end_above : (t : View) (m : KeyMap) (r : RangeRef) (limit : ℕ) (k : Bytes) → page_end limit (rows_of t m r limit) ≡ Some k → is_le (key_cmp (key_bytes r.lo) k) ≡ true
+pub end_above : (t : View) (m : KeyMap) (r : RangeRef) (limit : ℕ) (k : Bytes) → page_end limit (rows_of t m r limit) ≡ Some k
+    → is_le (key_cmp (key_bytes r.lo) k) ≡ true
 end_above t m r limit k e =
     let p = is_in_range (key_bytes r.lo) (end_bytes r.hi) in
-    let keys = keys-taken p limit (all_rows t m r) (keys-merged p (where_key (slice_cmp nat_cmp) p t.writes) (pairs_in_range m (key_bytes r.lo) (end_bytes r.hi)) (keys_where p t.writes) (keys_where p m)) in
-    (and_parts (is_le (key_cmp (key_bytes r.lo) k)) (is_below k (end_bytes r.hi)) (last_has p (rows_of t m r limit) k keys (full (eqb (length (rows_of t m r limit)) limit) e))).0
+    let keys = keys-taken p limit (all_rows t m r)
+    (keys-merged p (where_key (slice_cmp nat_cmp) p t.writes) (pairs_in_range m (key_bytes r.lo) (end_bytes r.hi)) (keys_where p t.writes) (keys_where p m))
+    in
+    (and_parts (is_le (key_cmp (key_bytes r.lo) k)) (is_below k (end_bytes r.hi))
+    (last_has p (rows_of t m r limit) k keys (full (eqb (length (rows_of t m r limit)) limit) e))).0
   where
     full : (b : Bool) → cond b (last_key (rows_of t m r limit)) None ≡ Some k → last_key (rows_of t m r limit) ≡ Some k
     full true h = h

@@ -1,9 +1,12 @@
 -- The pairs that writes over pairs have left.
-use Rattle.std.specs.Prelude.{ℕ, ◌∷◌, take, Option, Some, None}
 use Rattle.std.specs.Borrow.{Bor}
-use Rattle.model.specs.{declared.keys.KeyRef.KeyRef, KeyBytes.pair_bytes, Map.Bytes, Map.KeyMap}
+use Rattle.std.specs.Prelude.{ℕ, ◌∷◌, take, Option, Some, None}
+use Rattle.model.specs.KeyBytes.{pair_bytes}
+use Rattle.model.specs.Map.{Bytes, KeyMap}
+use Rattle.model.specs.declared.keys.KeyRef.{KeyRef}
 use Rattle.versions.specs.Lent.{range_pairs}
-use Rattle.snapshot.specs.{declared.merge.MergedPairs.MergedPairs, Merged.merged}
+use Rattle.snapshot.specs.Merged.{merged}
+use Rattle.snapshot.specs.declared.merge.MergedPairs.{MergedPairs}
 
 -- the pair that was looked at stands before the others
 abbrev pub with_ahead : Option (KeyRef × Bor Bytes) → KeyMap → KeyMap

@@ -1,14 +1,21 @@
 -- The own requests that a transaction has made, and how a call answers one more.
-use Rattle.std.specs.Prelude.{◌≡◌, ◌↔◌, ◌||◌, ℕ, Bool, true, false, List, [], ◌∷◌, ◌++◌, Option, Result, Ok, Err, option_copied, IsFalse, IsTrue}
-use Rattle.std.specs.{Borrow.Bor, List.list_any}
-use Rattle.model.specs.{declared.ranges.RangeRef.RangeRef, KeyBytes.key_bytes, KeyBytes.end_bytes, Operations.Operation, Operations.Response}
 use Rattle.model.specs.declared.refusals.Refusal.TheVariants as refusal
+use Rattle.std.specs.Borrow.{Bor}
+use Rattle.std.specs.List.{list_any}
+use Rattle.std.specs.Prelude.{◌≡◌, ◌≢◌, ◌↔◌, ◌||◌, ℕ, Bool, true, false, List, [], ◌∷◌, ◌++◌, Option, Result, Ok, Err}
+use Rattle.std.specs.Prelude.{option_copied, IsFalse, IsOk, IsTrue}
+use Rattle.model.specs.KeyBytes.{key_bytes, end_bytes}
 use Rattle.model.specs.Map.{Bytes, KeyMap, IsMap, is_empty_range}
-use Rattle.model.specs.{Operations.Operation.Get, Operations.Operation.Range, Operations.Response.Done, Operations.Response.Value, Operations.Response.Refused}
+use Rattle.model.specs.Operations.{Operation, Response}
+use Rattle.model.specs.Operations.Operation.{Get, Range}
+use Rattle.model.specs.Operations.Response.{Done, Value, Refused}
 use Rattle.model.specs.PrivateCopy.{PrivateCopy, copy_of, copy_after, is_same_mark, mark_asked}
+use Rattle.model.specs.declared.ranges.RangeRef.{RangeRef}
+use Rattle.versions.specs.Chains.{ChainsValue}
+use Rattle.versions.specs.Meaning.{map_seen}
 use Rattle.write_buffer.specs.Buffered.{AreEntries}
-use Rattle.versions.specs.{Chains.ChainsValue, Meaning.map_seen}
-use Rattle.snapshot.specs.{declared.faults.SnapshotFault.SnapshotFault, View.View, View.copy_held, View.after_get}
+use Rattle.snapshot.specs.View.{View, copy_held, after_get}
+use Rattle.snapshot.specs.declared.faults.SnapshotFault.{SnapshotFault}
 use Rattle.snapshot.specs.declared.faults.SnapshotFault.TheVariants.{FullWrites, FullMarks, Memory}
 
 -- the transaction stands where a private copy of m stands after the own requests qs
@@ -47,6 +54,13 @@ IsFault Memory response = IsFalse (is_refused response)
 abbrev pub IsFullWhen : {A : Type 0} → Result A SnapshotFault → Bool → Type 0
 IsFullWhen {A} result b = (◌≡◌ {A = Result A SnapshotFault} result (Err FullMarks)) ↔ IsTrue b
 
+-- a read's mark is refused as FullMarks exactly where there is no place for it, not at all where the transaction has
+-- it, and never as FullWrites
+pub record MarkFaults {A : Type 0} (result : Result A SnapshotFault) (is_full is_known : Bool) : Type 0 where
+  pub full : IsFullWhen result is_full
+  pub known : IsTrue is_known → IsOk result
+  pub never : result ≢ Err FullWrites
+
 abbrev pub IsValueReply : Result (Option (Bor Bytes)) SnapshotFault → Response → Type 0
 IsValueReply (Ok v) response = response ≡ Value (option_copied v)
 IsValueReply (Err e) response = IsFault e response
@@ -63,7 +77,8 @@ IsDoneReply (Err e) response = IsFault e response
 -- a read of the range needs no new mark: it is empty, or the copy has the mark that it asks for
 abbrev pub IsKnownRange : PrivateCopy → RangeRef → ℕ → Type 0
 IsKnownRange c r limit =
-    IsTrue (is_empty_range (key_bytes r.lo) (end_bytes r.hi) || list_any (is_same_mark (mark_asked c (key_bytes r.lo) (end_bytes r.hi) limit)) c.marks)
+    IsTrue (is_empty_range (key_bytes r.lo) (end_bytes r.hi)
+    || list_any (is_same_mark (mark_asked c (key_bytes r.lo) (end_bytes r.hi) limit)) c.marks)
 
 -- the request that reads the range
 abbrev pub range_read : RangeRef → ℕ → Operation

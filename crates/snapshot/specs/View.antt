@@ -1,7 +1,8 @@
 -- A transaction as contracts see it, and what its own requests read and leave.
 use Rattle.std.specs.Prelude.{ℕ, List, [], ◌∷◌, Bool, Option, Some, None, is_some, if◌then◌else◌, not, ◌&&◌, ◌||◌}
 use Rattle.model.specs.Map.{Bytes, KeyMap, KeyWrite, value_at, after_writes}
-use Rattle.model.specs.{PrivateCopy.Mark, PrivateCopy.PrivateCopy, PrivateCopy.Mark.OfKey}
+use Rattle.model.specs.PrivateCopy.{Mark, PrivateCopy}
+use Rattle.model.specs.PrivateCopy.Mark.{OfKey}
 use Rattle.marks.specs.Marked.{has_mark, with_mark, is_full_for}
 use Rattle.write_buffer.specs.Buffered.{written, with_write}
 

@@ -1,12 +1,12 @@
 //! The first pairs of a range, and the mark of a read of them.
-ghost use Rattle.std.specs.Prelude.{◌≡◌, ◌≢◌, List, ℕ, Some, IfOk, IsOk, IsTrue, OnErr, OnOk, Err, length};
+ghost use Rattle.std.specs.Prelude.{◌≡◌, List, ℕ, Some, IfOk, IsTrue, OnErr, OnOk, length};
 ghost use Rattle.std.specs.Ordering.{is_le};
 ghost use Rattle.model.specs.KeyBytes.{key_bytes, end_bytes};
 ghost use Rattle.model.specs.Map.{key_cmp, IsInBounds};
 ghost use Rattle.model.specs.PrivateCopy.{page_end};
 ghost use Rattle.snapshot.specs.Ahead.{page_of};
 ghost use Rattle.snapshot.specs.Merged.{with_page, is_full_for_page, has_page};
-ghost use Rattle.snapshot.specs.Made.{IsFullWhen};
+ghost use Rattle.snapshot.specs.Made.{MarkFaults};
 
 use crate::faults::SnapshotFault;
 use crate::merge::MergedPairs;
@@ -53,9 +53,8 @@ pub(crate) fn mark_page(
     ensures len { IfOk result (λ n. n ≡ length (page_of limit pairs.entry)) }
     ensures in_bounds { IsInBounds (page_of limit pairs.entry) }
     ensures err { OnErr result (marks.new ≡ marks.old) }
-    ensures full { IsFullWhen result (is_full_for_page marks.old range.entry limit (page_of limit pairs.entry)) }
-    ensures known { IsTrue (has_page marks.old range.entry limit (page_of limit pairs.entry)) → IsOk result }
-    ensures never { result ≢ Err SnapshotFault.FullWrites }
+    ensures faults { MarkFaults result (is_full_for_page marks.old range.entry limit (page_of limit pairs.entry))
+        (has_page marks.old range.entry limit (page_of limit pairs.entry)) }
 {
     let page = find_page(pairs, limit);
     if is_empty(range) {

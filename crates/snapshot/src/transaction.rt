@@ -1,5 +1,6 @@
 //! One transaction.
-ghost use Rattle.std.specs.Prelude.{◌≡◌, ◌≢◌, ◌≤◌, ◌<◌, ◌↔◌, [], length, IsTrue, IsOk, IfOk, IfSome, OnOk, OnErr, Err, Some, None, option_copied, is_some, slice_index_or};
+ghost use Rattle.std.specs.Prelude.{◌≡◌, ◌≤◌, ◌<◌, ◌↔◌, [], length, IsTrue, IsOk, IfOk, IfSome, OnOk, OnErr};
+ghost use Rattle.std.specs.Prelude.{Err, Some, None, option_copied, is_some, slice_index_or};
 ghost use Rattle.std.specs.Borrow.{sem};
 ghost use Rattle.std.specs.Io.BufRead.{Rests};
 ghost use Rattle.model.specs.Key.{IsValue};
@@ -11,7 +12,9 @@ ghost use Rattle.versions.specs.Meaning.{map_seen};
 ghost use Rattle.snapshot.specs.View.{new_view, value_read, after_get, after_put, is_full_get, is_known_get};
 ghost use Rattle.snapshot.specs.Merged.{is_full_range};
 ghost use Rattle.snapshot.specs.RowPairs.{row_pairs};
-ghost use Rattle.snapshot.specs.Made.{HasMade, WhereMade, WhereSeen, MakesOneMore, IsFullWhen, IsValueReply, IsDoneReply, IsKnownRange, IsLeftByGet, range_read};
+ghost use Rattle.snapshot.specs.Made.{HasMade, WhereMade, WhereSeen, MakesOneMore, IsFullWhen, IsValueReply};
+ghost use Rattle.snapshot.specs.Made.{MarkFaults};
+ghost use Rattle.snapshot.specs.Made.{IsDoneReply, IsKnownRange, IsLeftByGet, range_read};
 ghost use Rattle.snapshot.specs.PairsReply.{IsPairsReply, IsLeftByRange};
 ghost use Rattle.snapshot.specs.contracts.transaction.Transaction.{the_row};
 
@@ -107,9 +110,7 @@ impl Transaction {
     fn mark_key(&mut self, key: KeyRef<'_>) -> Result<(), SnapshotFault>
         ensures ok { OnOk result (self.new ≡ after_get self.old key.entry.bytes.now) }
         ensures err { OnErr result (self.new ≡ self.old) }
-        ensures full { IsFullWhen result (is_full_get self.old key.entry.bytes.now) }
-        ensures known { IsTrue (is_known_get self.old key.entry.bytes.now) → IsOk result }
-        ensures never { result ≢ Err SnapshotFault.FullWrites }
+        ensures faults { MarkFaults result (is_full_get self.old key.entry.bytes.now) (is_known_get self.old key.entry.bytes.now) }
     {
         match self.buffer.get(key) {
             Written::NotWritten => self.marks.add_key(key)?,

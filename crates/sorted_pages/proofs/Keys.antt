@@ -1,6 +1,17 @@
 -- Entries by rising key in parts: what stands before a key and after it, and what `find` and `put` do in the middle.
-use Rattle.sorted_pages.proofs.Words.{common_steps, ◌≡◌, ◌<◌, true, false, cond, List, [], ◌∷◌, ◌++◌, length, Some, refl, ap, ◌∙◌, arith, Less, Equal, Greater, is_eq, is_le, nat_list_cmp_total, find, put, by_order, both_ways, Bytes, key_cmp, all-each, IsSorted, IsBelowAll, turned, parts, less, both, is_less, below_right, below_later, find_none, AreBelow, starts_by}
+use Rattle.std.proofs.Common.{◌≡◌, ◌<◌, true, false, cond, List, [], ◌∷◌, ◌++◌, length, Some, refl, ap, ◌∙◌, arith}
+use Rattle.std.proofs.lemmas.Bool.{both_ways}
+use Rattle.std.proofs.lemmas.Grind.{common_steps}
+use Rattle.std.specs.Cmp.Lexicographic.{nat_list_cmp_total}
+use Rattle.std.specs.FinMap.Entries.{find, put, by_order}
+use Rattle.std.specs.Ordering.{is_eq, is_le}
+use Rattle.std.specs.declared.cmp.Ordering.TheVariants.{Less, Equal, Greater}
+use Rattle.model.proofs.Elements.{all-each}
+use Rattle.model.proofs.Entries.{IsSorted, IsBelowAll, turned}
+use Rattle.model.proofs.InOrder.{parts, less, both, is_less, below_right, below_later, find_none}
 use Rattle.model.proofs.KeyOrder.{less_trans, same_keys, turned_less}
+use Rattle.model.specs.Map.{Bytes, key_cmp}
+use Rattle.sorted_pages.specs.Pages.{AreBelow, starts_by}
 
 pub below_trans : (y x k : Bytes) → key_cmp y x ≡ Less → is_le (key_cmp x k) ≡ true → key_cmp y k ≡ Less
 below_trans y x k lt le = grind (arith, less_trans y x k, same_keys x k)
@@ -44,7 +55,9 @@ module _ {X : Type 0} where
 
   pub filled-put : (k : Bytes) (v : X) (es : List (Bytes × X)) → 0 < length (put key_cmp k v es)
   filled-put k v [] = omega arith
-  filled-put k v (e ∷ es) = elim (key_cmp k e.0) as (λ o. 0 < length (by_order o ((k, v) ∷ e ∷ es) ((e.0, v) ∷ es) (e ∷ put key_cmp k v es))) [ Less ↦ omega arith | Equal ↦ omega arith | Greater ↦ omega arith ]
+  filled-put k v (e ∷ es) =
+      elim (key_cmp k e.0) as (λ o. 0
+      < length (by_order o ((k, v) ∷ e ∷ es) ((e.0, v) ∷ es) (e ∷ put key_cmp k v es))) [ Less ↦ omega arith | Equal ↦ omega arith | Greater ↦ omega arith ]
 
   -- ---- in the middle
 
@@ -71,5 +84,6 @@ module _ {X : Type 0} where
   put_behind k v [] m below = refl
   put_behind k v (e ∷ a) m below = grind (arith, common_steps, turned_less, put_behind k v a m below.1)
 
-  pub put_middle : (k : Bytes) (v : X) (a m b : List (Bytes × X)) → AreBelow k a → IsBelowAll k b → put key_cmp k v (a ++ (m ++ b)) ≡ a ++ (put key_cmp k v m ++ b)
+  pub put_middle : (k : Bytes) (v : X) (a m b : List (Bytes × X)) → AreBelow k a → IsBelowAll k b
+      → put key_cmp k v (a ++ (m ++ b)) ≡ a ++ (put key_cmp k v m ++ b)
   put_middle k v a m b below above = put_behind k v a (m ++ b) below ∙ ap (λ l. a ++ l) (put_left k v m b above)

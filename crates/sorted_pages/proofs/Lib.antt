@@ -4,4 +4,3 @@ pub mod Placings
 pub mod Seen
 pub mod Tails
 pub mod Values
-pub mod Words

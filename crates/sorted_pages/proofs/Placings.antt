@@ -1,20 +1,43 @@
 -- Pages: where a key stands among them, and what a changed page does to all entries and to the rooms.
-use Rattle.sorted_pages.proofs.Words.{common_steps, ◌≡◌, ℕ, zero, suc, max, ◌+◌, ◌-◌, ◌*◌, ◌<◌, ◌≤◌, Bool, true, false, List, [], ◌∷◌, ◌++◌, length, get_or, set, take, drop, min, refl, sym, ap, subst, ◌∙◌, arith, inl, inr, if◌then◌else◌, ◌⊎◌, AllByRecursion, insert, is_le, nat_list_cmp_total, find, put, is_sorted-put, both_ways, cases_Bool, append_assoc, append-nil, length-append, length-set, set_at, get_or_at, get_or-drop, length-take, length-drop, take-append-drop, Bytes, key_cmp, all-append, all-front, all-back, IsSorted, IsBelowAll, below_left, below_right, sorted_left, sorted_right, parts, AreAllFull, AreFull, AreTight, Page, entries, starts_by, last_room, room_at, last_page, count_at, page_entries, stands_behind, IsHalved, AreLoose, IsFilled, AreRestFilled, IsInOrder, AreBelow, IsPlace, IsRoomier, StaysTight}
+use Rattle.std.proofs.Common.{◌≡◌, ℕ, zero, suc, max, ◌+◌, ◌-◌, ◌*◌, ◌<◌, ◌≤◌, Bool, true, false, List, [], ◌∷◌, ◌++◌}
+use Rattle.std.proofs.Common.{length, get_or, set, take, drop, min, refl, sym, ap, subst, ◌∙◌, arith, inl, inr}
+use Rattle.std.proofs.Math.Seq.{drop-cons}
+use Rattle.std.proofs.lemmas.Bool.{both_ways, cases_Bool}
+use Rattle.std.proofs.lemmas.Grind.{common_steps}
+use Rattle.std.proofs.lemmas.List.{append_assoc, append-nil, length-append, length-set, set_at, get_or_at}
+use Rattle.std.proofs.lemmas.List.{get_or-drop, length-take, length-drop, take-append-drop}
+use Rattle.std.proofs.lemmas.List.Edits.{length-insert}
+use Rattle.std.proofs.lemmas.List.Elements.{All-from_get_or, recursion_from_All}
+use Rattle.std.specs.Cmp.Lexicographic.{nat_list_cmp_total}
+use Rattle.std.specs.FinMap.Entries.{find, put, is_sorted-put}
+use Rattle.std.specs.List.{AllByRecursion, insert}
 use Rattle.std.specs.List.Sorted.{IsPartitionedBy, IsPartitionPoint}
-use Rattle.std.proofs.{lemmas.List.Edits.length-insert, lemmas.List.Elements.All-from_get_or, lemmas.List.Elements.recursion_from_All, Math.Seq.drop-cons}
-use Rattle.sorted_pages.proofs.Keys.{below_of, above_of, first_of, starts_lower, starts-append, starts-put, filled-put, find_middle, put_middle}
+use Rattle.std.specs.Ordering.{is_le}
+use Rattle.std.specs.Prelude.{if◌then◌else◌, ◌⊎◌}
+use Rattle.model.proofs.Elements.{all-append, all-front, all-back}
+use Rattle.model.proofs.Entries.{IsSorted, IsBelowAll}
+use Rattle.model.proofs.InOrder.{below_left, below_right, sorted_left, sorted_right, parts}
+use Rattle.model.specs.Map.{Bytes, key_cmp}
+use Rattle.sorted_pages.proofs.Keys.{below_of, above_of, first_of, starts_lower, starts-append, starts-put}
+use Rattle.sorted_pages.proofs.Keys.{filled-put, find_middle, put_middle}
+use Rattle.sorted_pages.specs.Pages.{AreAllFull, AreFull, AreTight, Page, entries, starts_by, last_room, room_at}
+use Rattle.sorted_pages.specs.Pages.{last_page, count_at, page_entries, stands_behind, IsHalved, AreLoose, IsFilled}
+use Rattle.sorted_pages.specs.Pages.{AreRestFilled, IsInOrder, AreBelow, IsPlace, IsRoomier, StaysTight}
 
 -- ---- lists
 
-two_rooms : (a b c : Bool) (p lo up n : ℕ) → a ≡ b → p ≤ lo → p ≤ up → (c ≡ true → b ≡ true) → (if a then p else n) ≤ (if c then up else (if b then lo else n)) + 0
+two_rooms : (a b c : Bool) (p lo up n : ℕ) → a ≡ b → p ≤ lo → p ≤ up → (c ≡ true → b ≡ true)
+    → (if a then p else n) ≤ (if c then up else (if b then lo else n)) + 0
 two_rooms a b c p lo up n same l u h = grind (arith, common_steps, both_ways)
 
 -- a list in two parts, each with an element
-pub halves : {E : Type 0} (es lo up : List E) (half : ℕ) → lo ≡ take half es → up ≡ drop half es → half ≤ length es - 1 → ¬ (half ≡ 0) → record { same : es ≡ lo ++ up; lower : 0 < length lo; upper : 0 < length up }
+pub halves : {E : Type 0} (es lo up : List E) (half : ℕ) → lo ≡ take half es → up ≡ drop half es → half ≤ length es - 1 → ¬ (half ≡ 0)
+    → record { same : es ≡ lo ++ up; lower : 0 < length lo; upper : 0 < length up }
 halves es lo up half l u within some = grind (arith, common_steps, min, length-take, length-drop, take-append-drop)
 
 -- the lists are longer by the page that comes in
-pub one_longer : {E : Type 0} (old ps new : List E) (i n : ℕ) (lo up : E) → old ≡ ps → n ≡ i + 1 → i < length ps → new ≡ insert (set ps i lo) n up → length new ≡ length old + 1
+pub one_longer : {E : Type 0} (old ps new : List E) (i n : ℕ) (lo up : E) → old ≡ ps → n ≡ i + 1 → i < length ps → new ≡ insert (set ps i lo) n up
+    → length new ≡ length old + 1
 one_longer old ps new i n lo up same next lt is = grind (arith, common_steps, length-insert, length-set)
 
 module _ {X : Type 0} where
@@ -24,11 +47,13 @@ module _ {X : Type 0} where
   entries-append [] bs = refl
   entries-append (p ∷ us) bs = ap (λ l. p.0 ++ l) (entries-append us bs) ∙ sym (append_assoc p.0 (entries us) (entries bs))
 
-  pub sorted_parts : (before : List (Page X)) (page : Page X) (after : List (Page X)) → IsSorted (entries (before ++ page ∷ after)) → IsSorted (entries before ++ (page.0 ++ entries after))
+  pub sorted_parts : (before : List (Page X)) (page : Page X) (after : List (Page X)) → IsSorted (entries (before ++ page ∷ after))
+      → IsSorted (entries before ++ (page.0 ++ entries after))
   sorted_parts before page after h = subst (λ (l : List (Bytes × X)). IsSorted l) (entries-append before (page ∷ after)) h
 
   pub sorted_page : (before : List (Page X)) (page : Page X) (after : List (Page X)) → IsSorted (entries (before ++ page ∷ after)) → IsSorted page.0
-  sorted_page before page after h = sorted_left key_cmp page.0 (entries after) (sorted_right key_cmp (entries before) (page.0 ++ entries after) (sorted_parts before page after h))
+  sorted_page before page after h =
+      sorted_left key_cmp page.0 (entries after) (sorted_right key_cmp (entries before) (page.0 ++ entries after) (sorted_parts before page after h))
 
   rest_of_all : (ps : List (Page X)) → AllByRecursion IsFilled ps → AreRestFilled ps
   rest_of_all ps h = grind (arith, common_steps)
@@ -43,12 +68,14 @@ module _ {X : Type 0} where
 
   -- ---- where a key stands
 
-  heads : (x k : Bytes) (ps : List (Page X)) (j : ℕ) (d : Page X) → IsBelowAll x (entries ps) → AllByRecursion IsFilled ps → j < length ps → starts_by k (get_or ps j d).0 ≡ true → is_le (key_cmp x k) ≡ true
+  heads : (x k : Bytes) (ps : List (Page X)) (j : ℕ) (d : Page X) → IsBelowAll x (entries ps) → AllByRecursion IsFilled ps → j < length ps
+      → starts_by k (get_or ps j d).0 ≡ true → is_le (key_cmp x k) ≡ true
   heads x k [] j d h f lt t = absurd (omega arith)
   heads x k (p ∷ ps) zero d h f lt t = ap is_le (first_of x k p.0 (below_left key_cmp x p.0 (entries ps) h) f.0 t)
   heads x k (p ∷ ps) (suc j) d h f lt t = heads x k ps j d (below_right key_cmp x p.0 (entries ps) h) f.1 (omega arith) t
 
-  starts_too : (k : Bytes) (es : List (Bytes × X)) (ps : List (Page X)) (j : ℕ) (d : Page X) → IsSorted (es ++ entries ps) → AllByRecursion IsFilled ps → j < length ps → starts_by k (get_or ps j d).0 ≡ true → starts_by k es ≡ true
+  starts_too : (k : Bytes) (es : List (Bytes × X)) (ps : List (Page X)) (j : ℕ) (d : Page X) → IsSorted (es ++ entries ps) → AllByRecursion IsFilled ps
+      → j < length ps → starts_by k (get_or ps j d).0 ≡ true → starts_by k es ≡ true
   starts_too k es ps j d h f lt t = grind (arith, common_steps, heads, below_right, parts)
 
   -- the pages that start by k come first
@@ -59,21 +86,25 @@ module _ {X : Type 0} where
   parted k (p ∷ ps) h f (suc i) zero d le lt t = absurd (omega arith)
   parted k (p ∷ ps) h f (suc i) (suc j) d le lt t = parted k ps (sorted_right key_cmp p.0 (entries ps) h) (rest_of_all ps f) i j d (omega arith) (omega arith) t
 
-  all_above : (k : Bytes) (ps : List (Page X)) → IsSorted (entries ps) → AllByRecursion IsFilled ps → AllByRecursion (λ (p : Page X). starts_by k p.0 ≡ false) ps → IsBelowAll k (entries ps)
+  all_above : (k : Bytes) (ps : List (Page X)) → IsSorted (entries ps) → AllByRecursion IsFilled ps
+      → AllByRecursion (λ (p : Page X). starts_by k p.0 ≡ false) ps → IsBelowAll k (entries ps)
   all_above k [] h f n = tt
   all_above k (p ∷ ps) h f n = above_of k p.0 (entries ps) h f.0 n.0
 
-  all_below : (k : Bytes) (before : List (Page X)) (page : Page X) (after : List (Page X)) → IsInOrder (before ++ page ∷ after) → (0 < length before → starts_by k page.0 ≡ true) → AreBelow k (entries before)
+  all_below : (k : Bytes) (before : List (Page X)) (page : Page X) (after : List (Page X)) → IsInOrder (before ++ page ∷ after)
+      → (0 < length before → starts_by k page.0 ≡ true) → AreBelow k (entries before)
   all_below k [] page after h t = tt
   all_below k (b ∷ before) page after h t =
       let filled = page_filled (b ∷ before) page after (omega arith) h.filled in
       below_of k (entries (b ∷ before)) page.0 (entries after) (sorted_parts (b ∷ before) page after h.sorted) filled (t (omega arith))
 
-  later_above : (k : Bytes) (before : List (Page X)) (page : Page X) (after : List (Page X)) → IsInOrder (before ++ page ∷ after) → AllByRecursion (λ (p : Page X). starts_by k p.0 ≡ false) after → IsBelowAll k (entries after)
+  later_above : (k : Bytes) (before : List (Page X)) (page : Page X) (after : List (Page X)) → IsInOrder (before ++ page ∷ after)
+      → AllByRecursion (λ (p : Page X). starts_by k p.0 ≡ false) after → IsBelowAll k (entries after)
   later_above k before page after h n = grind (arith, common_steps, all_above, sorted_right, sorted_parts, after_filled)
 
   -- the last page that starts by k, and the first where none does
-  pub placed : (k : Bytes) (ps : List (Page X)) (c i : ℕ) → IsInOrder ps → 0 < length ps → c ≤ length ps → i ≡ c - 1 → IsPartitionPoint (λ (p : Page X). starts_by k p.0 ≡ true) (λ (p : Page X). starts_by k p.0 ≡ false) ps c → IsPlace ps k i
+  pub placed : (k : Bytes) (ps : List (Page X)) (c i : ℕ) → IsInOrder ps → 0 < length ps → c ≤ length ps → i ≡ c - 1
+      → IsPartitionPoint (λ (p : Page X). starts_by k p.0 ≡ true) (λ (p : Page X). starts_by k p.0 ≡ false) ps c → IsPlace ps k i
   placed k [] c i h some le e point = absurd (omega arith)
   placed k (p ∷ rest) c i h some le e point =
       let ps = p ∷ rest in
@@ -83,7 +114,8 @@ module _ {X : Type 0} where
       let is : ps ≡ take i ps ++ page ∷ drop (suc i) ps = sym (take-append-drop i ps) ∙ ap (λ l. take i ps ++ l) (drop-cons ps i p lt) in
       let g : IsInOrder (take i ps ++ page ∷ drop (suc i) ps) = subst (λ (l : List (Page X)). IsInOrder l) is h in
       let fails = λ (q : Page X). f q ≡ false in
-      let behind = All-from_get_or fails (drop (suc i) ps) p (λ j l. ap f (get_or-drop (suc i) ps j p) ∙ point.1 (suc i + j) p (omega arith) (omega (arith, length-drop (suc i) ps))) in
+      let behind = All-from_get_or fails (drop (suc i) ps) p (λ j l. ap f (get_or-drop (suc i) ps j p)
+      ∙ point.1 (suc i + j) p (omega arith) (omega (arith, length-drop (suc i) ps))) in
       let later = recursion_from_All fails (drop (suc i) ps) behind in
       grind (arith, common_steps, all_below, later_above)
 
@@ -106,7 +138,8 @@ module _ {X : Type 0} where
   page_sorted ps k i p w is h = grind (arith, common_steps, page_is, sorted_page)
 
   -- the key is looked for in that page
-  pub find_at : (ps : List (Page X)) (k : Bytes) (i : ℕ) (p : Page X) (w : IsPlace ps k i) → p ≡ get_or ps i p → find key_cmp k (entries ps) ≡ find key_cmp k p.0
+  pub find_at : (ps : List (Page X)) (k : Bytes) (i : ℕ) (p : Page X) (w : IsPlace ps k i) → p ≡ get_or ps i p
+      → find key_cmp k (entries ps) ≡ find key_cmp k p.0
   find_at ps k i p w is =
       ap (find key_cmp k) (entries_at ps k i w)
       ∙ find_middle k (entries w.before) w.page.0 (entries w.after) w.below w.above
@@ -122,7 +155,8 @@ module _ {X : Type 0} where
   last_page-none r k [] h = refl
   last_page-none r k (p ∷ ps) h = ap (λ b. last_page (if b then p else r) k ps) h.0 ∙ last_page-none r k ps h.1
 
-  page_here : (r : Page X) (k : Bytes) (before : List (Page X)) (page : Page X) (after : List (Page X)) → starts_by k page.0 ≡ true → AllByRecursion (λ (p : Page X). starts_by k p.0 ≡ false) after → last_page r k (before ++ page ∷ after) ≡ page
+  page_here : (r : Page X) (k : Bytes) (before : List (Page X)) (page : Page X) (after : List (Page X)) → starts_by k page.0 ≡ true
+      → AllByRecursion (λ (p : Page X). starts_by k p.0 ≡ false) after → last_page r k (before ++ page ∷ after) ≡ page
   page_here r k [] page after t n = ap (λ b. last_page (if b then page else r) k after) t ∙ last_page-none page k after n
   page_here r k (b ∷ before) page after t n = page_here (if starts_by k b.0 then b else r) k before page after t n
 
@@ -131,8 +165,10 @@ module _ {X : Type 0} where
   room-page r k (p ∷ ps) = grind (arith, room-page p k ps, room-page r k ps)
 
   -- what is asked of the last page that starts by k is that of the page where it stands
-  module _ {Y : Type 0} (F : Page X → Y) (at : List (Page X) → Y) (k : Bytes) (asks : (p : Page X) (ps : List (Page X)) → at (p ∷ ps) ≡ F (last_page p k ps)) where
-    asked_here : (before : List (Page X)) (page : Page X) (after : List (Page X)) → (0 < length before → starts_by k page.0 ≡ true) → AllByRecursion (λ (p : Page X). starts_by k p.0 ≡ false) after → at (before ++ page ∷ after) ≡ F page
+  module _ {Y : Type 0} (F : Page X → Y) (at : List (Page X) → Y) (k : Bytes) (asks : (p : Page X) (ps : List (Page X))
+      → at (p ∷ ps) ≡ F (last_page p k ps)) where
+    asked_here : (before : List (Page X)) (page : Page X) (after : List (Page X)) → (0 < length before → starts_by k page.0 ≡ true)
+        → AllByRecursion (λ (p : Page X). starts_by k p.0 ≡ false) after → at (before ++ page ∷ after) ≡ F page
     asked_here [] page after s n = asks page after ∙ ap F (last_page-none page k after n)
     asked_here (b ∷ before) page after s n = asks b (before ++ page ∷ after) ∙ ap F (page_here b k before page after (s (omega arith)) n)
 
@@ -143,45 +179,55 @@ module _ {X : Type 0} where
     asked_changed : (ps : List (Page X)) (i : ℕ) (p r : Page X) → IsPlace ps k i → p ≡ get_or ps i p → r.0 ≡ p.0 → at (set ps i r) ≡ F r
     asked_changed ps i p r w is same =
         ap at (set_is ps k i r w)
-        ∙ asked_here w.before r w.after (λ lt. ap (starts_by k) (same ∙ ap (λ (q : Page X). q.0) (page_is ps k i p w is)) ∙ w.starts (let e = w.index in omega arith)) w.later
+        ∙ asked_here w.before r w.after (λ lt. ap (starts_by k) (same ∙ ap (λ (q : Page X). q.0) (page_is ps k i p w is))
+        ∙ w.starts (let e = w.index in omega arith)) w.later
 
   pub room_of : (ps : List (Page X)) (k : Bytes) (i : ℕ) (p : Page X) (w : IsPlace ps k i) → p ≡ get_or ps i p → room_at k ps ≡ p.1
   room_of ps k i p w is = asked_at (λ q. q.1) (room_at k) k (λ q qs. room-page q k qs) ps i p w is
 
-  count_here : (k : Bytes) (before : List (Page X)) (page : Page X) (after : List (Page X)) → (0 < length before → starts_by k page.0 ≡ true) → AllByRecursion (λ (p : Page X). starts_by k p.0 ≡ false) after → count_at k (before ++ page ∷ after) ≡ length page.0
+  count_here : (k : Bytes) (before : List (Page X)) (page : Page X) (after : List (Page X)) → (0 < length before → starts_by k page.0 ≡ true)
+      → AllByRecursion (λ (p : Page X). starts_by k p.0 ≡ false) after → count_at k (before ++ page ∷ after) ≡ length page.0
   count_here k before page after s n = asked_here (λ q. length q.0) (count_at k) k (λ q qs. refl) before page after s n
 
   pub count_of : (ps : List (Page X)) (k : Bytes) (i : ℕ) (p : Page X) (w : IsPlace ps k i) → p ≡ get_or ps i p → count_at k ps ≡ length p.0
   count_of ps k i p w is = asked_at (λ q. length q.0) (count_at k) k (λ q qs. refl) ps i p w is
 
-  behind_more : (d : ℕ) (q : Bytes) (xs ys : List (Page X)) → ((n : ℕ) → last_room n q xs ≤ last_room n q ys + d) → (n : ℕ) (before : List (Page X)) → last_room n q (before ++ xs) ≤ last_room n q (before ++ ys) + d
+  behind_more : (d : ℕ) (q : Bytes) (xs ys : List (Page X)) → ((n : ℕ) → last_room n q xs ≤ last_room n q ys + d) → (n : ℕ) (before : List (Page X))
+      → last_room n q (before ++ xs) ≤ last_room n q (before ++ ys) + d
   behind_more d q xs ys more n [] = more n
   behind_more d q xs ys more n (b ∷ before) = behind_more d q xs ys more (if starts_by q b.0 then b.1 else n) before
 
   -- another page in its place, with d less room at most
-  pub room-replaced : (d : ℕ) (q : Bytes) (before : List (Page X)) (p r : Page X) (after : List (Page X)) → p.1 ≤ r.1 + d → (0 < length before → starts_by q r.0 ≡ starts_by q p.0)
+  pub room-replaced : (d : ℕ) (q : Bytes) (before : List (Page X)) (p r : Page X) (after : List (Page X)) → p.1 ≤ r.1 + d
+      → (0 < length before → starts_by q r.0 ≡ starts_by q p.0)
       → room_at q (before ++ p ∷ after) ≤ room_at q (before ++ r ∷ after) + d
   room-replaced d q [] p r after h s = last_room-more d p.1 r.1 q after h
   room-replaced d q (b ∷ before) p r after h s =
       let same = s (omega arith) in
-      behind_more d q (p ∷ after) (r ∷ after) (λ n. last_room-more d (if starts_by q p.0 then p.1 else n) (if starts_by q r.0 then r.1 else n) q after (grind (arith, same, h))) b.1 before
+      behind_more d q (p ∷ after) (r
+      ∷ after) (λ n. last_room-more d (if starts_by q p.0 then p.1 else n) (if starts_by q r.0 then r.1 else n) q after (grind (arith, same, h))) b.1 before
 
-  pub room-split : (q : Bytes) (before : List (Page X)) (p lo up : Page X) (after : List (Page X)) → p.1 ≤ lo.1 → p.1 ≤ up.1 → starts_by q p.0 ≡ starts_by q lo.0 → (starts_by q up.0 ≡ true → starts_by q lo.0 ≡ true)
+  pub room-split : (q : Bytes) (before : List (Page X)) (p lo up : Page X) (after : List (Page X)) → p.1 ≤ lo.1 → p.1 ≤ up.1
+      → starts_by q p.0 ≡ starts_by q lo.0 → (starts_by q up.0 ≡ true → starts_by q lo.0 ≡ true)
       → room_at q (before ++ p ∷ after) ≤ room_at q (before ++ lo ∷ up ∷ after) + 0
   room-split q [] p lo up after l u s t = last_room-more 0 p.1 (if starts_by q up.0 then up.1 else lo.1) q after (grind (arith, l, u))
   room-split q (b ∷ before) p lo up after l u s t =
       let here = λ (n : ℕ). two_rooms (starts_by q p.0) (starts_by q lo.0) (starts_by q up.0) p.1 lo.1 up.1 n s l u t in
-      behind_more 0 q (p ∷ after) (lo ∷ up ∷ after) (λ n. last_room-more 0 (if starts_by q p.0 then p.1 else n) (if starts_by q up.0 then up.1 else (if starts_by q lo.0 then lo.1 else n)) q after (here n)) b.1 before
+      behind_more 0 q (p ∷ after) (lo ∷ up
+      ∷ after) (λ n. last_room-more 0 (if starts_by q p.0 then p.1 else n) (if starts_by q up.0 then up.1 else (if starts_by q lo.0 then lo.1 else n)) q
+      after (here n)) b.1 before
 
   -- ---- a changed page
 
-  swap_filled : (before : List (Page X)) (p r : Page X) (after : List (Page X)) → (IsFilled p → IsFilled r) → AreRestFilled (before ++ p ∷ after) → AreRestFilled (before ++ r ∷ after)
+  swap_filled : (before : List (Page X)) (p r : Page X) (after : List (Page X)) → (IsFilled p → IsFilled r) → AreRestFilled (before ++ p ∷ after)
+      → AreRestFilled (before ++ r ∷ after)
   swap_filled [] p r after g h = h
   swap_filled (b ∷ bs) p r after g h =
       let back = all-back IsFilled bs (p ∷ after) h in
       all-append IsFilled bs (r ∷ after) (all-front IsFilled bs (p ∷ after) h) (g back.0, back.1)
 
-  two_filled : (before : List (Page X)) (p lo up : Page X) (after : List (Page X)) → IsFilled lo → IsFilled up → AreRestFilled (before ++ p ∷ after) → AreRestFilled (before ++ lo ∷ up ∷ after)
+  two_filled : (before : List (Page X)) (p lo up : Page X) (after : List (Page X)) → IsFilled lo → IsFilled up → AreRestFilled (before ++ p ∷ after)
+      → AreRestFilled (before ++ lo ∷ up ∷ after)
   two_filled [] p lo up after f g h = (g, h)
   two_filled (b ∷ bs) p lo up after f g h =
       all-append IsFilled bs (lo ∷ up ∷ after) (all-front IsFilled bs (p ∷ after) h) (f, (g, (all-back IsFilled bs (p ∷ after) h).1))
@@ -196,14 +242,17 @@ module _ {X : Type 0} where
 
   grown_parts : (b : List (Page X)) (p r : Page X) (a : List (Page X)) → IsInOrder (b ++ p ∷ a) → r.0 ≡ p.0 → p.1 ≤ r.1 → Grown (b ++ p ∷ a) (b ++ r ∷ a)
   grown_parts b p r a h same le =
-      let e : entries (b ++ r ∷ a) ≡ entries (b ++ p ∷ a) = entries-append b (r ∷ a) ∙ ap (λ (l : List (Bytes × X)). entries b ++ (l ++ entries a)) same ∙ sym (entries-append b (p ∷ a)) in
+      let e : entries (b ++ r ∷ a) ≡ entries (b ++ p ∷ a) =
+      entries-append b (r ∷ a) ∙ ap (λ (l : List (Bytes × X)). entries b ++ (l ++ entries a)) same ∙ sym (entries-append b (p ∷ a)) in
       record {
         order = same_order (b ++ p ∷ a) (b ++ r ∷ a) e (swap_filled b p r a (λ f. subst (λ (l : List (Bytes × X)). 0 < length l) (sym same) f) h.filled) h;
         roomier = record { entries = e; rooms = λ q. omega (arith, room-replaced 0 q b p r a (omega arith) (λ lt. ap (starts_by q) same)) };
       }
 
-  split_parts : (b : List (Page X)) (p lo up : Page X) (a : List (Page X)) → IsInOrder (b ++ p ∷ a) → p.0 ≡ lo.0 ++ up.0 → IsFilled lo → IsFilled up → p.1 ≤ lo.1 → p.1 ≤ up.1 → Grown (b ++ p ∷ a) (b ++ lo ∷ up ∷ a)
-  split_parts b p lo up a h same f g l u = grind (arith, common_steps, entries-append, append_assoc, halves, sorted_page, same_order, two_filled, room-split, starts-append, starts_lower)
+  split_parts : (b : List (Page X)) (p lo up : Page X) (a : List (Page X)) → IsInOrder (b ++ p ∷ a) → p.0 ≡ lo.0 ++ up.0 → IsFilled lo → IsFilled up
+      → p.1 ≤ lo.1 → p.1 ≤ up.1 → Grown (b ++ p ∷ a) (b ++ lo ∷ up ∷ a)
+  split_parts b p lo up a h same f g l u =
+      grind (arith, common_steps, entries-append, append_assoc, halves, sorted_page, same_order, two_filled, room-split, starts-append, starts_lower)
 
   -- pages with an entry more
   pub record Inserted (k : Bytes) (v : X) (old new : List (Page X)) : Type 0 where
@@ -211,7 +260,8 @@ module _ {X : Type 0} where
     pub entries : entries new ≡ put key_cmp k v (entries old)
     pub rooms : (q : Bytes) → room_at q old ≤ room_at q new + 1
 
-  inserted_parts : (k : Bytes) (v : X) (b : List (Page X)) (p r : Page X) (a : List (Page X)) → IsInOrder (b ++ p ∷ a) → AreBelow k (entries b) → IsBelowAll k (entries a) → (0 < length b → starts_by k p.0 ≡ true)
+  inserted_parts : (k : Bytes) (v : X) (b : List (Page X)) (p r : Page X) (a : List (Page X)) → IsInOrder (b ++ p ∷ a) → AreBelow k (entries b)
+      → IsBelowAll k (entries a) → (0 < length b → starts_by k p.0 ≡ true)
       → r.0 ≡ put key_cmp k v p.0 → p.1 ≤ r.1 + 1 → Inserted k v (b ++ p ∷ a) (b ++ r ∷ a)
   inserted_parts k v b p r a h below above starts same le =
       let e : entries (b ++ r ∷ a) ≡ put key_cmp k v (entries (b ++ p ∷ a)) =
@@ -228,63 +278,78 @@ module _ {X : Type 0} where
 
   -- ---- the same at a place
 
-  pub grown : (ps : List (Page X)) (k : Bytes) (i : ℕ) (p r : Page X) → IsPlace ps k i → p ≡ get_or ps i p → IsInOrder ps → r.0 ≡ p.0 → p.1 ≤ r.1 → Grown ps (set ps i r)
+  pub grown : (ps : List (Page X)) (k : Bytes) (i : ℕ) (p r : Page X) → IsPlace ps k i → p ≡ get_or ps i p → IsInOrder ps → r.0 ≡ p.0 → p.1 ≤ r.1
+      → Grown ps (set ps i r)
   grown ps k i p r w is h same le =
       let e = page_is ps k i p w is in
-      rw (set_is ps k i r w, w.is) (grown_parts w.before w.page r w.after (rw w.is at h) (same ∙ ap (λ (q : Page X). q.0) e) (subst (λ (q : Page X). q.1 ≤ r.1) e le))
+      rw (set_is ps k i r w, w.is)
+      (grown_parts w.before w.page r w.after (rw w.is at h) (same ∙ ap (λ (q : Page X). q.0) e) (subst (λ (q : Page X). q.1 ≤ r.1) e le))
 
   -- the room for the key is now that page's
   pub room_grown : (ps : List (Page X)) (k : Bytes) (i : ℕ) (p r : Page X) → IsPlace ps k i → p ≡ get_or ps i p → r.0 ≡ p.0 → room_at k (set ps i r) ≡ r.1
   room_grown ps k i p r w is same = asked_changed (λ q. q.1) (room_at k) k (λ q qs. room-page q k qs) ps i p r w is same
 
-  pub count_grown : (ps : List (Page X)) (k : Bytes) (i : ℕ) (p r : Page X) → IsPlace ps k i → p ≡ get_or ps i p → r.0 ≡ p.0 → count_at k (set ps i r) ≡ count_at k ps
+  pub count_grown : (ps : List (Page X)) (k : Bytes) (i : ℕ) (p r : Page X) → IsPlace ps k i → p ≡ get_or ps i p → r.0 ≡ p.0
+      → count_at k (set ps i r) ≡ count_at k ps
   count_grown ps k i p r w is same =
       asked_changed (λ q. length q.0) (count_at k) k (λ q qs. refl) ps i p r w is same ∙ ap length same ∙ sym (count_of ps k i p w is)
 
-  pub inserted : (ps : List (Page X)) (k : Bytes) (v : X) (i : ℕ) (p r : Page X) → IsPlace ps k i → p ≡ get_or ps i p → IsInOrder ps → r.0 ≡ put key_cmp k v p.0 → p.1 ≤ r.1 + 1 → Inserted k v ps (set ps i r)
+  pub inserted : (ps : List (Page X)) (k : Bytes) (v : X) (i : ℕ) (p r : Page X) → IsPlace ps k i → p ≡ get_or ps i p → IsInOrder ps → r.0 ≡ put key_cmp k v p.0
+      → p.1 ≤ r.1 + 1 → Inserted k v ps (set ps i r)
   inserted ps k v i p r w is h same le =
       let e = page_is ps k i p w is in
       rw (set_is ps k i r w, w.is)
-      (inserted_parts k v w.before w.page r w.after (rw w.is at h) w.below w.above (λ lt. w.starts (let n = w.index in omega arith)) (same ∙ ap (λ (q : Page X). put key_cmp k v q.0) e) (subst (λ (q : Page X). q.1 ≤ r.1 + 1) e le))
+      (inserted_parts k v w.before w.page r w.after (rw w.is at h) w.below w.above (λ lt. w.starts (let n = w.index in omega arith)) (same
+      ∙ ap (λ (q : Page X). put key_cmp k v q.0) e) (subst (λ (q : Page X). q.1 ≤ r.1 + 1) e le))
 
   insert_after : (b : List (Page X)) (lo up : Page X) (a : List (Page X)) → insert (b ++ lo ∷ a) (suc (length b)) up ≡ b ++ lo ∷ up ∷ a
   insert_after [] lo up a = refl
   insert_after (c ∷ b) lo up a = ap (λ l. c ∷ l) (insert_after b lo up a)
 
-  pub split_is : (ps : List (Page X)) (k : Bytes) (i n : ℕ) (lo up : Page X) (w : IsPlace ps k i) → n ≡ i + 1 → insert (set ps i lo) n up ≡ w.before ++ lo ∷ up ∷ w.after
+  pub split_is : (ps : List (Page X)) (k : Bytes) (i n : ℕ) (lo up : Page X) (w : IsPlace ps k i) → n ≡ i + 1
+      → insert (set ps i lo) n up ≡ w.before ++ lo ∷ up ∷ w.after
   split_is ps k i n lo up w e =
       let at : n ≡ suc (length w.before) = (let s = w.index in omega arith) in
       ap (λ (l : List (Page X)). insert l n up) (set_is ps k i lo w) ∙ ap (λ m. insert (w.before ++ lo ∷ w.after) m up) at ∙ insert_after w.before lo up w.after
 
-  pub split : (ps : List (Page X)) (k : Bytes) (i n : ℕ) (p lo up : Page X) → IsPlace ps k i → p ≡ get_or ps i p → IsInOrder ps → n ≡ i + 1 → p.0 ≡ lo.0 ++ up.0 → IsFilled lo → IsFilled up → p.1 ≤ lo.1 → p.1 ≤ up.1 → Grown ps (insert (set ps i lo) n up)
+  pub split : (ps : List (Page X)) (k : Bytes) (i n : ℕ) (p lo up : Page X) → IsPlace ps k i → p ≡ get_or ps i p → IsInOrder ps → n ≡ i + 1 → p.0 ≡ lo.0 ++ up.0
+      → IsFilled lo → IsFilled up → p.1 ≤ lo.1 → p.1 ≤ up.1 → Grown ps (insert (set ps i lo) n up)
   split ps k i n p lo up w is h at same f g l u =
       let e = page_is ps k i p w is in
       rw (split_is ps k i n lo up w at, w.is)
-      (split_parts w.before w.page lo up w.after (rw w.is at h) (sym (ap (λ (q : Page X). q.0) e) ∙ same) f g (subst (λ (q : Page X). q.1 ≤ lo.1) e l) (subst (λ (q : Page X). q.1 ≤ up.1) e u))
+      (split_parts w.before w.page lo up w.after (rw w.is at h) (sym (ap (λ (q : Page X). q.0) e)
+      ∙ same) f g (subst (λ (q : Page X). q.1 ≤ lo.1) e l) (subst (λ (q : Page X). q.1 ≤ up.1) e u))
 
   -- the key stands in one part or the other
-  pub split_count : (ps : List (Page X)) (k : Bytes) (i n : ℕ) (p lo up : Page X) → IsPlace ps k i → p ≡ get_or ps i p → n ≡ i + 1 → p.0 ≡ lo.0 ++ up.0 → IsFilled lo
+  pub split_count : (ps : List (Page X)) (k : Bytes) (i n : ℕ) (p lo up : Page X) → IsPlace ps k i → p ≡ get_or ps i p → n ≡ i + 1 → p.0 ≡ lo.0 ++ up.0
+      → IsFilled lo
       → (count_at k (insert (set ps i lo) n up) ≡ length lo.0) ⊎ (count_at k (insert (set ps i lo) n up) ≡ length up.0)
   split_count ps k i n p lo up w is at same f = grind (arith, common_steps, split_is, starts-append, page_is, cases_Bool, append_assoc, count_here)
 
   -- a page that is cut in the middle
-  pub halved : (ps old new : List (Page X)) (k : Bytes) (i n cut : ℕ) (p lo up : Page X) → old ≡ ps → new ≡ insert (set ps i lo) n up → IsPlace ps k i → p ≡ get_or ps i p → n ≡ i + 1 → p.0 ≡ lo.0 ++ up.0 → IsFilled lo
-      → lo.0 ≡ take cut p.0 → cut ≤ length p.0 → (stands_behind k p.0 ≡ false → 2 * cut ≤ length p.0) → (stands_behind k p.0 ≡ false → length p.0 ≤ 2 * cut + 1) → IsHalved k old new
+  pub halved : (ps old new : List (Page X)) (k : Bytes) (i n cut : ℕ) (p lo up : Page X) → old ≡ ps → new ≡ insert (set ps i lo) n up → IsPlace ps k i
+      → p ≡ get_or ps i p → n ≡ i + 1 → p.0 ≡ lo.0 ++ up.0 → IsFilled lo
+      → lo.0 ≡ take cut p.0 → cut ≤ length p.0 → (stands_behind k p.0 ≡ false → 2 * cut ≤ length p.0) → (stands_behind k p.0 ≡ false → length p.0 ≤ 2 * cut + 1)
+      → IsHalved k old new
   halved ps old new k i n cut p lo up was now w is at same f lower within under over =
       let a : length lo.0 ≡ min cut (length p.0) = ap length lower ∙ length-take cut p.0 in
       let b : length p.0 ≡ length lo.0 + length up.0 = ap length same ∙ length-append lo.0 up.0 in
       let before : count_at k old ≡ length p.0 = ap (count_at k) was ∙ count_of ps k i p w is in
       let after = ap (count_at k) now in
-      let here : stands_behind k (page_entries k old) ≡ stands_behind k p.0 = ap (stands_behind k) (ap (page_entries k) was ∙ asked_at (λ q. q.0) (page_entries k) k (λ q qs. refl) ps i p w is) in
+      let here : stands_behind k (page_entries k old) ≡ stands_behind k p.0 =
+      ap (stands_behind k) (ap (page_entries k) was ∙ asked_at (λ q. q.0) (page_entries k) k (λ q qs. refl) ps i p w is) in
       let parts = split_count ps k i n p lo up w is at same f in
       record {
-        low = λ g. (let u = under (sym here ∙ g) in let o = over (sym here ∙ g) in elim parts [ inl e ↦ omega (arith, a, b, before, after, e, u, o) | inr e ↦ omega (arith, a, b, before, after, e, u, o) ]);
-        high = λ g. (let u = under (sym here ∙ g) in let o = over (sym here ∙ g) in elim parts [ inl e ↦ omega (arith, a, b, before, after, e, u, o) | inr e ↦ omega (arith, a, b, before, after, e, u, o) ]);
+        low = λ g. (let u = under (sym here ∙ g) in let o = over (sym here
+            ∙ g) in elim parts [ inl e ↦ omega (arith, a, b, before, after, e, u, o) | inr e ↦ omega (arith, a, b, before, after, e, u, o) ]);
+        high = λ g. (let u = under (sym here ∙ g) in let o = over (sym here
+            ∙ g) in elim parts [ inl e ↦ omega (arith, a, b, before, after, e, u, o) | inr e ↦ omega (arith, a, b, before, after, e, u, o) ]);
       }
 
   -- ---- an entry at the end
 
-  all_set : (P : Page X → Type 0) (qs : List (Page X)) (j : ℕ) (q s : Page X) → q ≡ get_or qs j q → (P q → P s) → AllByRecursion P qs → AllByRecursion P (set qs j s)
+  all_set : (P : Page X → Type 0) (qs : List (Page X)) (j : ℕ) (q s : Page X) → q ≡ get_or qs j q → (P q → P s) → AllByRecursion P qs
+      → AllByRecursion P (set qs j s)
   all_set P qs j q s is f a = grind (arith, common_steps)
 
   -- ---- how much room there is at most
@@ -302,18 +367,22 @@ module _ {X : Type 0} where
   pub tight-set : (n : ℕ) (ps : List (Page X)) (i : ℕ) (p q : Page X) → p ≡ get_or ps i p → q.1 ≤ max p.1 n → StaysTight n ps (set ps i q)
   tight-set n ps i p q is few = record { tight = λ r le h. all_set (λ (s : Page X). s.1 ≤ r) ps i p q is (λ b. omega arith) h }
 
-  pub tight-split : (n : ℕ) (old ps new : List (Page X)) (i j : ℕ) (p lo up : Page X) → old ≡ ps → new ≡ insert (set ps i lo) j up → p ≡ get_or ps i p → lo.1 ≤ n → up.1 ≤ n → StaysTight n old new
+  pub tight-split : (n : ℕ) (old ps new : List (Page X)) (i j : ℕ) (p lo up : Page X) → old ≡ ps → new ≡ insert (set ps i lo) j up → p ≡ get_or ps i p
+      → lo.1 ≤ n → up.1 ≤ n → StaysTight n old new
   tight-split n old ps new i j p lo up was now is low high = grind (arith, common_steps, all_insert, all_set)
 
   pub tight-push : (n : ℕ) (ps new : List (Page X)) (p : Page X) → new ≡ ps ++ p ∷ [] → p.1 ≤ n → StaysTight n ps new
-  tight-push n ps new p now few = record { tight = λ r le h. subst (λ (l : List (Page X)). AreTight r l) (sym now) (all-append (λ (s : Page X). s.1 ≤ r) ps (p ∷ []) h (omega arith, tt)) }
+  tight-push n ps new p now few =
+      record { tight = λ r le h. subst (λ (l : List (Page X)). AreTight r l) (sym now) (all-append (λ (s : Page X). s.1 ≤ r) ps (p ∷ []) h (omega arith, tt)) }
 
   -- an entry more in a page with fewer than 384
-  pub loose-set : (ps : List (Page X)) (e : Bytes × X) (i : ℕ) (p r : Page X) (ok : Bool) → p ≡ get_or ps i p → r.0 ≡ (if ok then p.0 ++ e ∷ [] else p.0) → length p.0 + p.1 ≤ length r.0 + r.1 → length p.0 < 384 → AreLoose ps → AreLoose (set ps i r)
+  pub loose-set : (ps : List (Page X)) (e : Bytes × X) (i : ℕ) (p r : Page X) (ok : Bool) → p ≡ get_or ps i p → r.0 ≡ (if ok then p.0 ++ e ∷ [] else p.0)
+      → length p.0 + p.1 ≤ length r.0 + r.1 → length p.0 < 384 → AreLoose ps → AreLoose (set ps i r)
   loose-set ps e i p r ok is same places lt h = grind (arith, common_steps, length-append, all_set)
 
   -- a page of one entry, with 512 places
-  pub loose-push : (ps : List (Page X)) (e : Bytes × X) (p q : Page X) → q ≡ ([], 512) → p.0 ≡ q.0 ++ e ∷ [] → length q.0 + q.1 ≤ length p.0 + p.1 → AreLoose ps → AreLoose (ps ++ p ∷ [])
+  pub loose-push : (ps : List (Page X)) (e : Bytes × X) (p q : Page X) → q ≡ ([], 512) → p.0 ≡ q.0 ++ e ∷ [] → length q.0 + q.1 ≤ length p.0 + p.1 → AreLoose ps
+      → AreLoose (ps ++ p ∷ [])
   loose-push ps e p q new same places h = all-append _ ps (p ∷ []) h (grind (arith, common_steps), tt)
 
   -- ---- full pages
@@ -340,26 +409,33 @@ module _ {X : Type 0} where
   full-set (q ∷ r ∷ ps) (suc zero) p at h = (h.0, full-set (r ∷ ps) zero p (omega arith) h.1)
   full-set (q ∷ r ∷ ps) (suc (suc i)) p at h = (h.0, full-set (r ∷ ps) (suc i) p (omega arith) h.1)
 
-  pub pushed_page : (ps : List (Page X)) (e : Bytes × X) → IsInOrder ps → IsSorted (entries ps ++ e ∷ []) → (p : Page X) → p.0 ≡ e ∷ [] → record { order : IsInOrder (ps ++ p ∷ []); entries : entries (ps ++ p ∷ []) ≡ entries ps ++ e ∷ [] }
+  pub pushed_page : (ps : List (Page X)) (e : Bytes × X) → IsInOrder ps → IsSorted (entries ps ++ e ∷ []) → (p : Page X) → p.0 ≡ e ∷ []
+      → record { order : IsInOrder (ps ++ p ∷ []); entries : entries (ps ++ p ∷ []) ≡ entries ps ++ e ∷ [] }
   pushed_page ps e h g p is = grind (arith, common_steps, entries-append)
 
   set_filled : (qs : List (Page X)) (j : ℕ) (q s : Page X) → q ≡ get_or qs j q → (IsFilled q → IsFilled s) → AreRestFilled qs → AreRestFilled (set qs j s)
   set_filled qs j q s is f a = grind (arith, common_steps, all_set)
 
-  same_list : (qs : List (Page X)) (j : ℕ) (q s : Page X) (more : List (Bytes × X)) → j + 1 ≡ length qs → q ≡ get_or qs j q → s.0 ≡ q.0 ++ more → entries (set qs j s) ≡ entries qs ++ more
+  same_list : (qs : List (Page X)) (j : ℕ) (q s : Page X) (more : List (Bytes × X)) → j + 1 ≡ length qs → q ≡ get_or qs j q → s.0 ≡ q.0 ++ more
+      → entries (set qs j s) ≡ entries qs ++ more
   same_list [] j q s more n is e = absurd (omega arith)
-  same_list (t ∷ []) zero q s more n is e = append-nil s.0 ∙ e ∙ ap (λ (u : Page X). u.0 ++ more) is ∙ ap (λ (l : List (Bytes × X)). l ++ more) (sym (append-nil t.0))
+  same_list (t ∷ []) zero q s more n is e =
+      append-nil s.0 ∙ e ∙ ap (λ (u : Page X). u.0 ++ more) is ∙ ap (λ (l : List (Bytes × X)). l ++ more) (sym (append-nil t.0))
   same_list (t ∷ u ∷ qs) zero q s more n is e = absurd (omega arith)
-  same_list (t ∷ qs) (suc j) q s more n is e = ap (λ (l : List (Bytes × X)). t.0 ++ l) (same_list qs j q s more (omega arith) is e) ∙ sym (append_assoc t.0 (entries qs) more)
+  same_list (t ∷ qs) (suc j) q s more n is e =
+      ap (λ (l : List (Bytes × X)). t.0 ++ l) (same_list qs j q s more (omega arith) is e) ∙ sym (append_assoc t.0 (entries qs) more)
 
   -- entries at the end of the last page
-  pub pushed_more : (ps : List (Page X)) (more : List (Bytes × X)) (i : ℕ) (p r : Page X) → i + 1 ≡ length ps → p ≡ get_or ps i p → IsInOrder ps → IsSorted (entries ps ++ more) → r.0 ≡ p.0 ++ more
+  pub pushed_more : (ps : List (Page X)) (more : List (Bytes × X)) (i : ℕ) (p r : Page X) → i + 1 ≡ length ps → p ≡ get_or ps i p → IsInOrder ps
+      → IsSorted (entries ps ++ more) → r.0 ≡ p.0 ++ more
       → record { order : IsInOrder (set ps i r); entries : entries (set ps i r) ≡ entries ps ++ more }
   pushed_more ps more i p r at is h g same = grind (arith, common_steps, same_list, set_filled)
 
-  pub pushed_last : (ps : List (Page X)) (e : Bytes × X) (i : ℕ) (p r : Page X) (ok : Bool) → i + 1 ≡ length ps → p ≡ get_or ps i p → IsInOrder ps → IsSorted (entries ps ++ e ∷ []) → r.0 ≡ (if ok then p.0 ++ e ∷ [] else p.0)
+  pub pushed_last : (ps : List (Page X)) (e : Bytes × X) (i : ℕ) (p r : Page X) (ok : Bool) → i + 1 ≡ length ps → p ≡ get_or ps i p → IsInOrder ps
+      → IsSorted (entries ps ++ e ∷ []) → r.0 ≡ (if ok then p.0 ++ e ∷ [] else p.0)
       → record { order : IsInOrder (set ps i r); entries : entries (set ps i r) ≡ (if ok then entries ps ++ e ∷ [] else entries ps) }
   pushed_last ps e i p r true at is h g same = pushed_more ps (e ∷ []) i p r at is h g same
   pushed_last ps e i p r false at is h g same =
-      let s = pushed_more ps [] i p r at is h (subst (λ (l : List (Bytes × X)). IsSorted l) (sym (append-nil (entries ps))) h.sorted) (same ∙ sym (append-nil p.0)) in
+      let s = pushed_more ps [] i p r at is h (subst (λ (l : List (Bytes × X)). IsSorted l) (sym (append-nil (entries ps))) h.sorted) (same
+      ∙ sym (append-nil p.0)) in
       record { order = s.order; entries = s.entries ∙ append-nil (entries ps) }

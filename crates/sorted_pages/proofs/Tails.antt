@@ -1,9 +1,28 @@
 -- The entries of a range: the tail of all entries from its lower bound on, up to its upper bound.
-use Rattle.sorted_pages.proofs.Words.{common_steps, ◌≡◌, ℕ, Bool, true, false, T, not, cond, List, [], ◌∷◌, ◌++◌, take, drop, get_or, ◌+◌, Option, Some, None, refl, sym, ap, subst, ◌∙◌, arith, AllByRecursion, Less, is_lt, is_le, nat_list_cmp_total, where_key, and_parts, and_right, not-true, take-append-drop, append_assoc, Bytes, key_cmp, is_below, is_in_range, all-append, all-each, IsSorted, IsBelowAll, less, sorted_right, parts, Page, entries, IsPlace, IsInOrder, AreBelow, up_to, AreFrom, IsTail, first_key, shown}
-use Rattle.std.proofs.{lemmas.Cmp.tied_itself, Math.Seq.drop-append-add}
-use Rattle.model.specs.Entries.{IsSplit}
+use Rattle.std.proofs.Common.{◌≡◌, ℕ, Bool, true, false, T, not, cond, List, [], ◌∷◌, ◌++◌, take, drop, get_or, ◌+◌}
+use Rattle.std.proofs.Common.{Option, Some, None, refl, sym, ap, subst, ◌∙◌, arith}
+use Rattle.std.proofs.Math.Seq.{drop-append-add}
+use Rattle.std.proofs.lemmas.Bool.{and_parts, and_right, not-true}
+use Rattle.std.proofs.lemmas.Cmp.{tied_itself}
+use Rattle.std.proofs.lemmas.Grind.{common_steps}
+use Rattle.std.proofs.lemmas.List.{take-append-drop, append_assoc}
+use Rattle.std.specs.Cmp.Lexicographic.{nat_list_cmp_total}
+use Rattle.std.specs.FinMap.Entries.{where_key}
+use Rattle.std.specs.List.{AllByRecursion}
+use Rattle.std.specs.Ordering.{is_lt, is_le}
+use Rattle.std.specs.declared.cmp.Ordering.TheVariants.{Less}
+use Rattle.model.proofs.Elements.{all-append, all-each}
+use Rattle.model.proofs.Entries.{IsSorted, IsBelowAll}
+use Rattle.model.proofs.InOrder.{less, sorted_right, parts}
 use Rattle.model.proofs.KeyOrder.{from_lo, turned_less}
-use Rattle.sorted_pages.proofs.{Seen.all-shown, Seen.shown-append, Seen.sorted-shown, Keys.below_trans, Keys.above_it, Placings.entries_at, Placings.page_is}
+use Rattle.model.specs.Entries.{IsSplit}
+use Rattle.model.specs.Map.{Bytes, key_cmp, is_below, is_in_range}
+use Rattle.sorted_pages.proofs.Keys.{below_trans, above_it}
+use Rattle.sorted_pages.proofs.Placings.{entries_at, page_is}
+use Rattle.sorted_pages.proofs.Seen.{all-shown, shown-append, sorted-shown}
+use Rattle.sorted_pages.specs.Blanks.{shown}
+use Rattle.sorted_pages.specs.Pages.{Page, entries, IsPlace, IsInOrder, AreBelow}
+use Rattle.sorted_pages.specs.Ranges.{up_to, AreFrom, IsTail, first_key}
 
 -- what is above a key that isn't below hi isn't
 not_below : (q p : Bytes) (hi : Option Bytes) → key_cmp q p ≡ Less → is_below q hi ≡ false → is_below p hi ≡ false
@@ -16,7 +35,9 @@ module _ {X : Type 0} where
 
   passing : (p : Bytes → Bool) (es : List (Bytes × X)) → AllByRecursion (λ (e : Bytes × X). p e.0 ≡ true) (where_key key_cmp p es)
   passing p [] = tt
-  passing p (e ∷ es) = elim (p e.0) as (λ b. p e.0 ≡ b → AllByRecursion (λ (d : Bytes × X). p d.0 ≡ true) (cond b (e ∷ where_key key_cmp p es) (where_key key_cmp p es))) [ true ↦ λ t. (t, passing p es) | false ↦ λ t. passing p es ] refl
+  passing p (e ∷ es) = elim (p e.0) as (λ b. p e.0 ≡ b
+      → AllByRecursion (λ (d : Bytes × X). p d.0 ≡ true) (cond b (e ∷ where_key key_cmp p es) (where_key key_cmp p es)))
+      [ true ↦ λ t. (t, passing p es) | false ↦ λ t. passing p es ] refl
 
   -- a list that is split by k
   pub tail_of : (es : List (Bytes × X)) (k : Bytes) (i : ℕ) → IsSplit es k i → IsTail es k (drop i es)
@@ -37,7 +58,8 @@ module _ {X : Type 0} where
   none_above lo q hi [] h e = refl
   none_above lo q hi (d ∷ es) h e =
       let p = parts _ _ h in
-      ap (λ b. cond b (d ∷ In lo hi es) (In lo hi es)) (and_right (is_le (key_cmp lo d.0)) (is_below d.0 hi) (not_below q d.0 hi (less _ p.0) e)) ∙ none_above lo q hi es p.1 e
+      ap (λ b. cond b (d ∷ In lo hi es) (In lo hi es)) (and_right (is_le (key_cmp lo d.0)) (is_below d.0 hi) (not_below q d.0 hi (less _ p.0) e))
+      ∙ none_above lo q hi es p.1 e
 
   -- from lo on, what is in range is what stands below hi
   pub in_tail : (lo : Bytes) (hi : Option Bytes) (es : List (Bytes × X)) → IsSorted es → AreFrom lo es → up_to hi es ≡ In lo hi es
@@ -51,14 +73,18 @@ module _ {X : Type 0} where
   from_above k (e ∷ es) h = let p = parts _ _ h in (ap is_le (less _ p.0), from_above k es p.1)
 
   -- what isn't hidden of what a page has from lo on, and of the pages after it
-  pub range_from : (hides : X → Bool) (ps : List (Page X)) (lo : Bytes) (hi : Option Bytes) (i : ℕ) (p : Page X) (front : List (Bytes × X)) (after : List (Page X)) (w : IsPlace ps lo i) → p ≡ get_or ps i p → IsInOrder ps → IsTail p.0 lo front → after ≡ w.after
+  pub range_from : (hides : X
+      → Bool) (ps : List (Page X)) (lo : Bytes) (hi : Option Bytes) (i : ℕ) (p : Page X) (front : List (Bytes × X)) (after : List (Page X))
+      (w : IsPlace ps lo i) → p ≡ get_or ps i p → IsInOrder ps → IsTail p.0 lo front → after ≡ w.after
       → up_to hi (shown hides (front ++ entries after)) ≡ In lo hi (shown hides (entries ps))
   range_from hides ps lo hi i p front after w is h t same =
       let pre : List (Bytes × X) = entries w.before ++ t.before in
       let rest : List (Bytes × X) = front ++ entries w.after in
       let e : entries ps ≡ pre ++ rest =
-      entries_at ps lo i w ∙ ap (λ (l : List (Bytes × X)). entries w.before ++ (l ++ entries w.after)) (ap (λ (q : Page X). q.0) (sym (page_is ps lo i p w is)) ∙ t.is)
-      ∙ ap (λ (l : List (Bytes × X)). entries w.before ++ l) (append_assoc t.before front (entries w.after)) ∙ sym (append_assoc (entries w.before) t.before rest) in
+      entries_at ps lo i w ∙ ap (λ (l : List (Bytes × X)). entries w.before ++ (l ++ entries w.after)) (ap (λ (q : Page X). q.0) (sym (page_is ps lo i p w is))
+      ∙ t.is)
+      ∙ ap (λ (l : List (Bytes × X)). entries w.before ++ l) (append_assoc t.before front (entries w.after))
+      ∙ sym (append_assoc (entries w.before) t.before rest) in
       let sorted : IsSorted rest = sorted_right key_cmp pre rest (subst (λ (l : List (Bytes × X)). IsSorted l) e h.sorted) in
       grind (arith, common_steps, in_tail, sorted-shown, all-shown, all-append, from_above, shown-append, none_below)
 
@@ -69,9 +95,11 @@ module _ {X : Type 0} where
   -- ---- an upper bound that is a key of the map
 
   not_in : (lo : Bytes) (hi : Option Bytes) (e : Bytes × X) (es : List (Bytes × X)) → IsBelowAll e.0 es → is_below e.0 hi ≡ false → In lo hi (e ∷ es) ≡ []
-  not_in lo hi e es h f = ap (λ b. cond b (e ∷ In lo hi es) (In lo hi es)) (and_right (is_le (key_cmp lo e.0)) (is_below e.0 hi) f) ∙ none_above lo e.0 hi es h f
+  not_in lo hi e es h f = ap (λ b. cond b (e ∷ In lo hi es) (In lo hi es)) (and_right (is_le (key_cmp lo e.0)) (is_below e.0 hi) f)
+      ∙ none_above lo e.0 hi es h f
 
-  below_first : (q hi : Bytes) (fs : List (Bytes × X)) → AllByRecursion (λ (f : Bytes × X). is_in_range hi None f.0 ≡ true) fs → key_cmp q hi ≡ Less → is_below q (first_key fs) ≡ true
+  below_first : (q hi : Bytes) (fs : List (Bytes × X)) → AllByRecursion (λ (f : Bytes × X). is_in_range hi None f.0 ≡ true) fs → key_cmp q hi ≡ Less
+      → is_below q (first_key fs) ≡ true
   below_first q hi fs h lt = grind (arith, common_steps, below_trans, and_parts)
 
   -- the least key that is at least hi bounds as hi does
@@ -87,6 +115,7 @@ module _ {X : Type 0} where
 -- ---- a step
 
 -- a page is taken, without some of its entries that are hidden
-pub next_page : {X : Type 0} (hides : X → Bool) (hi : Option Bytes) (front from : List (Bytes × X)) (page : Page X) (ps rest : List (Page X)) → front ≡ [] → ps ≡ page ∷ rest → shown hides from ≡ shown hides page.0
+pub next_page : {X : Type 0} (hides : X → Bool) (hi : Option Bytes) (front from : List (Bytes × X)) (page : Page X) (ps rest : List (Page X)) → front ≡ []
+    → ps ≡ page ∷ rest → shown hides from ≡ shown hides page.0
     → up_to hi (shown hides (from ++ entries rest)) ≡ up_to hi (shown hides (front ++ entries ps))
 next_page hides hi front from page ps rest none next same = grind (arith, common_steps, shown-append)

@@ -1,6 +1,6 @@
 -- Entries of which no number sees anything.
-use Rattle.std.specs.Prelude.{◌≡◌, ℕ, ◌≤◌, Bool, true, List, [], ◌∷◌, length, take, if◌then◌else◌}
 use Rattle.std.specs.List.{AllByRecursion}
+use Rattle.std.specs.Prelude.{◌≡◌, ℕ, ◌≤◌, Bool, true, List, [], ◌∷◌, length, take, if◌then◌else◌}
 use Rattle.model.specs.Map.{Bytes}
 
 -- the first n of the entries are hidden from each number

@@ -1,7 +1,9 @@
 -- What contracts say of pages.
 pub mod Blanks
+pub mod Gaps
 pub mod Summaries
 pub mod Pages
+pub mod Rooms
 pub mod Ranges
 pub mod Lent
 pub mod Trims

@@ -1,7 +1,11 @@
 -- Pages of entries, all by rising key.
-use Rattle.std.specs.Prelude.{◌≡◌, ℕ, T, ◌+◌, ◌-◌, ◌*◌, ◌^◌, ◌<◌, ◌≤◌, min, fold, Bool, true, false, List, [], ◌∷◌, ◌++◌, length, slice_get, Option, Some, None, if◌then◌else◌, ⊤, ◌⊎◌}
-use Rattle.std.specs.{List.AllByRecursion, Ordering.nat_cmp, Ordering.is_le, Ordering.is_lt, declared.cmp.Ordering.TheVariants.Less, Cmp.Lexicographic.slice_cmp}
+use Rattle.std.specs.Cmp.Lexicographic.{slice_cmp}
 use Rattle.std.specs.FinMap.Entries.{below_all, is_sorted}
+use Rattle.std.specs.List.{AllByRecursion}
+use Rattle.std.specs.Ordering.{nat_cmp, is_le, is_lt}
+use Rattle.std.specs.Prelude.{◌≡◌, ℕ, T, ◌+◌, ◌-◌, ◌*◌, ◌^◌, ◌<◌, ◌≤◌, min, fold, Bool, true, false, List, [], ◌∷◌}
+use Rattle.std.specs.Prelude.{◌++◌, length, slice_get, Option, Some, None, if◌then◌else◌, ⊤, ◌⊎◌}
+use Rattle.std.specs.declared.cmp.Ordering.TheVariants.{Less}
 use Rattle.model.specs.Map.{Bytes, key_cmp}
 
 -- the entries of a page, and how many more fit without memory
@@ -61,7 +65,8 @@ pub record IsHalved {X : Type 0} (k : Bytes) (old new : List (Page X)) : Type 0 
   pub low : stands_behind k (page_entries k old) ≡ false → count_at k old ≤ 2 * count_at k new + 1
   pub high : stands_behind k (page_entries k old) ≡ false → 2 * count_at k new ≤ count_at k old + 1
 
--- n more entries don't fit in the page where k stands or would stand, and are too many for it: it has 288, and would get more than 576
+-- n more entries don't fit in the page where k stands or would stand, and are too many for it: it has 288, and would
+-- get more than 576
 pub record IsCrowded {X : Type 0} (k : Bytes) (n : ℕ) (ps : List (Page X)) : Type 0 where
   pub short : room_at k ps < n
   pub many : 288 ≤ count_at k ps
@@ -83,7 +88,8 @@ pub record StaysTight {X : Type 0} (bound : ℕ) (old new : List (Page X)) : Typ
 abbrev pub places_in : {X : Type 0} → List (Page X) → ℕ
 places_in ps = fold (λ n p. min (n + (length p.0 + p.1)) (2 ^ 64 - 1)) 0 ps
 
--- a page that entries come to by rising key: it has 384 at most, and 512 places at least, so that those that come in between find room
+-- a page that entries come to by rising key: it has 384 at most, and 512 places at least, so that those that come in
+-- between find room
 pub record IsLoose {X : Type 0} (p : Page X) : Type 0 where
   pub few : length p.0 ≤ 384
   pub places : 512 ≤ length p.0 + p.1

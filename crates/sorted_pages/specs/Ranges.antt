@@ -1,9 +1,16 @@
 -- The entries that a range has left.
+use Rattle.std.specs.Borrow.{Bor}
+use Rattle.std.specs.Cmp.Lexicographic.{slice_cmp}
+use Rattle.std.specs.FinMap.Entries.{where_key}
+use Rattle.std.specs.List.{AllByRecursion}
+use Rattle.std.specs.Ordering.{nat_cmp, is_le}
 use Rattle.std.specs.Prelude.{◌≡◌, ℕ, Bool, true, false, List, [], ◌∷◌, ◌++◌, Option, if◌then◌else◌, Some, None, ⊤}
-use Rattle.std.specs.{Borrow.Bor, List.AllByRecursion, Ordering.nat_cmp, Ordering.is_le, Cmp.Lexicographic.slice_cmp, FinMap.Entries.where_key}
+use Rattle.model.specs.KeyBytes.{key_bytes, end_bytes}
 use Rattle.model.specs.Map.{Bytes, key_cmp, is_below, is_in_range}
-use Rattle.model.specs.{KeyBytes.key_bytes, KeyBytes.end_bytes, declared.keys.KeyRef.KeyRef}
-use Rattle.sorted_pages.specs.{Blanks.shown, Pages.AreBelow, Pages.Page, Pages.entries, declared.range.Entries.Entries}
+use Rattle.model.specs.declared.keys.KeyRef.{KeyRef}
+use Rattle.sorted_pages.specs.Blanks.{shown}
+use Rattle.sorted_pages.specs.Pages.{AreBelow, Page, entries}
+use Rattle.sorted_pages.specs.declared.range.Entries.{Entries}
 
 -- the entries before the first whose key isn't below hi
 abbrev pub up_to : {X : Type 0} → Option Bytes → List (Bytes × X) → List (Bytes × X)

@@ -1,6 +1,8 @@
 -- What trimming a value does to entries.
+use Rattle.std.specs.Cmp.Lexicographic.{slice_cmp}
+use Rattle.std.specs.FinMap.Entries.{find, put}
+use Rattle.std.specs.Ordering.{nat_cmp}
 use Rattle.std.specs.Prelude.{Bool, false, List, Option, Some, None, option_map}
-use Rattle.std.specs.{Ordering.nat_cmp, Cmp.Lexicographic.slice_cmp, FinMap.Entries.find, FinMap.Entries.put}
 use Rattle.model.specs.Map.{Bytes}
 
 abbrev pub put_some : {X : Type 0} → Bytes → Option X → List (Bytes × X) → List (Bytes × X)

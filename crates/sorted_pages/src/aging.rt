@@ -55,4 +55,10 @@ pub trait Aging {
     fn last(&self) -> u64
         ensures value { result ≡ last self.now }
         ensures hidden { (n : ℕ) → result ≤ n → shows self.now ≡ false → hides n self.now ≡ true };
+
+    /// The least number, `low` or above, from which on none below `high` sees anything of it. Takes no memory.
+    fn hidden_from(&self, low: u64, high: u64) -> u64
+        ensures above { low ≤ result }
+        ensures hidden { (n : ℕ) → result ≤ n → n < high → hides n self.now ≡ true }
+        ensures least { (m : ℕ) → low ≤ m → ((n : ℕ) → m ≤ n → n < high → hides n self.now ≡ true) → result ≤ m };
 }

@@ -5,7 +5,9 @@ ghost use Rattle.std.specs.Cmp.Lexicographic.{slice_cmp};
 ghost use Rattle.std.specs.FinMap.Entries.{find, put, is_sorted};
 ghost use Rattle.std.specs.Vec.{vec_len};
 ghost use Rattle.model.specs.Map.{Bytes};
-ghost use Rattle.sorted_pages.specs.Pages.{AreAllFull, AreFull, AreLoose, IsCrowded, IsHalved, IsPageWanted, IsInOrder, IsRoomier, StaysTight, count_at, entries, pushed, room_at};
+ghost use Rattle.sorted_pages.specs.Pages.{AreAllFull, AreFull, AreLoose, IsCrowded, IsInOrder, StaysTight};
+ghost use Rattle.sorted_pages.specs.Pages.{count_at, entries, pushed, room_at};
+ghost use Rattle.sorted_pages.specs.Rooms.{MakesOnePage, MakesRoom, SplitsPage};
 
 use crate::aging::Aging;
 use crate::page::{PAGE_MAX, Page};
@@ -49,12 +51,10 @@ pub(crate) fn look_again<V: Aging>(pages: &mut Vec<Page<V>>, i: usize)
 fn grow<V: Aging>(pages: &mut Vec<Page<V>>, key: &[u8], n: usize) -> Result<(), AllocError>
     requires order { IsInOrder pages.old.items }
     requires some { 0 < vec_len pages.old }
-    ensures order { IsInOrder pages.new.items }
-    ensures roomier { IsRoomier pages.old.items pages.new.items }
+    ensures room { MakesRoom n pages.old.items pages.new.items }
     ensures made { OnOk result (n ≤ room_at key.now pages.new.items) }
     ensures pages { length pages.new.items ≡ length pages.old.items }
     ensures count { count_at key.now pages.new.items ≡ count_at key.now pages.old.items }
-    ensures tight { StaysTight (n + 191) pages.old.items pages.new.items }
 {
     let i = place(pages, key);
     pages[i].reserve(n)
@@ -65,13 +65,10 @@ fn split<V: Aging + Drop>(pages: &mut Vec<Page<V>>, key: &[u8], n: usize) -> Res
     requires order { IsInOrder pages.old.items }
     requires some { 0 < vec_len pages.old }
     requires short { room_at key.now pages.old.items < n }
-    ensures order { IsInOrder pages.new.items }
-    ensures roomier { IsRoomier pages.old.items pages.new.items }
-    ensures tight { StaysTight (n + 191) pages.old.items pages.new.items }
+    ensures room { MakesRoom n pages.old.items pages.new.items }
     ensures some { 0 < vec_len pages.new }
     ensures one { length pages.new.items ≤ length pages.old.items + 1 }
-    ensures more { OnOk result (IsCrowded key.now n pages.old.items → length pages.old.items < length pages.new.items) }
-    ensures halved { OnOk result (IsCrowded key.now n pages.old.items → IsHalved key.now pages.old.items pages.new.items) }
+    ensures split { OnOk result (IsCrowded key.now n pages.old.items → SplitsPage key.now pages.old.items pages.new.items) }
 {
     pages.reserve(1)?;
     let i = place(pages, key);
@@ -92,13 +89,10 @@ fn divide<V: Aging + Drop>(pages: &mut Vec<Page<V>>, key: &[u8], n: usize) -> Re
     requires order { IsInOrder pages.old.items }
     requires some { 0 < vec_len pages.old }
     requires short { room_at key.now pages.old.items < n }
-    ensures order { IsInOrder pages.new.items }
-    ensures roomier { IsRoomier pages.old.items pages.new.items }
-    ensures tight { StaysTight (n + 191) pages.old.items pages.new.items }
+    ensures room { MakesRoom n pages.old.items pages.new.items }
     ensures made { OnOk result (n ≤ room_at key.now pages.new.items) }
-    ensures more { OnOk result (IsCrowded key.now n pages.old.items → length pages.old.items < length pages.new.items) }
     ensures one { length pages.new.items ≤ length pages.old.items + 1 }
-    ensures halved { OnOk result (IsCrowded key.now n pages.old.items → IsHalved key.now pages.old.items pages.new.items) }
+    ensures split { OnOk result (IsCrowded key.now n pages.old.items → SplitsPage key.now pages.old.items pages.new.items) }
 {
     split(pages, key, n)?;
     grow(pages, key, n)
@@ -116,9 +110,7 @@ fn is_crowded(len: usize, n: usize) -> bool
 // Makes the first page.
 fn start<V: Aging + Drop>(pages: &mut Vec<Page<V>>, n: usize) -> Result<(), AllocError>
     requires { pages.old.items ≡ [] }
-    ensures order { IsInOrder pages.new.items }
-    ensures roomier { IsRoomier pages.old.items pages.new.items }
-    ensures tight { StaysTight (n + 191) pages.old.items pages.new.items }
+    ensures room { MakesRoom n pages.old.items pages.new.items }
     ensures made { OnOk result ((k : Bytes) → n ≤ room_at k pages.new.items) }
     ensures one { length pages.new.items ≤ 1 }
 {
@@ -134,15 +126,11 @@ pub(crate) fn reserve<V: Aging + Drop>(
     n: usize,
 ) -> Result<(), AllocError>
     requires order { IsInOrder pages.old.items }
-    ensures order { IsInOrder pages.new.items }
-    ensures roomier { IsRoomier pages.old.items pages.new.items }
+    ensures room { MakesRoom n pages.old.items pages.new.items }
     ensures made { OnOk result (n ≤ room_at key.now pages.new.items) }
     ensures known { n ≤ room_at key.now pages.old.items → IsOk result }
-    ensures tight { StaysTight (n + 191) pages.old.items pages.new.items }
-    ensures split { OnOk result (IsCrowded key.now n pages.old.items → length pages.old.items < length pages.new.items) }
-    ensures one { length pages.new.items ≤ length pages.old.items + 1 }
-    ensures wanted { length pages.old.items < length pages.new.items → IsPageWanted key.now n pages.old.items }
-    ensures halved { OnOk result (IsCrowded key.now n pages.old.items → IsHalved key.now pages.old.items pages.new.items) }
+    ensures split { OnOk result (IsCrowded key.now n pages.old.items → SplitsPage key.now pages.old.items pages.new.items) }
+    ensures pages { MakesOnePage key.now n pages.old.items pages.new.items }
 {
     if n <= room(pages, key) {
         return Ok(());

@@ -1,5 +1,6 @@
 //! One page.
-ghost use Rattle.std.specs.Prelude.{◌≡◌, max, ◌+◌, ◌-◌, ◌*◌, ◌<◌, ◌≤◌, T, true, false, None, [], ◌∷◌, ◌++◌, length, take, drop, IfOk, IfErr, OnOk, OnErr, option_copied, is_ok, if◌then◌else◌};
+ghost use Rattle.std.specs.Prelude.{◌≡◌, max, ◌+◌, ◌-◌, ◌*◌, ◌<◌, ◌≤◌, T, true, false, None, [], ◌∷◌, ◌++◌, length};
+ghost use Rattle.std.specs.Prelude.{take, drop, IfOk, IfErr, OnOk, OnErr, option_copied, is_ok, if◌then◌else◌};
 ghost use Rattle.std.specs.Ordering.{nat_cmp};
 ghost use Rattle.std.specs.Cmp.Lexicographic.{slice_cmp};
 ghost use Rattle.std.specs.FinMap.Entries.{find, put, is_sorted};
@@ -9,6 +10,7 @@ ghost use Rattle.model.specs.Map.{key_cmp};
 ghost use Rattle.model.specs.Entries.{IsAt, IsGap, IsSplit};
 ghost use Rattle.sorted_pages.specs.Pages.{stands_behind, starts_by};
 ghost use Rattle.sorted_pages.specs.Blanks.{IsBlankTo, shown};
+ghost use Rattle.sorted_pages.specs.Rooms.{HasRoomFor, IsEmptyFor};
 ghost use Rattle.sorted_pages.specs.Trims.{changed_at, passes};
 
 use crate::aging::Aging;
@@ -60,10 +62,8 @@ fn deal<V: Drop>(
     upper: &mut Vec<(Key, V)>,
 )
     requires within { at ≤ vec_len entries }
-    requires lower_none { lower.old.items ≡ [] }
-    requires upper_none { upper.old.items ≡ [] }
-    requires lower_places { at ≤ vec_capacity lower.old }
-    requires upper_places { vec_len entries - at ≤ vec_capacity upper.old }
+    requires lower { IsEmptyFor at lower.old }
+    requires upper { IsEmptyFor (vec_len entries - at) upper.old }
     ensures lower { lower.new.items ≡ take at entries.items }
     ensures upper { upper.new.items ≡ drop at entries.items }
     ensures lower_places { vec_capacity lower.new ≡ vec_capacity lower.old }
@@ -310,12 +310,8 @@ impl<V: Aging + Drop> Page<V> {
     // Moves the entries from `at` on to a page of their own. Both get places of their own, with room for `n` more entries.
     pub(crate) fn split_off(&mut self, at: usize, n: usize) -> Result<Page<V>, AllocError>
         requires { at ≤ length self.old.0 }
-        ensures lower { OnOk result (self.new.0 ≡ take at self.old.0) }
-        ensures lower_room { OnOk result (n ≤ self.new.1) }
-        ensures lower_tight { OnOk result (self.new.1 ≤ n + 191) }
-        ensures upper { IfOk result (λ u. u.0 ≡ drop at self.old.0) }
-        ensures upper_room { IfOk result (λ u. n ≤ u.1) }
-        ensures upper_tight { IfOk result (λ u. u.1 ≤ n + 191) }
+        ensures lower { OnOk result (HasRoomFor n (take at self.old.0) self.new) }
+        ensures upper { IfOk result (HasRoomFor n (drop at self.old.0)) }
         ensures failed { OnErr result (self.new ≡ self.old) }
     {
         let alloc = *self.entries.allocator();
@@ -351,6 +347,7 @@ impl<V: Aging> Page<V> {
                 let left = entry.1.has(number);
                 self.blank = blank_from(&self.entries, self.blank.min(i));
                 self.summary = self.summary.take_in(&self.entries);
+                self.summary = self.summary.held(&self.entries, numbers);
                 left
             }
             Err(_) => false,

@@ -1,10 +1,13 @@
 //! A sorted map in pages.
-ghost use Rattle.std.specs.Prelude.{◌≡◌, ◌+◌, ◌<◌, ◌≤◌, T, None, [], ◌∷◌, ◌++◌, length, option_copied, is_ok, IsOk, OnOk};
+ghost use Rattle.std.specs.Prelude.{◌≡◌, ◌+◌, ◌<◌, ◌≤◌, T, None, [], ◌∷◌, ◌++◌, length, option_copied, is_ok, IsOk};
+ghost use Rattle.std.specs.Prelude.{OnOk};
 ghost use Rattle.std.specs.Ordering.{nat_cmp};
 ghost use Rattle.std.specs.Cmp.Lexicographic.{slice_cmp};
 ghost use Rattle.std.specs.FinMap.Entries.{find, put, is_sorted};
 ghost use Rattle.model.specs.Map.{Bytes};
-ghost use Rattle.sorted_pages.specs.Pages.{AreFull, AreLoose, IsCrowded, IsHalved, IsPageWanted, StaysTight, entries, places_in, pushed, room_at};
+ghost use Rattle.sorted_pages.specs.Pages.{AreFull, AreLoose, IsCrowded, StaysTight, entries, places_in, pushed};
+ghost use Rattle.sorted_pages.specs.Pages.{room_at};
+ghost use Rattle.sorted_pages.specs.Rooms.{MakesOnePage, SplitsPage};
 
 use crate::aging::Aging;
 use crate::changing::{self, look_again};
@@ -136,8 +139,10 @@ impl<V: Aging> SortedPages<V> {
     }
 
     /// Lends the entries of the range of which the number sees something, by rising key. A page is passed over in one step where all
-    /// of its values came after the number, or where none of them shows and the last of their changes came before it; of the others
-    /// the ones at the front that no number sees. Takes no memory.
+    /// of its values came after the number, where none of them shows and the last of their changes came before it, or where none showed
+    /// at the number, though they were set again: of such times it knows the last, and three from before in which some of the numbers
+    /// lay that the page's values were trimmed for last. Of the others the entries at the front that no number sees are passed over.
+    /// The first page of the range and that of its end are looked at. Takes no memory.
     pub fn range(&self, range: RangeRef<'_>, number: u64) -> Entries<'_, V>
         ensures { entries_left V.hides result ≡ shown_in (V.hides number) self.now range.entry.lo.bytes.now (end_bytes range.entry.hi) }
     {
@@ -158,8 +163,8 @@ impl<V: Aging + Drop> SortedPages<V> {
     }
 
     /// Makes room for `n` more entries where the key stands or would stand. The entries stay, also where memory is refused, and no
-    /// key has less room than before. Where the room is there already, it takes none and succeeds. A page of 256 entries is split where
-    /// the `n` would make them more than 512: in the middle, or before its last entry where the key stands behind all of them. No other
+    /// key has less room than before. Where the room is there already, it takes none and succeeds. A page of 288 entries is split where
+    /// the `n` would make them more than 576: in the middle, or before its last entry where the key stands behind all of them. No other
     /// page is made, but for the first.
     pub fn reserve(&mut self, key: KeyRef<'_>, n: usize) -> Result<(), AllocError>
         ensures entries { entries self.new ≡ entries self.old }
@@ -167,10 +172,8 @@ impl<V: Aging + Drop> SortedPages<V> {
         ensures made { OnOk result (n ≤ room_at key.entry.bytes.now self.new) }
         ensures known { n ≤ room_at key.entry.bytes.now self.old → IsOk result }
         ensures tight { StaysTight (n + 191) self.old self.new }
-        ensures split { OnOk result (IsCrowded key.entry.bytes.now n self.old → length self.old < length self.new) }
-        ensures halved { OnOk result (IsCrowded key.entry.bytes.now n self.old → IsHalved key.entry.bytes.now self.old self.new) }
-        ensures one { length self.new ≤ length self.old + 1 }
-        ensures wanted { length self.old < length self.new → IsPageWanted key.entry.bytes.now n self.old }
+        ensures split { OnOk result (IsCrowded key.entry.bytes.now n self.old → SplitsPage key.entry.bytes.now self.old self.new) }
+        ensures pages { MakesOnePage key.entry.bytes.now n self.old self.new }
     {
         changing::reserve(&mut self.pages, key.bytes(), n)
     }
@@ -209,7 +212,8 @@ impl<V: Aging> SortedPages<V> {
         self.pages.len()
     }
 
-    /// How many entries all pages have places for, in use and free; 2^64 - 1 where there were more. Looks at each page, and takes no memory.
+    /// How many entries all pages have places for, in use and free; 2^64 - 1 where there were more. Looks at each page, and takes no
+    /// memory.
     pub fn places(&self) -> usize
         ensures { result ≡ places_in self.now }
     {

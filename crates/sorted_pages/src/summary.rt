@@ -1,20 +1,26 @@
 //! What a page knows of all its values together.
 use crate::aging::Aging;
+use crate::gap::Gap;
+use crate::older::Older;
 use model::Key;
 
-// What numbers see of the values of entries: below `first` nothing, and from `last` on something of those that show alone, of which there
-// are `live`. It says nothing of the entry that is left out: its value was lent for writing last.
+// What numbers see of the values of entries: below `first` nothing, from `last` on something of those that show alone, of which there
+// are `live`, and in the gaps nothing. It says nothing of the entry that is left out: its value was lent for writing last.
 #[derive(Clone, Copy)]
 pub(crate) struct Summary {
     pub(crate) first: u64,
     pub(crate) last: u64,
     pub(crate) live: usize,
+    // the last time at which no value showed, which goes on where none does, and three from before
+    pub(crate) gap: Gap,
+    pub(crate) older: Older,
     pub(crate) left_out: Option<usize>,
 }
 
 impl Summary {
-    ghost use Rattle.std.specs.Prelude.{◌≡◌, ◌<◌, true, None, Some, length};
-    ghost use Rattle.sorted_pages.specs.Summaries.{AreHidden, IsSummary, IsSummaryBut};
+    ghost use Rattle.std.specs.Prelude.{◌≡◌, ◌≢◌, ◌<◌, ◌-◌, ◌^◌, ◌&&◌, ℕ, true, None, Some, length};
+    ghost use Rattle.sorted_pages.specs.Summaries.{AreHidden, IsSummary, IsSummaryBut, KeepsGap, hides_but, is_known};
+    ghost use Rattle.sorted_pages.specs.Gaps.{are_held_or_none, is_within};
 
     // That of no entries.
     pub(crate) fn new() -> Summary
@@ -25,6 +31,11 @@ impl Summary {
             first: u64::MAX,
             last: 0,
             live: 0,
+            gap: Gap {
+                from: 0,
+                to: u64::MAX,
+            },
+            older: Older::none(),
             left_out: None,
         }
     }
@@ -34,6 +45,8 @@ impl Summary {
         requires { IsSummaryBut V.hides V.shows entries.now self }
         ensures summary { IsSummary V.hides V.shows entries.now result }
         ensures whole { result.left_out ≡ None }
+        ensures kept { KeepsGap V.hides V.shows V.last entries.now self result }
+        ensures open { self.left_out ≢ None → result.live ≡ 0 → result.gap.to ≡ 2 ^ 64 - 1 }
     {
         match self.left_out {
             None => self,
@@ -45,13 +58,52 @@ impl Summary {
                 } else {
                     self.live
                 };
-                Summary {
+                let whole = Summary {
                     first: self.first.min(value.first()),
                     last: self.last.max(value.last()),
                     live,
+                    gap: self.gap.beside(value),
+                    older: self.older.beside(value),
                     left_out: None,
-                }
+                };
+                whole.with_open_gap(entries)
             }
+        }
+    }
+
+    // Where no value shows, a gap begins with the last number, unless one has begun before.
+    fn with_open_gap<V: Aging>(self, _entries: &[(Key, V)]) -> Summary
+        requires { IsSummary V.hides V.shows _entries.now self }
+        ensures summary { IsSummary V.hides V.shows _entries.now result }
+        ensures open { result.live ≡ 0 → result.gap.to ≡ 2 ^ 64 - 1 }
+        ensures known { (n : ℕ) → is_within n self.gap ≡ true → is_known n result ≡ true }
+        ensures left_out { result.left_out ≡ self.left_out }
+    {
+        if self.live == 0 && self.gap.to < u64::MAX {
+            Summary {
+                gap: Gap {
+                    from: self.last,
+                    to: u64::MAX,
+                },
+                older: self.older.with(self.gap),
+                ..self
+            }
+        } else {
+            self
+        }
+    }
+
+    // Forgets the older gaps in which none of the numbers is.
+    pub(crate) fn held<V: Aging>(self, _entries: &[(Key, V)], numbers: &[u64]) -> Summary
+        requires { IsSummary V.hides V.shows _entries.now self }
+        ensures summary { IsSummary V.hides V.shows _entries.now result }
+        ensures gap { result.gap ≡ self.gap }
+        ensures older { result.older ≡ are_held_or_none numbers.now self.older }
+        ensures left_out { result.left_out ≡ self.left_out }
+    {
+        Summary {
+            older: self.older.held(numbers),
+            ..self
         }
     }
 
@@ -69,10 +121,9 @@ impl Summary {
             whole.live
         };
         Summary {
-            first: whole.first,
-            last: whole.last,
             live,
             left_out: Some(i),
+            ..whole
         }
     }
 
@@ -92,15 +143,25 @@ impl Summary {
     // Does the number see nothing of the entries, for all that is known?
     pub(crate) fn hides<V: Aging>(self, entries: &[(Key, V)], number: u64) -> bool
         requires { IsSummaryBut V.hides V.shows entries.now self }
-        ensures { result ≡ true → AreHidden (V.hides number) entries.now }
+        ensures hidden { result ≡ true → AreHidden (V.hides number) entries.now }
+        ensures known { result ≡ (is_known number self && hides_but (V.hides number) self.left_out entries.now) }
     {
-        if number < self.first || self.last <= number && self.live == 0 {
-            match self.left_out {
-                None => true,
-                Some(i) => entries[i].1.hides(number),
-            }
-        } else {
-            false
+        if !self.knows(number) {
+            return false;
         }
+        match self.left_out {
+            None => true,
+            Some(i) => entries[i].1.hides(number),
+        }
+    }
+
+    // Is it known of the number that it sees nothing?
+    fn knows(self, number: u64) -> bool
+        ensures { result ≡ is_known number self }
+    {
+        number < self.first
+            || self.last <= number && self.live == 0
+            || self.gap.has(number)
+            || self.older.have(number)
     }
 }

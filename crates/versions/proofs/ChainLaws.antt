@@ -1,20 +1,123 @@
 -- One chain: a version more, and what a reclaim leaves.
-use Rattle.versions.proofs.Words.{[], cond_both, IfSome, IsReady, ◌≡◌, ℕ, ◌<◌, ◌≤◌, Bool, true, false, ◌&&◌, List, ◌∷◌, ◌++◌, Option, Some, None, refl, ap, ◌∙◌, arith, inl, inr, nat_le, nat_lt, if◌then◌else◌, ◌==◌, AllByRecursion, list_any, both_ways, or_cases, or_right, nat_tests, all-append, all-each, Stamped, ChainValue, last_at, version_at, value_of, seen, seen_in, added, first_number, is_between, seen_by, reclaimed, IsRisingTo, IsRisingChain, is_among, IsSeen, IsTightChain}
+use Rattle.std.proofs.Common.{[], ◌≡◌, ℕ, ◌<◌, ◌≤◌, Bool, true, false, ◌&&◌, List, ◌∷◌, ◌++◌, Option, Some, None}
+use Rattle.std.proofs.Common.{refl, ap, ◌∙◌, arith, inl, inr, sym}
+use Rattle.std.proofs.lemmas.Bool.{cond_both, both_ways, or_cases, or_right}
+use Rattle.std.proofs.lemmas.Bool.Decides.{nat_tests}
+use Rattle.std.specs.List.{AllByRecursion, list_any}
+use Rattle.std.specs.Prelude.{IfSome, nat_le, nat_lt, if◌then◌else◌, ◌==◌, is_none, max, is_some}
+use Rattle.model.proofs.Elements.{all-append, all-each}
+use Rattle.model.specs.Map.{Bytes}
+use Rattle.versions.specs.Chains.{IsReady, Stamped, ChainValue, last_at, version_at, value_of, seen, seen_in, added}
+use Rattle.versions.specs.Chains.{first_number, is_between, seen_by, reclaimed, IsRisingTo, IsRisingChain, hides}
+use Rattle.versions.specs.Meaning.{is_among, IsSeen, IsTightChain}
 
-pub last_at-push : (n : ℕ) (d : Option Stamped) (vs : List Stamped) (v : Stamped) → last_at n d (vs ++ v ∷ []) ≡ (if nat_le v.number n then Some v else last_at n d vs)
+none_is : (v : Option Bytes) → is_some v ≡ false → v ≡ None
+none_is None e = refl
+none_is (Some x) e = absurd (both_ways true e refl)
+
+none_hides : (v : Option Bytes) → is_some v ≡ false → is_none v ≡ true
+none_hides v e = ap is_none (none_is v e)
+
+none_some : (v : Option Bytes) → is_none v ≡ true → is_some v ≡ false
+none_some None e = refl
+none_some (Some x) e = absurd (both_ways false refl e)
+
+pub last_at-push : (n : ℕ) (d : Option Stamped) (vs : List Stamped) (v : Stamped)
+    → last_at n d (vs ++ v ∷ []) ≡ (if nat_le v.number n then Some v else last_at n d vs)
 last_at-push n d [] v = refl
 last_at-push n d (u ∷ vs) v = last_at-push n (if nat_le u.number n then Some u else d) vs v
 
 -- ---- the walk from the newest back
 
 -- the last of the versions is too new
-pub passed_by : (n : ℕ) (vs us : List Stamped) (v : Stamped) (number : ℕ) (o : Option Stamped) → vs ≡ us ++ v ∷ [] → number ≡ v.number → n < number → last_at n None vs ≡ o → last_at n None us ≡ o
+pub passed_by : (n : ℕ) (vs us : List Stamped) (v : Stamped) (number : ℕ) (o : Option Stamped) → vs ≡ us ++ v ∷ [] → number ≡ v.number → n < number
+    → last_at n None vs ≡ o → last_at n None us ≡ o
 passed_by n vs us v number o is same lt e = grind (arith, nat_tests, ap (last_at n None) is, last_at-push n None us v)
 
 -- the last of the versions is seen
-pub met : (n : ℕ) (vs us : List Stamped) (v : Stamped) (number : ℕ) (o : Option Stamped) → vs ≡ us ++ v ∷ [] → number ≡ v.number → number ≤ n → last_at n None vs ≡ o → v.value ≡ value_of o
+pub met : (n : ℕ) (vs us : List Stamped) (v : Stamped) (number : ℕ) (o : Option Stamped) → vs ≡ us ++ v ∷ [] → number ≡ v.number → number ≤ n
+    → last_at n None vs ≡ o → v.value ≡ value_of o
 met n vs us v number o is same le e =
     grind (arith, nat_tests, ap (last_at n None) is, last_at-push n None us v)
+
+-- ---- up to where a chain is hidden
+
+-- A walk from the newest back has come to the versions `rest`: they are all that the numbers below `until` see, and those from there on and below
+-- `high` see nothing.
+pub record IsWalked (c : ChainValue) (high until : ℕ) (rest : List Stamped) : Type 0 where
+  pub below : until ≤ high
+  pub left : (n : ℕ) → n < until → last_at n None rest ≡ version_at n c
+  pub over : (n : ℕ) → until ≤ n → n < high → hides n c ≡ true
+
+-- the newest is too new
+pub walked_new : (c : ChainValue) (high : ℕ) → high ≤ c.newest.number → IsWalked c high high c.older
+walked_new c high le = record {
+  below = omega arith;
+  left = λ n lt. grind (arith, nat_tests);
+  over = λ n low lt. absurd (omega arith);
+}
+
+-- the newest is a deletion
+pub walked_newest : (c : ChainValue) (high : ℕ) → c.newest.number < high → is_some c.newest.value ≡ false → IsWalked c high c.newest.number c.older
+walked_newest c high lt none = record {
+  below = omega arith;
+  left = λ n lt. grind (arith, nat_tests);
+  over = λ n low lt. grind (arith, nat_tests, none_is c.newest.value none);
+}
+
+-- a version is too new
+pub walked_past : (c : ChainValue) (high until : ℕ) (vs us : List Stamped) (v : Stamped) (number : ℕ) → vs ≡ us ++ v ∷ [] → number ≡ v.number → until ≤ number
+    → IsWalked c high until vs → IsWalked c high until us
+walked_past c high until vs us v number is same le w = record {
+  below = w.below;
+  left = λ n lt. passed_by n vs us v number _ is same (omega arith) (w.left n lt);
+  over = w.over;
+}
+
+-- a version is a deletion
+pub walked_deletion : (c : ChainValue) (high until : ℕ) (vs us : List Stamped) (v : Stamped) (number : ℕ) → vs ≡ us ++ v ∷ [] → number ≡ v.number
+    → number < until → is_some v.value ≡ false → IsWalked c high until vs → IsWalked c high number us
+walked_deletion c high until vs us v number is same lt none w = record {
+  below = (let b = w.below in omega arith);
+  left = λ n low. passed_by n vs us v number _ is same low (w.left n (omega arith));
+  over = λ n low top. elim (nat_lt n until) as (λ b. nat_lt n until ≡ b → hides n c ≡ true) [
+    | true ↦ λ t. ap is_none (sym (met n vs us v number _ is same low (w.left n (grind (arith, nat_tests))))) ∙ none_hides v.value none
+    | false ↦ λ f. w.over n (grind (arith, nat_tests)) top
+  ] refl;
+}
+
+-- the numbers below `until` that see a version see its value, so none from which on all below `high` see nothing is less
+pub ends : (c : ChainValue) (v : Stamped) (number low until high m : ℕ) → number < until → until ≤ high → is_some v.value ≡ true
+    → ((n : ℕ) → number ≤ n → n < until → v.value ≡ seen n c)
+    → low ≤ m → ((n : ℕ) → m ≤ n → n < high → hides n c ≡ true) → max low until ≤ m
+ends c v number low until high m lt le some sees from hidden = elim (nat_lt m until) as (λ b. nat_lt m until ≡ b → max low until ≤ m) [
+  | true ↦ λ t.
+      let below : m < until = grind (arith, nat_tests) in
+      let n = max m number in
+      let is = sees n (omega arith) (omega arith) in
+      absurd (both_ways (is_some (seen n c)) (none_some (seen n c) (hidden n (omega arith) (omega arith))) (sym (ap is_some is) ∙ some))
+  | false ↦ λ f. (let above : until ≤ m = grind (arith, nat_tests) in omega arith)
+] refl
+
+-- a version that is too old for the later ones is what the numbers below `until` see
+pub walked_value : (c : ChainValue) (high until : ℕ) (vs us : List Stamped) (v : Stamped) (number low m : ℕ) → vs ≡ us ++ v ∷ [] → number ≡ v.number
+    → number < until → is_some v.value ≡ true → IsWalked c high until vs
+    → low ≤ m → ((n : ℕ) → m ≤ n → n < high → hides n c ≡ true) → max low until ≤ m
+walked_value c high until vs us v number low m is same lt some w from hidden =
+    ends c v number low until high m lt w.below some (λ n le top. met n vs us v number _ is same le (w.left n top)) from hidden
+
+-- the newest is what the numbers from its own on see
+pub newest_value : (c : ChainValue) (low high m : ℕ) → c.newest.number < high → is_some c.newest.value ≡ true → low ≤ m
+    → ((n : ℕ) → m ≤ n → n < high → hides n c ≡ true) → max low high ≤ m
+newest_value c low high m lt some from hidden =
+    ends c c.newest c.newest.number low high high m lt (omega arith) some (λ n le top. grind (arith, nat_tests)) from hidden
+
+-- no version is left
+pub walked_all : (c : ChainValue) (high until : ℕ) → IsWalked c high until [] → (n : ℕ) → n < high → hides n c ≡ true
+walked_all c high until w n lt = elim (nat_lt n until) as (λ b. nat_lt n until ≡ b → hides n c ≡ true) [
+  | true ↦ λ t. (let same = w.left n (grind (arith, nat_tests)) in ap (λ v. is_none (value_of v)) (sym same))
+  | false ↦ λ f. w.over n (grind (arith, nat_tests)) lt
+] refl
 
 -- ---- a version more
 
@@ -27,7 +130,8 @@ rising-push [] v n h lt = (tt, lt, tt)
 rising-push (u ∷ vs) v n h lt =
     (all-append (λ w. u.number < w.number) vs (v ∷ []) h.0 (h.1, tt), omega (arith, h.1), rising-push vs v n h.2 lt)
 
-pub rising-added : (o : Option ChainValue) (v : Stamped) (room last : ℕ) → IfSome o (λ c. IsRisingChain last c) → IsReady v.number o → v.number ≤ last → IsRisingChain last (added o v room)
+pub rising-added : (o : Option ChainValue) (v : Stamped) (room last : ℕ) → IfSome o (λ c. IsRisingChain last c) → IsReady v.number o → v.number ≤ last
+    → IsRisingChain last (added o v room)
 rising-added None v room last h r le = (tt, le)
 rising-added (Some c) v room last h r le = (rising-push c.older c.newest v.number h.0 r.0, le)
 
@@ -46,10 +150,18 @@ not_between [] low high b f t le = absurd (both_ways _ refl t)
 not_between (x ∷ bs) low high b f t le = grind (arith, nat_tests, not_between bs low high b)
 
 -- what a number of the list sees is kept
-pub pick-seen_by : (bs : List ℕ) (w : Stamped) (b : ℕ) → is_among bs b ≡ true → (d : Option Stamped) (vs : List Stamped) → pick b d (seen_by bs w.number vs) w ≡ pick b d vs w
+pub pick-seen_by : (bs : List ℕ) (w : Stamped) (b : ℕ) → is_among bs b ≡ true → (d : Option Stamped) (vs : List Stamped)
+    → pick b d (seen_by bs w.number vs) w ≡ pick b d vs w
 pick-seen_by bs w b t d [] = refl
 pick-seen_by bs w b t d (v ∷ vs) =
-    grind (arith, nat_tests, pick-seen_by bs w b t (if nat_le v.number b then Some v else d) vs, pick-seen_by bs w b t d vs, pick_past b d (Some v) vs w, not_between bs v.number (first_number vs w.number) b)
+    grind (
+      arith,
+      nat_tests,
+      pick-seen_by bs w b t (if nat_le v.number b then Some v else d) vs,
+      pick-seen_by bs w b t d vs,
+      pick_past b d (Some v) vs w,
+      not_between bs v.number (first_number vs w.number) b,
+    )
 
 pub version_at-reclaimed : (bs : List ℕ) (c : ChainValue) (b : ℕ) → is_among bs b ≡ true → version_at b (reclaimed bs c) ≡ version_at b c
 version_at-reclaimed bs c b t = pick-seen_by bs c.newest b t None c.older
@@ -98,13 +210,15 @@ tight-reclaimed bs c h = all-each (IsKeptBy bs c.newest c.older) (IsSeen bs (rec
 
 all-seen_by : (P : Stamped → Type 0) (bs : List ℕ) (n : ℕ) (vs : List Stamped) → AllByRecursion P vs → AllByRecursion P (seen_by bs n vs)
 all-seen_by P bs n [] h = tt
-all-seen_by P bs n (v ∷ vs) h = cond_both (is_between bs v.number (first_number vs n)) _ _ (AllByRecursion P) (λ t. (h.0, all-seen_by P bs n vs h.1)) (λ f. all-seen_by P bs n vs h.1)
+all-seen_by P bs n (v ∷ vs) h =
+    cond_both (is_between bs v.number (first_number vs n)) _ _ (AllByRecursion P) (λ t. (h.0, all-seen_by P bs n vs h.1)) (λ f. all-seen_by P bs n vs h.1)
 
 pub rising-seen_by : (bs : List ℕ) (n : ℕ) (vs : List Stamped) → IsRisingTo vs n → IsRisingTo (seen_by bs n vs) n
 rising-seen_by bs n [] h = tt
 rising-seen_by bs n (v ∷ vs) h =
     let rest = rising-seen_by bs n vs h.2 in
-    cond_both (is_between bs v.number (first_number vs n)) _ _ (λ l. IsRisingTo l n) (λ t. (all-seen_by (λ u. v.number < u.number) bs n vs h.0, h.1, rest)) (λ f. rest)
+    cond_both (is_between bs v.number (first_number vs n)) _ _ (λ l. IsRisingTo l n) (λ t. (all-seen_by (λ u. v.number < u.number) bs n vs h.0, h.1, rest))
+    (λ f. rest)
 
 -- ---- the loop of a reclaim
 
@@ -116,7 +230,8 @@ any-weaker p q [] h t = t
 any-weaker p q (x ∷ xs) h t = grind (arith, h x, any-weaker p q xs h)
 
 pub between-wider : (bs : List ℕ) (low high low' high' : ℕ) → low' ≤ low → high ≤ high' → is_between bs low high ≡ true → is_between bs low' high' ≡ true
-between-wider bs low high low' high' l h = any-weaker (λ b. nat_le low b && nat_lt b high) (λ b. nat_le low' b && nat_lt b high') bs (λ b t. grind (arith, nat_tests, t, l, h))
+between-wider bs low high low' high' l h =
+    any-weaker (λ b. nat_le low b && nat_lt b high) (λ b. nat_le low' b && nat_lt b high') bs (λ b t. grind (arith, nat_tests, t, l, h))
 
 -- what is left begins no lower
 pub first_rises : (bs : List ℕ) (n : ℕ) (vs : List Stamped) → IsRisingTo vs n → first_number vs n ≤ first_number (seen_by bs n vs) n

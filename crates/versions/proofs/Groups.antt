@@ -1,16 +1,50 @@
 -- The loops over what is listed.
-use Rattle.versions.proofs.Words.{add-one, GroupStaysUnder, GroupsJoinUnder, AreUnder, AreOfBoth, get_or-take, length-take, drop-set, take-set, take-take, ◌≡◌, ℕ, zero, suc, ◌+◌, ◌-◌, ◌<◌, ◌≤◌, Bool, true, false, ◌&&◌, List, [], ◌∷◌, ◌++◌, length, take, drop, get_or, set, Option, Some, None, refl, sym, ap, subst, ◌∙◌, arith, inl, inr, option_map, nat_lt, nat_le, ◌==◌, ◌⊎◌, if◌then◌else◌, swap_remove, IfSome, common_steps, Vec, AllByRecursion, list_any, list_all, remove, both_ways, and_right, nat_tests, Bytes, same_key, same_key_itself, Stamped, ChainValue, Chains, ChainsValue, find_chain, first_number, is_between, reclaimed, IsKept, IsReclaimedAt, is_seen_from, is_seen_by, AreSeenFrom, is_of, is_in, is_listed, AreListed, IsListedChain, IsListed, AreFound, has_version, AreNeeded, IsNeededChain, IsSettled, IsPartReclaimed, AreKept, AreAmong, AreMixedSettled, IsTrulyMixed, versions_in, witness_for, witnesses, lists_in, GroupValue, Listed, AreUnderWitnesses, IsUnderWitness, is_among, due_for, due_in, lists_a_step, drop_all, take_all, length-set, list_all-append, sum_by, all-each, all-get, all-map, all-more, all-remove, all-set, all-take, any-remove, any-set}
-use Rattle.std.proofs.{lemmas.List.Sorted.list_any-IsPermutation, lemmas.List.Sorted.IsPermutation-swap_remove, lemmas.List.Recursion.is_sum_by}
-use Rattle.versions.proofs.{Stores.rising_found, Witnesses.lists-set, UnderWitnesses.IsUnder, ChainLaws.any-weaker, ChainLaws.between-wider}
-use Rattle.versions.proofs.Listings.{needed-chain, reclaimed-needed, part-at, part-trans, all-settled-part, left-part, listed-part}
+use Rattle.std.proofs.Common.{add-one, ◌≡◌, ℕ, zero, suc, ◌+◌, ◌-◌, ◌<◌, ◌≤◌, Bool, true, false, ◌&&◌, List, [], ◌∷◌}
+use Rattle.std.proofs.Common.{◌++◌, length, take, drop, get_or, set, Option, Some, None, refl, sym, ap, subst, ◌∙◌}
+use Rattle.std.proofs.Common.{arith, inl, inr}
+use Rattle.std.proofs.lemmas.Bool.{both_ways, and_right}
+use Rattle.std.proofs.lemmas.Bool.Decides.{nat_tests}
+use Rattle.std.proofs.lemmas.Grind.{common_steps}
+use Rattle.std.proofs.lemmas.List.{get_or-take, length-take, drop-set, take-set, take-take, drop_all, take_all}
+use Rattle.std.proofs.lemmas.List.{length-set}
+use Rattle.std.proofs.lemmas.List.Folds.{list_all-append}
+use Rattle.std.proofs.lemmas.List.Recursion.{is_sum_by}
+use Rattle.std.proofs.lemmas.List.Sorted.{list_any-IsPermutation, IsPermutation-swap_remove}
+use Rattle.std.specs.List.{AllByRecursion, list_any, list_all, remove, sum_by}
+use Rattle.std.specs.Prelude.{option_map, nat_lt, nat_le, ◌==◌, ◌⊎◌, if◌then◌else◌, swap_remove, IfSome}
+use Rattle.std.specs.declared.vec.Vec.{Vec}
+use Rattle.model.proofs.Elements.{all-each, all-get, all-map, all-more, all-remove, all-set, all-take, any-remove}
+use Rattle.model.proofs.Elements.{any-set}
+use Rattle.model.proofs.Lookups.{same_key, same_key_itself}
+use Rattle.model.specs.Map.{Bytes}
+use Rattle.versions.proofs.ChainLaws.{any-weaker, between-wider}
+use Rattle.versions.proofs.Listings.{needed-chain, reclaimed-needed, part-at, part-trans, all-settled-part, left-part}
+use Rattle.versions.proofs.Listings.{listed-part}
+use Rattle.versions.proofs.Stores.{rising_found}
+use Rattle.versions.proofs.UnderWitnesses.{IsUnder}
+use Rattle.versions.proofs.Witnesses.{lists-set, witness-among}
+use Rattle.versions.specs.Chains.{Stamped, ChainValue, Chains, ChainsValue, find_chain, first_number, is_between}
+use Rattle.versions.specs.Chains.{reclaimed, IsKept, IsReclaimedAt}
+use Rattle.versions.specs.Groups.{GroupValue, Listed}
+use Rattle.versions.specs.Listings.{AreOfBoth, is_seen_from, is_seen_by, AreSeenFrom, is_of, is_in, is_listed}
+use Rattle.versions.specs.Listings.{AreListed, IsListedChain, IsListed, AreFound, has_version, AreNeeded}
+use Rattle.versions.specs.Listings.{IsNeededChain, IsAllReclaimed, IsSettled, IsPartReclaimed, AreKept, AreAmong}
+use Rattle.versions.specs.Listings.{versions_in, witness_for, witnesses, lists_in}
+use Rattle.versions.specs.Meaning.{is_among, due_for, due_in, lists_a_step}
+use Rattle.versions.specs.Reclaiming.{AreLookedAt, DropsFromGroup, IsLookedAfter, KeepsListed, ReclaimsChains}
+use Rattle.versions.specs.Reclaiming.{ReclaimsStep}
+use Rattle.versions.specs.Witnesses.{GroupStaysUnder, GroupsJoinUnder, AreUnder, AreUnderWitnesses, IsUnderWitness}
 
 -- ---- a fact of each element
 
 all-swap_remove : {X : Type 0} (P : X → Type 0) (xs : List X) (i : ℕ) (d : X) → i < length xs → AllByRecursion P xs → AllByRecursion P (swap_remove xs i d)
-all-swap_remove P xs i d lt h = all-take P (set xs i (get_or xs (length xs - 1) d)) (length xs - 1) (all-set P xs i (get_or xs (length xs - 1) d) (all-get P xs (length xs - 1) d (omega arith) h) h)
+all-swap_remove P xs i d lt h =
+    all-take P (set xs i (get_or xs (length xs - 1) d)) (length xs
+    - 1) (all-set P xs i (get_or xs (length xs - 1) d) (all-get P xs (length xs - 1) d (omega arith) h) h)
 
 -- those behind the place that was filled from the end
-rest-filled : {X : Type 0} (P : X → Type 0) (xs : List X) (i n : ℕ) (d : X) → length xs ≡ suc n → i < length xs → AllByRecursion P (drop (suc i) xs) → AllByRecursion P (drop i (take n (set xs i (get_or xs n d))))
+rest-filled : {X : Type 0} (P : X → Type 0) (xs : List X) (i n : ℕ) (d : X) → length xs ≡ suc n → i < length xs → AllByRecursion P (drop (suc i) xs)
+    → AllByRecursion P (drop i (take n (set xs i (get_or xs n d))))
 rest-filled P [] i n d long lt h = absurd (omega arith)
 rest-filled P (x ∷ []) zero n d long lt h = subst (λ k. AllByRecursion P (take k (get_or (x ∷ []) k d ∷ []))) {x = 0} {y = n} (omega (arith, long)) tt
 rest-filled P (x ∷ y ∷ xs) zero zero d long lt h = absurd (omega arith)
@@ -18,7 +52,8 @@ rest-filled P (x ∷ y ∷ xs) zero (suc n) d long lt h = (all-get P (y ∷ xs) 
 rest-filled P (x ∷ xs) (suc i) zero d long lt h = absurd (omega arith)
 rest-filled P (x ∷ xs) (suc i) (suc n) d long lt h = rest-filled P xs i n d (omega (arith, long)) (omega arith) h
 
-rest-swap_remove : {X : Type 0} (P : X → Type 0) (xs : List X) (i : ℕ) (d : X) → i < length xs → AllByRecursion P (drop (suc i) xs) → AllByRecursion P (drop i (swap_remove xs i d))
+rest-swap_remove : {X : Type 0} (P : X → Type 0) (xs : List X) (i : ℕ) (d : X) → i < length xs → AllByRecursion P (drop (suc i) xs)
+    → AllByRecursion P (drop i (swap_remove xs i d))
 rest-swap_remove P xs i d lt h = rest-filled P xs i (length xs - 1) d (omega arith) lt h
 
 -- behind the last there is none
@@ -26,7 +61,8 @@ all-none : {X : Type 0} (P : X → Type 0) (xs : List X) → AllByRecursion P (d
 all-none P xs = subst (AllByRecursion P) (sym (drop_all (length xs) xs (omega arith))) tt
 
 -- one is put before those that are such
-all-put : {X : Type 0} (P : X → Type 0) (xs : List X) (i : ℕ) (y : X) → i < length xs → P y → AllByRecursion P (drop (suc i) xs) → AllByRecursion P (drop i (set xs i y))
+all-put : {X : Type 0} (P : X → Type 0) (xs : List X) (i : ℕ) (y : X) → i < length xs → P y → AllByRecursion P (drop (suc i) xs)
+    → AllByRecursion P (drop i (set xs i y))
 all-put P xs i y lt p h = rw (drop-set, add-one) (p, h)
 
 -- those before it stay
@@ -35,7 +71,8 @@ all-ahead P xs i y h = rw (take-set, ← take-take i (suc i) xs (omega arith)) (
 
 -- and it was one of them
 all-last : {X : Type 0} (P : X → Type 0) (xs : List X) (i : ℕ) (x : X) → i < length xs → x ≡ get_or xs i x → AllByRecursion P (take (suc i) xs) → P x
-all-last P xs i x lt at h = subst P (get_or-take (suc i) xs i x (omega arith) ∙ sym at) (all-get P (take (suc i) xs) i x (omega (arith, length-take (suc i) xs)) h)
+all-last P xs i x lt at h =
+    subst P (get_or-take (suc i) xs i x (omega arith) ∙ sym at) (all-get P (take (suc i) xs) i x (omega (arith, length-take (suc i) xs)) h)
 
 -- ---- one of the numbers sees the version
 
@@ -61,7 +98,8 @@ pub record Dropping (bs : List ℕ) (old now : Chains) (os vs : List Listed) (le
   pub each : (held : ℕ → Bool) (v : ChainsValue) (w : ℕ) → AllByRecursion (IsUnderWitness held v w) os → AllByRecursion (IsUnderWitness held v w) vs
 
 -- some number sees the version
-pub dropping-seen : (bs : List ℕ) (old now : Chains) (os vs : List Listed) (m left : ℕ) (v : Listed) (o : Option ℕ) → left ≡ m + 1 → v ≡ get_or vs m v → IfSome o (λ n. is_among bs n ≡ true) → is_seen_by o v ≡ true
+pub dropping-seen : (bs : List ℕ) (old now : Chains) (os vs : List Listed) (m left : ℕ) (v : Listed) (o : Option ℕ) → left ≡ m + 1 → v ≡ get_or vs m v
+    → IfSome o (λ n. is_among bs n ≡ true) → is_seen_by o v ≡ true
     → Dropping bs old now os vs left → Dropping bs old now os vs m
 dropping-seen bs old now os vs m left v o next at a s d =
     let in_range : m ≤ length vs = omega arith in
@@ -69,7 +107,8 @@ dropping-seen bs old now os vs m left v o next at a s d =
     let settled = all-more (IsSettled bs now) vs m v (omega arith) at (inl (next-between bs o v a s)) rest in
     assumption (in_range, settled)
 
-module _ (bs : List ℕ) (old now new : Chains) (os vs : List Listed) (m left last : ℕ) (v : Listed) (next : left ≡ m + 1) (at : v ≡ get_or vs m v) (ordered : IsKept old last) (r : IsReclaimedAt bs v.key now new) (d : Dropping bs old now os vs left) where
+module _ (bs : List ℕ) (old now new : Chains) (os vs : List Listed) (m left last : ℕ) (v : Listed) (next : left ≡ m + 1) (at : v
+    ≡ get_or vs m v) (ordered : IsKept old last) (r : IsReclaimedAt bs v.key now new) (d : Dropping bs old now os vs left) where
   step : IsPartReclaimed bs now new
   step = part-at bs v.key now new r
 
@@ -77,10 +116,13 @@ module _ (bs : List ℕ) (old now new : Chains) (os vs : List Listed) (m left la
   within = omega arith
 
   rest : AllByRecursion (IsSettled bs new) (drop (suc m) vs)
-  rest = all-settled-part bs now new step (drop (suc m) vs) (subst (λ n. AllByRecursion (IsSettled bs now) (drop n vs)) {x = left} {y = suc m} (omega arith) d.settled)
+  rest = all-settled-part bs now new step (drop (suc m) vs)
+      (subst (λ n. AllByRecursion (IsSettled bs now) (drop n vs)) {x = left} {y = suc m} (omega arith) d.settled)
 
   needed : IsNeededChain bs (find_chain v.key new)
-  needed = subst (IsNeededChain bs) (sym (r.found v.key ∙ ap (λ b. if b then option_map (reclaimed bs) (find_chain v.key now) else find_chain v.key now) (same_key_itself v.key))) (needed-chain bs (find_chain v.key now) last (rising_found v.key now last (d.kept last ordered)))
+  needed = subst (IsNeededChain bs)
+      (sym (r.found v.key ∙ ap (λ b. if b then option_map (reclaimed bs) (find_chain v.key now) else find_chain v.key now) (same_key_itself v.key)))
+      (needed-chain bs (find_chain v.key now) last (rising_found v.key now last (d.kept last ordered)))
 
   -- the version is still there
   pub dropping-stays : has_version v.number (find_chain v.key new) ≡ true → Dropping bs old new os vs m
@@ -103,14 +145,19 @@ module _ (bs : List ℕ) (old now new : Chains) (os vs : List Listed) (m left la
         let split = list_any-IsPermutation (is_of k n high) vs (v ∷ swap_remove vs m v) (IsPermutation-swap_remove vs m v within at) in
         grind (arith, nat_tests, same_key k v.key));
     seen = λ n h. subst (AreSeenFrom n) (sym is) (all-swap_remove (λ x. is_seen_from n x ≡ true) vs m v within (d.seen n h));
-    each = λ held u w h. subst (λ l. AllByRecursion (IsUnderWitness held u w) l) (sym is) (all-swap_remove (IsUnderWitness held u w) vs m v within (d.each held u w h));
+    each = λ held u w h. subst (λ l. AllByRecursion (IsUnderWitness held u w) l) (sym is)
+        (all-swap_remove (IsUnderWitness held u w) vs m v within (d.each held u w h));
   }
 
 -- ---- the loop over groups
 
--- where none of its lists is due, the group was looked after
-abbrev pub IsLookedAfter : List ℕ → Chains → GroupValue → Type 0
-IsLookedAfter bs es g = due_for bs g ≡ 0 → AllByRecursion (IsSettled bs es) g.versions
+-- what was looked after stays so where chains are reclaimed
+looked-part : (bs : List ℕ) (now new : Chains) → IsPartReclaimed bs now new → (g : GroupValue) → IsLookedAfter bs now g → IsLookedAfter bs new g
+looked-part bs now new p g h = record {
+  settled = λ none. all-settled-part bs now new p g.versions (h.settled none);
+  mixed = all-settled-part bs now new p g.mixed h.mixed;
+  truly = h.truly;
+}
 
 -- ---- groups that were not looked at yet
 
@@ -118,7 +165,8 @@ IsLookedAfter bs es g = due_for bs g ≡ 0 → AllByRecursion (IsSettled bs es) 
 abbrev pub StandsUnder : List ℕ → (ℕ → Bool) → ChainsValue → (ℕ → Bool) → ChainsValue → Type 0
 StandsUnder bs more v held u = (w : ℕ) (x : Listed) → IsUnderWitness more v w x → IsUnderWitness held u (witness_for bs w) x
 
-stays-under : (bs : List ℕ) (more held : ℕ → Bool) (v u : ChainsValue) (g h : GroupValue) → h.witness ≡ witness_for bs g.witness → GroupStaysUnder g h → StandsUnder bs more v held u → IsUnder more v g → IsUnder held u h
+stays-under : (bs : List ℕ) (more held : ℕ → Bool) (v u : ChainsValue) (g h : GroupValue) → h.witness ≡ witness_for bs g.witness → GroupStaysUnder g h
+    → StandsUnder bs more v held u → IsUnder more v g → IsUnder held u h
 stays-under bs more held v u g h is stays stands under =
     let w = witness_for bs g.witness in
     let left = stays more v g.witness under.0 under.1 in
@@ -127,7 +175,8 @@ stays-under bs more held v u g h is stays stands under =
     (step h.versions left.0, step h.mixed left.1)
 
 -- what is listed with another group in a group's place
-listed-set : (gs : List GroupValue) (i : ℕ) (g h : GroupValue) (k : Bytes) (n high : ℕ) → i < length gs → g ≡ get_or gs i g → (is_in g.versions k n high ≡ true → is_in h.versions k n high ≡ true) → is_listed gs k n high ≡ true → is_listed (set gs i h) k n high ≡ true
+listed-set : (gs : List GroupValue) (i : ℕ) (g h : GroupValue) (k : Bytes) (n high : ℕ) → i < length gs → g ≡ get_or gs i g
+    → (is_in g.versions k n high ≡ true → is_in h.versions k n high ≡ true) → is_listed gs k n high ≡ true → is_listed (set gs i h) k n high ≡ true
 listed-set gs i g h k n high lt at more t =
     let p = λ (y : GroupValue). is_in y.versions k n high in
     grind (arith, any-remove p gs i g lt at, any-set p gs i h lt)
@@ -136,11 +185,13 @@ due-sum : (bs : List ℕ) (gs : List GroupValue) → due_in bs gs ≡ sum_by (du
 due-sum bs = is_sum_by (due_in bs) (due_for bs) refl (λ _ _. refl)
 
 -- what is due with another group in a group's place
-due-set : (bs : List ℕ) (gs : List GroupValue) (i : ℕ) (g h : GroupValue) → i < length gs → g ≡ get_or gs i g → due_in bs (set gs i h) + due_for bs g ≡ due_in bs gs + due_for bs h
+due-set : (bs : List ℕ) (gs : List GroupValue) (i : ℕ) (g h : GroupValue) → i < length gs → g ≡ get_or gs i g
+    → due_in bs (set gs i h) + due_for bs g ≡ due_in bs gs + due_for bs h
 due-set bs gs i g h lt at = grind (arith, common_steps, due-sum bs)
 
 -- what is due from there on
-due-put : (bs : List ℕ) (gs : List GroupValue) (i : ℕ) (h : GroupValue) → i < length gs → due_in bs (drop i (set gs i h)) ≡ due_for bs h + due_in bs (drop (suc i) gs)
+due-put : (bs : List ℕ) (gs : List GroupValue) (i : ℕ) (h : GroupValue) → i < length gs
+    → due_in bs (drop i (set gs i h)) ≡ due_for bs h + due_in bs (drop (suc i) gs)
 due-put bs gs i h lt = rw (drop-set, add-one)
 
 -- the witness is one of the numbers or 0
@@ -153,16 +204,14 @@ pub record Settling (bs : List ℕ) (old now : Chains) (olds gs : List GroupValu
   pub part : IsPartReclaimed bs old now
   pub kept : (last : ℕ) → IsKept old last → IsKept now last
   pub listed : IsListed now gs
-  pub settled : AllByRecursion (IsLookedAfter bs now) (drop left gs)
+  pub looked_after : AllByRecursion (IsLookedAfter bs now) (drop left gs)
   pub looked_at : due_in bs gs + lists_a_step ≡ due_in bs olds + most
   pub none_behind : 0 < most → due_in bs (drop left gs) ≡ 0
   pub few : most ≤ lists_a_step
   pub held : AllByRecursion (IsHeld bs) (drop left gs)
-  pub truly : AllByRecursion (IsTrulyMixed bs) (drop left gs)
   pub lists : lists_in gs ≤ lists_in olds
   pub each : (more held : ℕ → Bool) (v u : ChainsValue) → StandsUnder bs more v held u → AreUnderWitnesses more v olds → AreUnderWitnesses held u (drop left gs)
   pub before : (more : ℕ → Bool) (v : ChainsValue) → AreUnderWitnesses more v olds → AreUnderWitnesses more v (take left gs)
-  pub mixed : AreMixedSettled bs now (drop left gs)
 
 -- no group was looked at
 pub settling-none : (bs : List ℕ) (es : Chains) (gs : List GroupValue) → IsListed es gs → Settling bs es es gs gs (length gs) lists_a_step
@@ -173,23 +222,26 @@ settling-none bs es gs listed =
       part = λ k. inl refl;
       kept = λ n h. h;
       listed = listed;
-      settled = all-none (IsLookedAfter bs es) gs;
+      looked_after = all-none (IsLookedAfter bs es) gs;
       looked_at = refl;
       none_behind = λ some. ap (due_in bs) none;
       few = omega arith;
       held = all-none (IsHeld bs) gs;
-      truly = all-none (IsTrulyMixed bs) gs;
       lists = omega arith;
       each = λ more held v u stands under. all-none (IsUnder held u) gs;
       before = λ more v under. subst (AreUnderWitnesses more v) (sym (take_all (length gs) gs (omega arith))) under;
-      mixed = all-none (λ x. AllByRecursion (IsSettled bs es) x.mixed) gs;
     }
 
 -- the group before them was looked at
-pub settling-settled : (bs : List ℕ) (old now new : Chains) (olds gs : List GroupValue) (i left last most more : ℕ) (g h : GroupValue) → left ≡ i + 1 → g ≡ get_or gs i g → IsKept old last → IsPartReclaimed bs now new → ((last : ℕ) → IsKept now last → IsKept new last)
-    → more ≡ most - due_for bs g → due_for bs h ≡ due_for bs g - most → IsLookedAfter bs new h → AreKept g.versions h.versions new → IsHeld bs h → IsTrulyMixed bs h → h.lists ≤ g.lists → h.witness ≡ witness_for bs g.witness → GroupStaysUnder g h → AllByRecursion (IsSettled bs new) h.mixed → Settling bs old now olds gs left most
+pub settling-settled : (bs : List ℕ) (old now new : Chains) (olds gs : List GroupValue) (i left last most more : ℕ) (g h : GroupValue) → left ≡ i + 1
+    → g ≡ get_or gs i g → IsKept old last → more ≡ most - due_for bs g → due_for bs h ≡ due_for bs g - most
+    → ReclaimsChains bs now new → DropsFromGroup new (witness_for bs g.witness) g h → IsLookedAfter bs new h
+    → Settling bs old now olds gs left most
     → Settling bs old new olds (set gs i h) i more
-settling-settled bs old now new olds gs i left last most more g h next at ordered p keeps spare due settled kept held truly counted is stays mixed t =
+settling-settled bs old now new olds gs i left last most more g h next at ordered spare due chains group looked t =
+    let p = chains.part in
+    let held : IsHeld bs h = ap (is_among (0 ∷ bs)) group.witness ∙ witness-among bs g.witness in
+    let counted = group.lists in
     let s = subst (λ n. Settling bs old now olds gs n most) {x = left} {y = suc i} (omega (arith, next)) t in
     let lt : i < length gs = omega arith in
     let sum = due-set bs gs i g h lt at in
@@ -197,66 +249,93 @@ settling-settled bs old now new olds gs i left last most more g h next at ordere
     record {
       in_range = omega (arith, lt, length-set {A = GroupValue});
       part = part-trans bs old now new last ordered s.part p;
-      kept = λ n k. keeps n (s.kept n k);
+      kept = λ n k. chains.kept n (s.kept n k);
       listed = listed-part bs now new gs (set gs i h) last (s.kept last ordered) p (λ k n high there.
-          let stays = kept k n high in listed-set gs i g h k n high lt at (λ e. grind arith)) s.listed;
-      settled = all-put (IsLookedAfter bs new) gs i h lt settled
-          (all-each (IsLookedAfter bs now) _ (drop (suc i) gs) (λ x f e. all-settled-part bs now new p x.versions (f e)) s.settled);
+          let stays = group.left k n high in listed-set gs i g h k n high lt at (λ e. grind arith)) s.listed;
+      looked_after = all-put (IsLookedAfter bs new) gs i h lt looked
+          (all-each (IsLookedAfter bs now) _ (drop (suc i) gs) (looked-part bs now new p) s.looked_after);
       looked_at = omega arith;
       none_behind = λ some. omega (arith, due-put bs gs i h lt, s.none_behind);
       few = omega arith;
       held = all-put (IsHeld bs) gs i h lt held s.held;
-      truly = all-put (IsTrulyMixed bs) gs i h lt truly s.truly;
       lists = omega arith;
       each = λ more held v u stands under.
           let own = all-last (IsUnder more v) gs i g lt at (s.before more v under) in
-          all-put (IsUnder held u) gs i h lt (stays-under bs more held v u g h is stays stands own) (s.each more held v u stands under);
+          all-put (IsUnder held u) gs i h lt (stays-under bs more held v u g h group.witness group.each stands own) (s.each more held v u stands under);
       before = λ more v under. all-ahead (IsUnder more v) gs i h (s.before more v under);
-      mixed = all-put (λ x. AllByRecursion (IsSettled bs new) x.mixed) gs i h lt mixed
-          (all-each (λ x. AllByRecursion (IsSettled bs now) x.mixed) _ (drop (suc i) gs) (λ x. all-settled-part bs now new p x.mixed) s.mixed);
     }
 
 -- ---- the end of the loop
 
-listed-needed : (bs : List ℕ) (es : Chains) (k : Bytes) (n high : ℕ) (vs : List Listed) → AllByRecursion (IsSettled bs es) vs → is_in vs k n high ≡ true → (is_between bs n high ≡ true) ⊎ IsNeededChain bs (find_chain k es)
+listed-needed : (bs : List ℕ) (es : Chains) (k : Bytes) (n high : ℕ) (vs : List Listed) → AllByRecursion (IsSettled bs es) vs → is_in vs k n high ≡ true
+    → (is_between bs n high ≡ true) ⊎ IsNeededChain bs (find_chain k es)
 listed-needed bs es k n high [] h t = absurd (both_ways _ refl t)
 listed-needed bs es k n high (v ∷ vs) h t =
     let own = h.0 in
     grind (arith, nat_tests, listed-needed bs es k n high vs h.1, between-wider bs v.number v.next n high, same_key k v.key)
 
-group-needed : (bs : List ℕ) (es : Chains) (k : Bytes) (n high : ℕ) (gs : List GroupValue) → AllByRecursion (λ g. AllByRecursion (IsSettled bs es) g.versions) gs → is_listed gs k n high ≡ true → (is_between bs n high ≡ true) ⊎ IsNeededChain bs (find_chain k es)
+group-needed : (bs : List ℕ) (es : Chains) (k : Bytes) (n high : ℕ) (gs : List GroupValue)
+    → AllByRecursion (λ g. AllByRecursion (IsSettled bs es) g.versions) gs → is_listed gs k n high ≡ true
+    → (is_between bs n high ≡ true) ⊎ IsNeededChain bs (find_chain k es)
 group-needed bs es k n high [] h t = absurd (both_ways _ refl t)
 group-needed bs es k n high (g ∷ gs) h t = grind (arith, listed-needed bs es k n high g.versions h.0, group-needed bs es k n high gs h.1)
 
 -- all versions of the chain are needed, or one of them tells so of the chain
-each-needed : (bs : List ℕ) (es : Chains) (k : Bytes) (next : ℕ) (gs : List GroupValue) (us : List Stamped) → AllByRecursion (λ g. AllByRecursion (IsSettled bs es) g.versions) gs → AreListed gs k next us → AreNeeded bs next us ⊎ IsNeededChain bs (find_chain k es)
+each-needed : (bs : List ℕ) (es : Chains) (k : Bytes) (next : ℕ) (gs : List GroupValue) (us : List Stamped)
+    → AllByRecursion (λ g. AllByRecursion (IsSettled bs es) g.versions) gs → AreListed gs k next us → AreNeeded bs next us ⊎ IsNeededChain bs (find_chain k es)
 each-needed bs es k next gs [] h l = inl tt
 each-needed bs es k next gs (u ∷ us) h l = grind (arith, group-needed bs es k u.number (first_number us next) gs h l.0, each-needed bs es k next gs us h l.1)
 
-chain-needed : (bs : List ℕ) (es : Chains) (k : Bytes) (gs : List GroupValue) (o : Option ChainValue) → find_chain k es ≡ o → AllByRecursion (λ g. AllByRecursion (IsSettled bs es) g.versions) gs → IsListedChain gs k o → IsNeededChain bs o
+chain-needed : (bs : List ℕ) (es : Chains) (k : Bytes) (gs : List GroupValue) (o : Option ChainValue) → find_chain k es ≡ o
+    → AllByRecursion (λ g. AllByRecursion (IsSettled bs es) g.versions) gs → IsListedChain gs k o → IsNeededChain bs o
 chain-needed bs es k gs None e h l = tt
 chain-needed bs es k gs (Some c) e h l = grind (arith, each-needed bs es k c.newest.number gs c.older h l)
 
-all-settled : (bs : List ℕ) (es : Chains) (gs : List GroupValue) → due_in bs gs ≡ 0 → AllByRecursion (IsLookedAfter bs es) gs → AllByRecursion (λ g. AllByRecursion (IsSettled bs es) g.versions) gs
+all-settled : (bs : List ℕ) (es : Chains) (gs : List GroupValue) → due_in bs gs ≡ 0 → AllByRecursion (IsLookedAfter bs es) gs
+    → AllByRecursion (λ g. AllByRecursion (IsSettled bs es) g.versions) gs
 all-settled bs es [] none h = tt
-all-settled bs es (g ∷ gs) none h = (h.0 (omega (arith, none)), all-settled bs es gs (omega (arith, none)) h.1)
+all-settled bs es (g ∷ gs) none h = (h.0.settled (omega (arith, none)), all-settled bs es gs (omega (arith, none)) h.1)
 
 -- so many lists are due no more
-pub settling-due : (bs : List ℕ) (old now : Chains) (olds gs : List GroupValue) (most : ℕ) → Settling bs old now olds gs 0 most → due_in bs gs ≡ due_in bs olds - lists_a_step
+settling-due : (bs : List ℕ) (old now : Chains) (olds gs : List GroupValue) (most : ℕ) → Settling bs old now olds gs 0 most
+    → due_in bs gs ≡ due_in bs olds - lists_a_step
 settling-due bs old now olds gs most s =
     let none : 0 < most → due_in bs gs ≡ 0 = s.none_behind in
     grind (arith, s.looked_at, s.few)
 
 -- each witness is one of the numbers or 0
-pub settling-held : (bs : List ℕ) (old now : Chains) (olds gs : List GroupValue) (most : ℕ) → Settling bs old now olds gs 0 most → AreAmong (0 ∷ bs) (witnesses gs)
+settling-held : (bs : List ℕ) (old now : Chains) (olds gs : List GroupValue) (most : ℕ) → Settling bs old now olds gs 0 most
+    → AreAmong (0 ∷ bs) (witnesses gs)
 settling-held bs old now olds gs most s = all-map (λ n. is_among (0 ∷ bs) n ≡ true) (λ g. g.witness) gs s.held
 
 -- where none is due, all chains were reclaimed
-pub settling-ended : (bs : List ℕ) (old now : Chains) (olds gs : List GroupValue) (most : ℕ) → Settling bs old now olds gs 0 most → due_in bs gs ≡ 0 → (k : Bytes) → find_chain k now ≡ option_map (reclaimed bs) (find_chain k old)
+settling-ended : (bs : List ℕ) (old now : Chains) (olds gs : List GroupValue) (most : ℕ) → Settling bs old now olds gs 0 most → due_in bs gs ≡ 0
+    → IsAllReclaimed bs old now
 settling-ended bs old now olds gs most s none k =
-    let settled = all-settled bs now gs none s.settled in
+    let settled = all-settled bs now gs none s.looked_after in
     let same = reclaimed-needed bs (find_chain k now) (chain-needed bs now k gs (find_chain k now) refl settled (s.listed k)) in
     grind (arith, s.part k)
+
+-- a step was made
+pub settling-step : (bs : List ℕ) (old now : Chains) (olds gs : List GroupValue) (most : ℕ) → Settling bs old now olds gs 0 most
+    → ReclaimsStep bs old now olds gs
+settling-step bs old now olds gs most s = record {
+  due = settling-due bs old now olds gs most s;
+  chains = record { part = s.part; kept = s.kept };
+  all = settling-ended bs old now olds gs most s;
+}
+
+-- and all groups were looked at
+pub settling-all : (bs : List ℕ) (old now : Chains) (olds gs : List GroupValue) (most : ℕ) → Settling bs old now olds gs 0 most
+    → AreLookedAt bs now olds gs
+settling-all bs old now olds gs most s = record {
+  listed = s.listed;
+  lists = s.lists;
+  held = settling-held bs old now olds gs most s;
+  truly = all-each (IsLookedAfter bs now) _ gs (λ g h. h.truly) s.looked_after;
+  mixed = all-each (IsLookedAfter bs now) _ gs (λ g h. h.mixed) s.looked_after;
+  each = s.each;
+}
 
 -- some list is due
 pub any-due : (bs : List ℕ) (gs : List GroupValue) → list_any (λ g. nat_lt 0 (due_for bs g)) gs ≡ nat_lt 0 (due_in bs gs)
@@ -265,6 +344,26 @@ any-due bs (g ∷ gs) = grind (arith, nat_tests, any-due bs gs)
 
 -- ---- groups that are joined
 
+pub keeps-itself : (gs : List GroupValue) → KeepsListed gs gs
+keeps-itself gs = record {
+  found = λ k n high t. t;
+  due = λ bs. refl;
+  held = λ bs h. h;
+  truly = λ bs h. h;
+  mixed = λ bs es h. h;
+  each = λ held v h. h;
+}
+
+pub keeps-on : (gs hs js : List GroupValue) → KeepsListed gs hs → KeepsListed hs js → KeepsListed gs js
+keeps-on gs hs js one two = record {
+  found = λ k n high t. two.found k n high (one.found k n high t);
+  due = λ bs. two.due bs ∙ one.due bs;
+  held = λ bs h. two.held bs (one.held bs h);
+  truly = λ bs h. two.truly bs (one.truly bs h);
+  mixed = λ bs es h. two.mixed bs es (one.mixed bs es h);
+  each = λ held v h. two.each held v (one.each held v h);
+}
+
 pub found-remove : (gs hs : List GroupValue) (i : ℕ) (g : GroupValue) → i < length gs → g ≡ get_or gs i g → hs ≡ remove gs i
     → g.versions ≡ [] → AreFound gs hs
 found-remove gs hs i g lt at less none k n high t =
@@ -272,7 +371,8 @@ found-remove gs hs i g lt at less none k n high t =
     grind (arith, any-remove p gs i g lt at, ap (list_any p) less, ap (λ l. is_in l k n high) none)
 
 -- a group's versions move to another
-pub join-found : (gs hs : List GroupValue) (i m : ℕ) (a g j : GroupValue) → i < length gs → g ≡ get_or gs i g → hs ≡ remove gs i → m < length hs → a ≡ get_or hs m a → AreOfBoth a.versions g.versions j.versions → AreFound gs (set hs m j)
+pub join-found : (gs hs : List GroupValue) (i m : ℕ) (a g j : GroupValue) → i < length gs → g ≡ get_or gs i g → hs ≡ remove gs i → m < length hs
+    → a ≡ get_or hs m a → AreOfBoth a.versions g.versions j.versions → AreFound gs (set hs m j)
 join-found gs hs i m a g j lt second less short first both k n high t =
     let p = λ (y : GroupValue). is_in y.versions k n high in
     let own = any-remove p gs i g lt second in
@@ -281,10 +381,12 @@ join-found gs hs i m a g j lt second less short first both k n high t =
 
 -- ---- what is due stays when groups are joined
 
-pub due-empty : (bs : List ℕ) (gs hs : List GroupValue) (i : ℕ) (g : GroupValue) → i < length gs → g ≡ get_or gs i g → hs ≡ remove gs i → due_for bs g ≡ 0 → due_in bs hs ≡ due_in bs gs
+pub due-empty : (bs : List ℕ) (gs hs : List GroupValue) (i : ℕ) (g : GroupValue) → i < length gs → g ≡ get_or gs i g → hs ≡ remove gs i → due_for bs g ≡ 0
+    → due_in bs hs ≡ due_in bs gs
 due-empty bs gs hs i g lt at is none = grind (arith, common_steps, due-sum bs, ap (due_in bs) is)
 
-pub due-joined : (bs : List ℕ) (gs hs : List GroupValue) (i m : ℕ) (a g j : GroupValue) → i < length gs → g ≡ get_or gs i g → hs ≡ remove gs i → a ≡ get_or hs m a → m < length hs → due_for bs j ≡ due_for bs a + due_for bs g → due_in bs (set hs m j) ≡ due_in bs gs
+pub due-joined : (bs : List ℕ) (gs hs : List GroupValue) (i m : ℕ) (a g j : GroupValue) → i < length gs → g ≡ get_or gs i g → hs ≡ remove gs i
+    → a ≡ get_or hs m a → m < length hs → due_for bs j ≡ due_for bs a + due_for bs g → due_in bs (set hs m j) ≡ due_in bs gs
 due-joined bs gs hs i m a g j lt second less first short both =
     let left = ap (due_in bs) less in
     grind (arith, common_steps, due-set bs hs m a j short first, due-sum bs)
@@ -296,15 +398,18 @@ list_all-lists p [] = refl
 list_all-lists p (x ∷ xs) = list_all-append p x.items (versions_in xs) ∙ ap (λ b. list_all p x.items && b) (list_all-lists p xs)
 
 -- the number doesn't see each version of the lists
-pub unseen : {Z : Type 0} (bs : List ℕ) (w : ℕ) (xs : List (Vec Listed Z)) → list_all (λ x. list_all (is_seen_from w) x.items) xs ≡ false → (is_among bs w && list_all (is_seen_from w) (versions_in xs)) ≡ false
+pub unseen : {Z : Type 0} (bs : List ℕ) (w : ℕ) (xs : List (Vec Listed Z)) → list_all (λ x. list_all (is_seen_from w) x.items) xs ≡ false
+    → (is_among bs w && list_all (is_seen_from w) (versions_in xs)) ≡ false
 unseen bs w xs f = and_right (is_among bs w) _ (list_all-lists (is_seen_from w) xs ∙ f)
 
 -- they are the only mixed ones
-pub unseen-put : (bs : List ℕ) (w : ℕ) (ms us vs : List Listed) → vs ≡ ms ++ us → ms ≡ [] → (is_among bs w && list_all (is_seen_from w) us) ≡ false → (is_among bs w && list_all (is_seen_from w) vs) ≡ false
+pub unseen-put : (bs : List ℕ) (w : ℕ) (ms us vs : List Listed) → vs ≡ ms ++ us → ms ≡ [] → (is_among bs w && list_all (is_seen_from w) us) ≡ false
+    → (is_among bs w && list_all (is_seen_from w) vs) ≡ false
 unseen-put bs w ms us vs is none f = let same = is ∙ ap (λ l. l ++ us) none in grind arith
 
 -- one of the groups is joined to another
-pub all-joined : (P : GroupValue → Type 0) (gs hs : List GroupValue) (i m : ℕ) (a g j : GroupValue) → i < length gs → g ≡ get_or gs i g → hs ≡ remove gs i → m < length hs → a ≡ get_or hs m a → (P a → P g → P j) → AllByRecursion P gs → AllByRecursion P (set hs m j)
+pub all-joined : (P : GroupValue → Type 0) (gs hs : List GroupValue) (i m : ℕ) (a g j : GroupValue) → i < length gs → g ≡ get_or gs i g → hs ≡ remove gs i
+    → m < length hs → a ≡ get_or hs m a → (P a → P g → P j) → AllByRecursion P gs → AllByRecursion P (set hs m j)
 all-joined P gs hs i m a g j lt at less within other joins h =
     let left = subst (λ l. AllByRecursion P l) (sym less) (all-remove P gs i h) in
     all-set P hs m j (joins (subst P (sym other) (all-get P hs m a within left)) (subst P (sym at) (all-get P gs i g lt h))) left

@@ -1,14 +1,26 @@
 -- The histories that versions stand for, from call to call.
-use Rattle.versions.proofs.Words.{◌≡◌, ℕ, ◌+◌, ◌<◌, ◌≤◌, Bool, ◌&&◌, List, [], ◌∷◌, ◌++◌, length, Option, Some, refl, sym, ap, subst, ◌∙◌, arith, inl, inr, and_parts, or_cases, or_left, or_right, ◌↔◌, option_map, nat_le, if◌then◌else◌, cond_both, nat_tests, Bytes, KeyMap, KeyWrite, IsMap, after_writes, value_at, IsMap-after_writes, ChainsValue, IsRoomier, is_among, IsSameMeaning, IsInstalled, IsSeenSame, StandsFor, StandWhereAmong, UnmixedWhereHeld, last_writer_from, AreUnderWitnesses}
-use Rattle.std.proofs.Common.{length-append}
-use Rattle.model.specs.{History.Record, History.map_at, Dependency.writes_key}
+use Rattle.std.proofs.Common.{◌≡◌, ℕ, ◌+◌, ◌<◌, ◌≤◌, Bool, ◌&&◌, List, [], ◌∷◌, ◌++◌, length, Option, Some, refl, sym}
+use Rattle.std.proofs.Common.{ap, subst, ◌∙◌, arith, inl, inr, length-append}
+use Rattle.std.proofs.lemmas.Bool.{and_parts, or_cases, or_left, or_right, cond_both}
+use Rattle.std.proofs.lemmas.Bool.Decides.{nat_tests}
+use Rattle.std.specs.Prelude.{◌↔◌, option_map, nat_le, if◌then◌else◌}
+use Rattle.model.proofs.Lookups.{IsMap-after_writes}
+use Rattle.model.specs.Dependency.{writes_key}
+use Rattle.model.specs.History.{Record, map_at}
+use Rattle.model.specs.Map.{Bytes, KeyMap, KeyWrite, IsMap, after_writes, value_at}
 use Rattle.versions.proofs.UnderWitnesses.{groups-under, under-roomier, under-roomy}
+use Rattle.versions.specs.Chains.{ChainsValue, IsRoomier}
+use Rattle.versions.specs.Meaning.{is_among, IsSameMeaning, IsInstalled, IsSeenSame}
+use Rattle.versions.specs.StandsFor.{StandsFor, StandWhereAmong, UnmixedWhereHeld, last_writer_from}
+use Rattle.versions.specs.Witnesses.{AreUnderWitnesses}
 
-pub map_at-push : (base : KeyMap) (rs : List Record) (r : Record) (n : ℕ) → map_at base (rs ++ r ∷ []) n ≡ (if nat_le r.commit n then after_writes (map_at base rs n) r.writes else map_at base rs n)
+pub map_at-push : (base : KeyMap) (rs : List Record) (r : Record) (n : ℕ)
+    → map_at base (rs ++ r ∷ []) n ≡ (if nat_le r.commit n then after_writes (map_at base rs n) r.writes else map_at base rs n)
 map_at-push base [] r n = refl
 map_at-push base (s ∷ rs) r n = map_at-push (if nat_le s.commit n then after_writes base s.writes else base) rs r n
 
-last_writer-push : (d : Option ℕ) (rs : List Record) (r : Record) (k : Bytes) → last_writer_from d (rs ++ r ∷ []) k ≡ (if writes_key r k then Some r.commit else last_writer_from d rs k)
+last_writer-push : (d : Option ℕ) (rs : List Record) (r : Record) (k : Bytes)
+    → last_writer_from d (rs ++ r ∷ []) k ≡ (if writes_key r k then Some r.commit else last_writer_from d rs k)
 last_writer-push d [] r k = refl
 last_writer-push d (s ∷ rs) r k = last_writer-push (if writes_key s k then Some s.commit else d) rs r k
 
@@ -24,7 +36,8 @@ module _ (v : ChainsValue) (held : ℕ → Bool) (base : KeyMap) (history : List
   }
 
   module _ (new : ChainsValue) where
-    pub stands-same : IsSameMeaning v new → IsRoomier v.chains new.chains → new.groups ≡ v.groups → StandsFor v held base history ↔ StandsFor new held base history
+    pub stands-same : IsSameMeaning v new → IsRoomier v.chains new.chains → new.groups ≡ v.groups → StandsFor v held base history
+        ↔ StandsFor new held base history
     stands-same h more same = (
       λ s. record {
         is_map = s.is_map;
@@ -42,7 +55,9 @@ module _ (v : ChainsValue) (held : ℕ → Bool) (base : KeyMap) (history : List
       },
     )
 
-    pub stands-installed : (n : ℕ) (ws : List KeyWrite) (r : Record) → IsInstalled v new n ws → (AreUnderWitnesses held v v.groups → AreUnderWitnesses held new new.groups) → v.last < n → length history + 1 ≡ n → r.commit ≡ n → r.writes ≡ ws → StandsFor v held base history → StandsFor new held base (history ++ r ∷ [])
+    pub stands-installed : (n : ℕ) (ws : List KeyWrite) (r : Record) → IsInstalled v new n ws
+        → (AreUnderWitnesses held v v.groups → AreUnderWitnesses held new new.groups) → v.last < n → length history + 1 ≡ n → r.commit ≡ n → r.writes ≡ ws
+        → StandsFor v held base history → StandsFor new held base (history ++ r ∷ [])
     stands-installed n ws r h under lt long commit is s =
         let last = h.last in
         record {
@@ -53,7 +68,9 @@ module _ (v : ChainsValue) (held : ℕ → Bool) (base : KeyMap) (history : List
           witnessed = under s.witnessed;
         }
 
-    pub stands-reclaimed : (bs : List ℕ) → IsSeenSame v new bs → (AreUnderWitnesses held v v.groups → AreUnderWitnesses (λ n. held n && is_among bs n) new new.groups) → StandsFor v held base history → StandsFor new (λ n. held n && is_among bs n) base history
+    pub stands-reclaimed : (bs : List ℕ) → IsSeenSame v new bs
+        → (AreUnderWitnesses held v v.groups → AreUnderWitnesses (λ n. held n && is_among bs n) new new.groups) → StandsFor v held base history
+        → StandsFor new (λ n. held n && is_among bs n) base history
     stands-reclaimed bs h under s =
         let last = h.last in
         record {
@@ -72,7 +89,8 @@ held_twice bs held n = grind arith
 
 pub stands-on : (bs : List ℕ) (old mid new : ChainsValue) → StandWhereAmong bs old mid → StandWhereAmong bs mid new → StandWhereAmong bs old new
 stands-on bs old mid new g h = λ held base history s.
-    subst (λ (f : ℕ → Bool). StandsFor new f base history) (λ i n. held_twice bs held n i) (h (λ n. held n && is_among bs n) base history (g held base history s))
+    subst (λ (f : ℕ → Bool). StandsFor new f base history) (λ i n. held_twice bs held n i)
+    (h (λ n. held n && is_among bs n) base history (g held base history s))
 
 pub unmixed-on : (bs : List ℕ) (old mid new : ChainsValue) → StandWhereAmong bs old mid → UnmixedWhereHeld bs mid new → UnmixedWhereHeld bs old new
 unmixed-on bs old mid new g h = λ held base history s all.
@@ -92,7 +110,11 @@ stands-itself bs v = λ held base history s. record {
     rises = h.rises;
     installed = h.installed;
     between = λ b t. h.between b (and_parts (held b) (is_among bs b) t).0;
-    chain = λ c found. (let u = h.chain c found in record { behind = u.behind; installed = u.installed; sees = λ b t. u.sees b (and_parts (held b) (is_among bs b) t).0 });
+    chain = λ c found. (let u = h.chain c found in record {
+      behind = u.behind;
+      installed = u.installed;
+      sees = λ b t. u.sees b (and_parts (held b) (is_among bs b) t).0;
+    });
   }) s.witnessed;
 }
 

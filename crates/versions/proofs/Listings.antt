@@ -1,15 +1,41 @@
 -- Each older version is listed: where chains are made, get more room, a version more, or are reclaimed.
-use Rattle.versions.proofs.Words.{[], IsTrue, ◌≡◌, ℕ, ◌≤◌, Bool, true, false, List, ◌∷◌, ◌++◌, Option, Some, None, refl, sym, ap, subst, arith, inl, inr, option_map, ◌==◌, IfSome, AllByRecursion, list_any, list_any-append, nat_cmp, slice_cmp, put, or_right, cond_both, all-each, nat_tests, Bytes, KeyMap, is_same_key, same_key, same_key_itself, Stamped, ChainValue, Chains, find_chain, added, stamped, first_number, is_between, seen_by, reclaimed, base_chains, IsKept, IsRisingTo, IsRisingChain, IsReclaimedAt, IsRoomier, is_of, is_in, is_listed, AreListed, IsListedChain, IsListed, AreFound, unwitnessed, followed, has_version, AreNeeded, IsNeededChain, IsSettled, IsPartReclaimed, AreKept, GroupValue, Listed}
-use Rattle.versions.proofs.{ChainLaws.any-weaker, ChainLaws.between-wider, ChainLaws.first_rises, Visibles.find_chain-put}
+use Rattle.std.proofs.Common.{[], ◌≡◌, ℕ, ◌≤◌, Bool, true, false, List, ◌∷◌, ◌++◌, Option, Some, None, refl, sym, ap}
+use Rattle.std.proofs.Common.{subst, arith, inl, inr}
+use Rattle.std.proofs.lemmas.Bool.{or_right, cond_both}
+use Rattle.std.proofs.lemmas.Bool.Decides.{nat_tests}
+use Rattle.std.proofs.lemmas.List.Folds.{list_any-append}
+use Rattle.std.specs.Cmp.Lexicographic.{slice_cmp}
+use Rattle.std.specs.FinMap.Entries.{put}
+use Rattle.std.specs.List.{AllByRecursion, list_any}
+use Rattle.std.specs.Ordering.{nat_cmp}
+use Rattle.std.specs.Prelude.{IsTrue, option_map, ◌==◌, IfSome}
+use Rattle.model.proofs.Elements.{all-each}
+use Rattle.model.proofs.Lookups.{same_key, same_key_itself}
+use Rattle.model.specs.Map.{Bytes, KeyMap, is_same_key}
+use Rattle.versions.proofs.ChainLaws.{any-weaker, between-wider, first_rises}
 use Rattle.versions.proofs.Stores.{RoomierFound, find-roomier, twice, rising_found}
+use Rattle.versions.proofs.Visibles.{find_chain-put}
+use Rattle.versions.specs.Chains.{Stamped, ChainValue, Chains, find_chain, added, stamped, first_number, is_between}
+use Rattle.versions.specs.Chains.{seen_by, reclaimed, base_chains, IsKept, IsRisingTo, IsRisingChain, IsReclaimedAt}
+use Rattle.versions.specs.Chains.{IsRoomier}
+use Rattle.versions.specs.Groups.{GroupValue, Listed}
+use Rattle.versions.specs.Listings.{is_of, is_in, is_listed, AreListed, IsListedChain, IsListed, AreFound}
+use Rattle.versions.specs.Listings.{unwitnessed, followed, has_version, AreNeeded, IsNeededChain, IsSettled}
+use Rattle.versions.specs.Listings.{IsPartReclaimed, AreKept}
 
 -- ---- more groups
 
-listed-left : (gs hs : List GroupValue) (k : Bytes) (next : ℕ) (us : List Stamped) → ((n high : ℕ) → list_any (λ v. v.number == n) us ≡ true → is_listed gs k n high ≡ true → is_listed hs k n high ≡ true) → AreListed gs k next us → AreListed hs k next us
+listed-left : (gs hs : List GroupValue) (k : Bytes) (next : ℕ) (us : List Stamped)
+    → ((n high : ℕ) → list_any (λ v. v.number == n) us ≡ true → is_listed gs k n high ≡ true → is_listed hs k n high ≡ true) → AreListed gs k next us
+    → AreListed hs k next us
 listed-left gs hs k next [] more h = tt
-listed-left gs hs k next (u ∷ us) more h = (grind (arith, nat_tests, more u.number, h.0), listed-left gs hs k next us (λ n high t. more n high (or_right (u.number == n) (list_any (λ v. v.number == n) us) t)) h.1)
+listed-left gs hs k next (u ∷ us) more h = (
+  grind (arith, nat_tests, more u.number, h.0),
+  listed-left gs hs k next us (λ n high t. more n high (or_right (u.number == n) (list_any (λ v. v.number == n) us) t)) h.1,
+)
 
-chain-left : (gs hs : List GroupValue) (k : Bytes) (o : Option ChainValue) → ((n high : ℕ) → has_version n o ≡ true → is_listed gs k n high ≡ true → is_listed hs k n high ≡ true) → IsListedChain gs k o → IsListedChain hs k o
+chain-left : (gs hs : List GroupValue) (k : Bytes) (o : Option ChainValue)
+    → ((n high : ℕ) → has_version n o ≡ true → is_listed gs k n high ≡ true → is_listed hs k n high ≡ true) → IsListedChain gs k o → IsListedChain hs k o
 chain-left gs hs k None more h = tt
 chain-left gs hs k (Some c) more h = listed-left gs hs k c.newest.number c.older more h
 
@@ -30,37 +56,44 @@ listed-roomier es fs gs more h k = chain-roomier gs k (find_chain k es) (find_ch
 
 -- ---- a version more
 
-listed-push : (gs hs : List GroupValue) → AreFound gs hs → (k : Bytes) (vs : List Stamped) (v : Stamped) (n : ℕ) → AreListed gs k v.number vs → is_listed hs k v.number n ≡ true → AreListed hs k n (vs ++ v ∷ [])
+listed-push : (gs hs : List GroupValue) → AreFound gs hs → (k : Bytes) (vs : List Stamped) (v : Stamped) (n : ℕ) → AreListed gs k v.number vs
+    → is_listed hs k v.number n ≡ true → AreListed hs k n (vs ++ v ∷ [])
 listed-push gs hs more k [] v n h l = (l, tt)
 listed-push gs hs more k (u ∷ vs) v n h l = grind (arith, more k u.number, h.0, listed-push gs hs more k vs v n h.1 l)
 
-listed-added : (gs hs : List GroupValue) → AreFound gs hs → (k : Bytes) (o : Option ChainValue) (v : Stamped) (room : ℕ) → IsListedChain gs k o → ((c : ChainValue) → o ≡ Some c → is_listed hs k c.newest.number v.number ≡ true)
+listed-added : (gs hs : List GroupValue) → AreFound gs hs → (k : Bytes) (o : Option ChainValue) (v : Stamped) (room : ℕ) → IsListedChain gs k o
+    → ((c : ChainValue) → o ≡ Some c → is_listed hs k c.newest.number v.number ≡ true)
     → IsListedChain hs k (Some (added o v room))
 listed-added gs hs more k None v room h l = tt
 listed-added gs hs more k (Some c) v room h l = listed-push gs hs more k c.older c.newest v.number h (l c refl)
 
-listed-put : (k : Bytes) (v : Stamped) (room : ℕ) (es : Chains) (gs hs : List GroupValue) → AreFound gs hs → IsListed es gs → ((c : ChainValue) → find_chain k es ≡ Some c → is_listed hs k c.newest.number v.number ≡ true)
+listed-put : (k : Bytes) (v : Stamped) (room : ℕ) (es : Chains) (gs hs : List GroupValue) → AreFound gs hs → IsListed es gs
+    → ((c : ChainValue) → find_chain k es ≡ Some c → is_listed hs k c.newest.number v.number ≡ true)
     → IsListed (put (slice_cmp nat_cmp) k (added (find_chain k es) v room) es) hs
 listed-put k v room es gs hs more h l q =
     let c = added (find_chain k es) v room in
     subst (IsListedChain hs q) (sym (find_chain-put q k c es))
     (cond_both (is_same_key q k) _ _ (IsListedChain hs q)
-    (λ s. subst (λ (j : Bytes). IsListedChain hs j (Some c)) (sym (same_key q k s)) (listed-added gs hs more k (find_chain k es) v room (h k) l)) (λ f. groups-found es gs hs more h q))
+    (λ s. subst (λ (j : Bytes). IsListedChain hs j (Some c)) (sym (same_key q k s)) (listed-added gs hs more k (find_chain k es) v room (h k) l))
+    (λ f. groups-found es gs hs more h q))
 
 found-push : (ls us : List Listed) (gs : List GroupValue) → AreFound (unwitnessed ls ∷ gs) (unwitnessed (ls ++ us) ∷ gs)
 found-push ls us gs k n high t = grind (arith, list_any-append (is_of k n high) ls us)
 
-listed-followed : (ls : List Listed) (gs : List GroupValue) (k : Bytes) (n : ℕ) (o : Option ChainValue) (c : ChainValue) → o ≡ Some c → is_listed (unwitnessed (ls ++ followed o k n) ∷ gs) k c.newest.number n ≡ true
+listed-followed : (ls : List Listed) (gs : List GroupValue) (k : Bytes) (n : ℕ) (o : Option ChainValue) (c : ChainValue) → o ≡ Some c
+    → is_listed (unwitnessed (ls ++ followed o k n) ∷ gs) k c.newest.number n ≡ true
 listed-followed ls gs k n None c e = cc
 listed-followed ls gs k n (Some d) c e =
     let same : d ≡ c = cc in
     grind (arith, nat_tests, list_any-append (is_of k c.newest.number n) ls (followed (Some d) k n), same_key_itself k)
 
 -- a write comes in
-pub listed-write : (k : Bytes) (n : ℕ) (value : Option Bytes) (room : ℕ) (es : Chains) (ls : List Listed) (gs : List GroupValue) → IsListed es (unwitnessed ls ∷ gs)
+pub listed-write : (k : Bytes) (n : ℕ) (value : Option Bytes) (room : ℕ) (es : Chains) (ls : List Listed) (gs : List GroupValue)
+    → IsListed es (unwitnessed ls ∷ gs)
     → IsListed (put (slice_cmp nat_cmp) k (added (find_chain k es) (stamped n value) room) es) (unwitnessed (ls ++ followed (find_chain k es) k n) ∷ gs)
 listed-write k n value room es ls gs h =
-    listed-put k (stamped n value) room es (unwitnessed ls ∷ gs) (unwitnessed (ls ++ followed (find_chain k es) k n) ∷ gs) (found-push ls (followed (find_chain k es) k n) gs) h
+    listed-put k (stamped n value) room es (unwitnessed ls ∷ gs) (unwitnessed (ls ++ followed (find_chain k es) k n)
+    ∷ gs) (found-push ls (followed (find_chain k es) k n) gs) h
     (λ c e. listed-followed ls gs k n (find_chain k es) c e)
 
 -- the list becomes the last of the groups
@@ -74,7 +107,8 @@ listed-later : (gs : List GroupValue) (k : Bytes) (n high high' : ℕ) → high 
 listed-later gs k n high high' le = any-weaker (λ (g : GroupValue). is_in g.versions k n high) (λ (g : GroupValue). is_in g.versions k n high') gs
     (λ g. any-weaker (is_of k n high) (is_of k n high') g.versions (λ v t. grind (arith, nat_tests, t, le)))
 
-listed-seen : (gs : List GroupValue) (k : Bytes) (bs : List ℕ) (n : ℕ) (vs : List Stamped) → IsRisingTo vs n → AreListed gs k n vs → AreListed gs k n (seen_by bs n vs)
+listed-seen : (gs : List GroupValue) (k : Bytes) (bs : List ℕ) (n : ℕ) (vs : List Stamped) → IsRisingTo vs n → AreListed gs k n vs
+    → AreListed gs k n (seen_by bs n vs)
 listed-seen gs k bs n [] r h = tt
 listed-seen gs k bs n (v ∷ vs) r h =
     let rest = listed-seen gs k bs n vs r.2 h.1 in
@@ -87,7 +121,8 @@ needed-seen bs n [] r = tt
 needed-seen bs n (v ∷ vs) r =
     let rest = needed-seen bs n vs r.2 in
     cond_both (is_between bs v.number (first_number vs n)) _ _ (AreNeeded bs n)
-    (λ t. (between-wider bs v.number (first_number vs n) v.number (first_number (seen_by bs n vs) n) (omega arith) (first_rises bs n vs r.2) t, rest)) (λ f. rest)
+    (λ t. (between-wider bs v.number (first_number vs n) v.number (first_number (seen_by bs n vs) n) (omega arith) (first_rises bs n vs r.2) t, rest))
+    (λ f. rest)
 
 pub needed-chain : (bs : List ℕ) (o : Option ChainValue) (last : ℕ) → IfSome o (λ c. IsRisingChain last c) → IsNeededChain bs (option_map (reclaimed bs) o)
 needed-chain bs None last h = tt
@@ -115,20 +150,23 @@ has_reclaimed bs n (Some c) e = grind (arith, any-seen (λ (v : Stamped). v.numb
 pub part-at : (bs : List ℕ) (k : Bytes) (now new : Chains) → IsReclaimedAt bs k now new → IsPartReclaimed bs now new
 part-at bs k now new r q = grind (arith, r.found q, same_key q k)
 
-pub part-trans : (bs : List ℕ) (old now new : Chains) (last : ℕ) → IsKept old last → IsPartReclaimed bs old now → IsPartReclaimed bs now new → IsPartReclaimed bs old new
+pub part-trans : (bs : List ℕ) (old now new : Chains) (last : ℕ) → IsKept old last → IsPartReclaimed bs old now → IsPartReclaimed bs now new
+    → IsPartReclaimed bs old new
 part-trans bs old now new last kept a b k =
     let same = twice bs last (find_chain k old) (rising_found k old last kept) in
     grind (arith, a k, b k)
 
 -- what is needed goes no more
-needed-part : (bs : List ℕ) (k : Bytes) (now new : Chains) → IsPartReclaimed bs now new → IsNeededChain bs (find_chain k now) → find_chain k now ≡ find_chain k new
+needed-part : (bs : List ℕ) (k : Bytes) (now new : Chains) → IsPartReclaimed bs now new → IsNeededChain bs (find_chain k now)
+    → find_chain k now ≡ find_chain k new
 needed-part bs k now new p h = let same = reclaimed-needed bs (find_chain k now) h in grind (arith, p k)
 
 pub settled-part : (bs : List ℕ) (now new : Chains) → IsPartReclaimed bs now new → (v : Listed) → IsSettled bs now v → IsSettled bs new v
 settled-part bs now new p v (inl t) = inl t
 settled-part bs now new p v (inr n) = inr (subst (λ o. IsTrue (has_version v.number o) × IsNeededChain bs o) (needed-part bs v.key now new p n.1) n)
 
-pub all-settled-part : (bs : List ℕ) (now new : Chains) → IsPartReclaimed bs now new → (vs : List Listed) → AllByRecursion (IsSettled bs now) vs → AllByRecursion (IsSettled bs new) vs
+pub all-settled-part : (bs : List ℕ) (now new : Chains) → IsPartReclaimed bs now new → (vs : List Listed) → AllByRecursion (IsSettled bs now) vs
+    → AllByRecursion (IsSettled bs new) vs
 all-settled-part bs now new p vs h = all-each (IsSettled bs now) (IsSettled bs new) vs (settled-part bs now new p) h
 
 pub left-part : (bs : List ℕ) (now new : Chains) (os us : List Listed) → IsPartReclaimed bs now new → AreKept os us now → AreKept os us new
@@ -136,12 +174,14 @@ left-part bs now new os us p h k n high t = grind (arith, h k n high t, p k, has
 
 -- ---- the listing after a reclaim
 
-chain-reclaimed : (gs : List GroupValue) (k : Bytes) (bs : List ℕ) (o : Option ChainValue) (last : ℕ) → IfSome o (λ c. IsRisingChain last c) → IsListedChain gs k o → IsListedChain gs k (option_map (reclaimed bs) o)
+chain-reclaimed : (gs : List GroupValue) (k : Bytes) (bs : List ℕ) (o : Option ChainValue) (last : ℕ) → IfSome o (λ c. IsRisingChain last c)
+    → IsListedChain gs k o → IsListedChain gs k (option_map (reclaimed bs) o)
 chain-reclaimed gs k bs None last r h = tt
 chain-reclaimed gs k bs (Some c) last r h = listed-seen gs k bs c.newest.number c.older r.0 h
 
 -- the groups may change where the versions that they list no more are gone
 pub listed-part : (bs : List ℕ) (now new : Chains) (gs hs : List GroupValue) (last : ℕ) → IsKept now last → IsPartReclaimed bs now new
-    → ((k : Bytes) (n high : ℕ) → has_version n (find_chain k new) ≡ true → is_listed gs k n high ≡ true → is_listed hs k n high ≡ true) → IsListed now gs → IsListed new hs
+    → ((k : Bytes) (n high : ℕ) → has_version n (find_chain k new) ≡ true → is_listed gs k n high ≡ true → is_listed hs k n high ≡ true) → IsListed now gs
+    → IsListed new hs
 listed-part bs now new gs hs last kept p more h k = chain-left gs hs k (find_chain k new) (more k)
     (grind (arith, p k, h k, chain-reclaimed gs k bs (find_chain k now) last (rising_found k now last kept) (h k)))

@@ -1,7 +1,23 @@
 -- The loop over a group's lists.
-use Rattle.versions.proofs.Words.{◌≡◌, ℕ, Bool, true, false, List, [], ◌∷◌, ◌++◌, length, take, drop, get_or, set, ◌<◌, refl, sym, ap, subst, ◌∙◌, arith, ◌==◌, vec_len, AllByRecursion, list_all, Vec, append-nil, length-append, nil_from_length, take-append-drop, list_any-append, and_parts, both_ways, eqb-true, nat_tests, Chains, ChainsValue, IsKept, is_seen_from, AreSeenFrom, is_of, IsSettled, IsPartReclaimed, AreKept, versions_in, Listed, IsUnderWitness, all-append, all-back, all-front, all-pass}
+use Rattle.std.proofs.Common.{◌≡◌, ℕ, Bool, true, false, List, [], ◌∷◌, ◌++◌, length, take, drop, get_or, set, ◌<◌}
+use Rattle.std.proofs.Common.{refl, sym, ap, subst, ◌∙◌, arith}
+use Rattle.std.proofs.lemmas.Bool.{and_parts, both_ways, eqb-true}
+use Rattle.std.proofs.lemmas.Bool.Decides.{nat_tests}
 use Rattle.std.proofs.lemmas.Grind.{flat_map-append}
+use Rattle.std.proofs.lemmas.List.{append-nil, length-append, nil_from_length, take-append-drop}
+use Rattle.std.proofs.lemmas.List.Folds.{list_any-append}
+use Rattle.std.specs.List.{AllByRecursion, list_all}
+use Rattle.std.specs.Prelude.{◌==◌}
+use Rattle.std.specs.Vec.{vec_len}
+use Rattle.std.specs.declared.vec.Vec.{Vec}
+use Rattle.model.proofs.Elements.{all-append, all-back, all-front, all-pass}
 use Rattle.versions.proofs.Listings.{part-trans, all-settled-part, left-part}
+use Rattle.versions.specs.Chains.{Chains, ChainsValue, IsKept}
+use Rattle.versions.specs.Groups.{Listed}
+use Rattle.versions.specs.Listings.{is_seen_from, AreSeenFrom, is_of, IsSettled, IsPartReclaimed, AreKept}
+use Rattle.versions.specs.Listings.{versions_in}
+use Rattle.versions.specs.Reclaiming.{DropsUnseen, ReclaimsChains}
+use Rattle.versions.specs.Witnesses.{IsUnderWitness}
 
 -- ---- lists, one after the other
 
@@ -40,33 +56,42 @@ pub record Settled (bs : List ℕ) (old now : Chains) (os done rest : List Liste
   pub each : (held : ℕ → Bool) (v : ChainsValue) (w : ℕ) → AllByRecursion (IsUnderWitness held v w) os → AllByRecursion (IsUnderWitness held v w) (done ++ rest)
 
 -- where each of the versions `us` and of `rest` is such, so is each of `vs` and of `rest`
-all-replaced : (P : Listed → Type 0) (done us vs rest : List Listed) → (AllByRecursion P us → AllByRecursion P vs) → AllByRecursion P (done ++ (us ++ rest)) → AllByRecursion P (done ++ vs ++ rest)
+all-replaced : (P : Listed → Type 0) (done us vs rest : List Listed) → (AllByRecursion P us → AllByRecursion P vs) → AllByRecursion P (done ++ (us ++ rest))
+    → AllByRecursion P (done ++ vs ++ rest)
 all-replaced P done us vs rest f all =
     let behind = all-back P done (us ++ rest) all in
     all-append P (done ++ vs) rest (all-append P done vs (all-front P done (us ++ rest) all) (f (all-front P us rest behind))) (all-back P us rest behind)
 
 -- the versions of the first lists, and of the others
-pub in-parts : {Z : Type 0} (n : ℕ) (xs front rest : List (Vec Listed Z)) → front ≡ take n xs → rest ≡ drop n xs → versions_in xs ≡ versions_in front ++ versions_in rest
-in-parts n xs front rest first others = sym (ap versions_in (take-append-drop n xs)) ∙ in-append (take n xs) (drop n xs) ∙ λ i. versions_in (sym first i) ++ versions_in (sym others i)
+pub in-parts : {Z : Type 0} (n : ℕ) (xs front rest : List (Vec Listed Z)) → front ≡ take n xs → rest ≡ drop n xs
+    → versions_in xs ≡ versions_in front ++ versions_in rest
+in-parts n xs front rest first others =
+    sym (ap versions_in (take-append-drop n xs)) ∙ in-append (take n xs) (drop n xs) ∙ λ i. versions_in (sym first i) ++ versions_in (sym others i)
 
 -- the first of the lists was looked after, and what is left of it was put behind the others
-pub settled-list : {Z : Type 0} (bs : List ℕ) (old now new : Chains) (os : List Listed) (ls hs lists first left rest : List (Vec Listed Z)) (last : ℕ) → IsKept old last → first ≡ take 1 lists → rest ≡ drop 1 lists
-    → versions_in hs ≡ versions_in ls ++ versions_in left → IsPartReclaimed bs now new → ((last : ℕ) → IsKept now last → IsKept new last) → AllByRecursion (IsSettled bs new) (versions_in left)
-    → AreKept (versions_in first) (versions_in left) new → ((n : ℕ) → AreSeenFrom n (versions_in first) → AreSeenFrom n (versions_in left)) → ((held : ℕ → Bool) (v : ChainsValue) (w : ℕ) → AllByRecursion (IsUnderWitness held v w) (versions_in first) → AllByRecursion (IsUnderWitness held v w) (versions_in left))
+pub settled-list : {Z : Type 0} (bs : List ℕ) (old now new : Chains) (os : List Listed) (ls hs lists first left rest : List (Vec Listed Z)) (last : ℕ)
+    → IsKept old last → first ≡ take 1 lists → rest ≡ drop 1 lists
+    → versions_in hs ≡ versions_in ls ++ versions_in left → ReclaimsChains bs now new
+    → DropsUnseen bs new (versions_in first) (versions_in left)
     → Settled bs old now os (versions_in ls) (versions_in lists) → Settled bs old new os (versions_in hs) (versions_in rest)
-settled-list bs old now new os ls hs lists first left rest last ordered one others is p keeps settled kept seen each s =
+settled-list bs old now new os ls hs lists first left rest last ordered one others is p drops s =
     let done = versions_in ls in
     let us = versions_in first in
     let vs = versions_in left in
     let more = versions_in rest in
     let before = subst (Settled bs old now os done) (in-parts 1 lists first rest one others) s in
     subst (λ l. Settled bs old new os l more) (sym is) (record {
-      part = part-trans bs old now new last ordered before.part p;
-      kept = λ n h. keeps n (before.kept n h);
-      settled = all-append (IsSettled bs new) done vs (all-settled-part bs now new p done before.settled) settled;
-      left_out = λ k n high t. grind (arith, left-part bs now new os (done ++ (us ++ more)) p before.left_out k n high t, kept k n high, list_any-append (is_of k n high));
-      seen = λ n h. all-replaced (λ v. is_seen_from n v ≡ true) done us vs more (seen n) (before.seen n h);
-      each = λ held v w h. all-replaced (IsUnderWitness held v w) done us vs more (each held v w) (before.each held v w h);
+      part = part-trans bs old now new last ordered before.part p.part;
+      kept = λ n h. p.kept n (before.kept n h);
+      settled = all-append (IsSettled bs new) done vs (all-settled-part bs now new p.part done before.settled) drops.settled;
+      left_out = λ k n high t. grind (
+        arith,
+        left-part bs now new os (done ++ (us ++ more)) p.part before.left_out k n high t,
+        drops.left k n high,
+        list_any-append (is_of k n high),
+      );
+      seen = λ n h. all-replaced (λ v. is_seen_from n v ≡ true) done us vs more (drops.seen n) (before.seen n h);
+      each = λ held v w h. all-replaced (IsUnderWitness held v w) done us vs more (drops.each held v w) (before.each held v w h);
     })
 
 pub in-none : {Z : Type 0} (done : List Listed) (xs : List (Vec Listed Z)) → length xs ≡ 0 → done ++ versions_in xs ≡ done

@@ -1,10 +1,35 @@
 -- All chains: what is made, what more room leaves, what an install adds and what a reclaim leaves.
-use Rattle.versions.proofs.Words.{is_sorted, [], ◌≡◌, ℕ, suc, ◌+◌, ◌-◌, ◌<◌, ◌≤◌, true, false, T, cond, ◌||◌, List, ◌∷◌, length, take, set, Option, Some, None, IsSome, Result, Ok, Err, refl, sym, ap, subst, ◌∙◌, arith, option_map, nat_le, if◌then◌else◌, IfSome, OnOk, swap_remove, AllByRecursion, is_eq, is_lt, nat_cmp, slice_cmp, put, below_all, both_ways, Page, room_at, Bytes, KeyMap, KeyWrite, IsMap, key_cmp, value_at, after_writes, same_key, same_key_itself, same_key_comm, same_map, Stamped, ChainValue, Chains, ChainsValue, find_chain, seen, seen_in, value_of, visible, with_value, added, stamped, IsReady, HasPlace, HasRoom, reclaimed, IsReclaimedAt, base_chains, IsKept, IsRisingChain, IsRoomier, IsRoomierChain, kept_in, is_written_by, is_among, due_of, lists_a_step, IsSameMeaning, IsReclaimed, IsReclaimedInPart, IsSeenSame, IsTightChain, writes_of, IsPartReclaimed, IsSorted, IsBelowAll, turned, both, less, parts, common_steps, get_or_default, nat_tests, all-each}
-use Rattle.std.specs.declared.cmp.Ordering.TheVariants.{Less}
+use Rattle.std.proofs.Common.{[], ◌≡◌, ℕ, suc, ◌+◌, ◌-◌, ◌<◌, ◌≤◌, true, false, T, cond, ◌||◌, List, ◌∷◌, length}
+use Rattle.std.proofs.Common.{take, set, Option, Some, None, IsSome, Result, Ok, Err, refl, sym, ap, subst, ◌∙◌}
+use Rattle.std.proofs.Common.{arith}
+use Rattle.std.proofs.lemmas.Bool.{both_ways}
+use Rattle.std.proofs.lemmas.Bool.Decides.{nat_tests}
+use Rattle.std.proofs.lemmas.Grind.{common_steps}
+use Rattle.std.proofs.lemmas.List.{get_or_default}
 use Rattle.std.proofs.lemmas.Map.Lookups.{exact_bytes}
+use Rattle.std.specs.Cmp.Lexicographic.{slice_cmp}
+use Rattle.std.specs.FinMap.Entries.{is_sorted, put, below_all}
+use Rattle.std.specs.List.{AllByRecursion}
+use Rattle.std.specs.Ordering.{is_eq, is_lt, nat_cmp}
+use Rattle.std.specs.Prelude.{option_map, nat_le, if◌then◌else◌, IfSome, OnOk, swap_remove}
+use Rattle.std.specs.declared.cmp.Ordering.TheVariants.{Less}
+use Rattle.model.proofs.Elements.{all-each}
+use Rattle.model.proofs.Entries.{IsSorted, IsBelowAll, turned}
+use Rattle.model.proofs.InOrder.{both, less, parts}
+use Rattle.model.proofs.Lookups.{same_key, same_key_itself, same_key_comm, same_map}
+use Rattle.model.specs.Map.{Bytes, KeyMap, KeyWrite, IsMap, key_cmp, value_at, after_writes}
+use Rattle.sorted_pages.specs.Pages.{Page, room_at}
 use Rattle.sorted_pages.specs.Trims.{put_some, changed_at}
-use Rattle.versions.proofs.ChainLaws.{seen-added, rising-added, version_at-reclaimed, version_at-newest, tight-reclaimed, rising-seen_by, reclaimed_twice}
-use Rattle.versions.proofs.Visibles.{IsMap-visible, value-visible, visible-put, visible-put_same, find_chain-put, sorted-put}
+use Rattle.versions.proofs.ChainLaws.{seen-added, rising-added, version_at-reclaimed, version_at-newest}
+use Rattle.versions.proofs.ChainLaws.{tight-reclaimed, rising-seen_by, reclaimed_twice}
+use Rattle.versions.proofs.Visibles.{IsMap-visible, value-visible, visible-put, visible-put_same, find_chain-put}
+use Rattle.versions.proofs.Visibles.{sorted-put}
+use Rattle.versions.specs.Chains.{Stamped, ChainValue, Chains, ChainsValue, find_chain, seen, seen_in, value_of}
+use Rattle.versions.specs.Chains.{visible, with_value, added, stamped, IsReady, HasPlace, HasRoom, reclaimed}
+use Rattle.versions.specs.Chains.{IsReclaimedAt, base_chains, IsKept, IsRisingChain, IsRoomier, IsRoomierChain}
+use Rattle.versions.specs.Listings.{IsPartReclaimed}
+use Rattle.versions.specs.Meaning.{kept_in, is_written_by, is_among, due_of, lists_a_step, IsSameMeaning, IsReclaimed}
+use Rattle.versions.specs.Meaning.{IsReclaimedInPart, IsSeenSame, IsTightChain, writes_of}
 
 -- ---- a fact of all chains
 
@@ -12,7 +37,8 @@ pub all-find : (P : ChainValue → Type 0) (k : Bytes) (c : ChainValue) (es : Ch
 all-find P k c [] h e = cc
 all-find P k c (f ∷ es) h e = grind (arith, all-find P k c es h.1)
 
-pub all-put : (P : ChainValue → Type 0) (k : Bytes) (c : ChainValue) (es : Chains) → P c → AllByRecursion (λ e. P e.1) es → AllByRecursion (λ e. P e.1) (put (slice_cmp nat_cmp) k c es)
+pub all-put : (P : ChainValue → Type 0) (k : Bytes) (c : ChainValue) (es : Chains) → P c → AllByRecursion (λ e. P e.1) es
+    → AllByRecursion (λ e. P e.1) (put (slice_cmp nat_cmp) k c es)
 all-put P k c [] p h = (p, tt)
 all-put P k c (f ∷ es) p h = grind (arith, all-put P k c es p h.1)
 
@@ -43,7 +69,8 @@ pub visible-base : (n : ℕ) (m : KeyMap) → visible n (base_chains m) ≡ m
 visible-base n [] = refl
 visible-base n (p ∷ ps) = grind (arith, nat_tests, visible-base n ps)
 
-pub newest-base : (k : Bytes) (m : KeyMap) → option_map (λ (c : ChainValue). c.newest.number) (find_chain k (base_chains m)) ≡ option_map (λ _. 0) (value_at m k)
+pub newest-base : (k : Bytes) (m : KeyMap)
+    → option_map (λ (c : ChainValue). c.newest.number) (find_chain k (base_chains m)) ≡ option_map (λ _. 0) (value_at m k)
 newest-base k [] = refl
 newest-base k (p ∷ ps) = grind (arith, newest-base k ps)
 
@@ -70,11 +97,21 @@ pub find-put_itself : (k : Bytes) (c : ChainValue) (es : Chains) → find_chain 
 find-put_itself k c es = grind (arith, find_chain-put k k c es, same_key_itself k)
 
 -- the key's chain with more room in its place
-pub roomier-put : (k : Bytes) (c d : ChainValue) (es : Chains) → IsSorted es → find_chain k es ≡ Some c → IsRoomierChain c d → IsRoomier es (put (slice_cmp nat_cmp) k d es)
+pub roomier-put : (k : Bytes) (c d : ChainValue) (es : Chains) → IsSorted es → find_chain k es ≡ Some c → IsRoomierChain c d
+    → IsRoomier es (put (slice_cmp nat_cmp) k d es)
 roomier-put k c d [] h e r = cc
 roomier-put k c d (f ∷ es) h e r =
     let p = parts (below_all (slice_cmp nat_cmp) f.0 es) (is_sorted (slice_cmp nat_cmp) es) h in
-    grind (arith, turned f.0 k, found_above f.0 k es p.0, roomier-refl es, r.older, r.newest, r.room, λ (t : find_chain k es ≡ Some c). roomier-put k c d es p.1 t r)
+    grind (
+      arith,
+      turned f.0 k,
+      found_above f.0 k es p.0,
+      roomier-refl es,
+      r.older,
+      r.newest,
+      r.room,
+      λ (t : find_chain k es ≡ Some c). roomier-put k c d es p.1 t r,
+    )
 
 same_version : (n : ℕ) (c d : ChainValue) → IsRoomierChain c d → seen n d ≡ seen n c
 same_version n c d r = λ i. value_of (if nat_le (r.newest i).number n then Some (r.newest i) else Rattle.versions.specs.Chains.last_at n None (r.older i))
@@ -105,7 +142,8 @@ same-roomier old new h e = record {
 
 below_roomier : (k : Bytes) (es fs : Chains) → IsRoomier es fs → IsBelowAll k es → IsBelowAll k fs
 below_roomier k [] [] h g = tt
-below_roomier k (e ∷ es) (f ∷ fs) h g = let p = parts _ _ g in both _ _ (subst (λ (q : Bytes). T (is_lt (key_cmp k q))) (sym h.0) p.0) (below_roomier k es fs h.2 p.1)
+below_roomier k (e ∷ es) (f ∷ fs) h g = let p =
+    parts _ _ g in both _ _ (subst (λ (q : Bytes). T (is_lt (key_cmp k q))) (sym h.0) p.0) (below_roomier k es fs h.2 p.1)
 below_roomier k _ _ h g = absurd h
 
 sorted_roomier : (es fs : Chains) → IsRoomier es fs → IsSorted es → IsSorted fs
@@ -114,7 +152,8 @@ sorted_roomier (e ∷ es) (f ∷ fs) h g =
     grind (arith, h.0, below_roomier e.0 es fs h.2, sorted_roomier es fs h.2)
 sorted_roomier _ _ h g = absurd h
 
-rising_roomier : (last : ℕ) (es fs : Chains) → IsRoomier es fs → AllByRecursion (λ e. IsRisingChain last e.1) es → AllByRecursion (λ e. IsRisingChain last e.1) fs
+rising_roomier : (last : ℕ) (es fs : Chains) → IsRoomier es fs → AllByRecursion (λ e. IsRisingChain last e.1) es
+    → AllByRecursion (λ e. IsRisingChain last e.1) fs
 rising_roomier last [] [] h g = tt
 rising_roomier last (e ∷ es) (f ∷ fs) h g =
     (grind (arith, h.1.older, h.1.newest, g.0), rising_roomier last es fs h.2 g.1)
@@ -128,7 +167,8 @@ abbrev pub IsPlaced : ℕ → Chains → List (Page ChainValue) → KeyWrite →
 IsPlaced n es ps w = HasRoom (find_chain w.0 es) × HasPlace n (room_at w.0 ps) (find_chain w.0 es)
 
 -- what was made for the write is still there
-pub placed-roomier : (n : ℕ) (es fs : Chains) (ps qs : List (Page ChainValue)) → IsRoomier es fs → ((q : Bytes) → room_at q ps ≤ room_at q qs) → (w : KeyWrite) → IsPlaced n es ps w → IsPlaced n fs qs w
+pub placed-roomier : (n : ℕ) (es fs : Chains) (ps qs : List (Page ChainValue)) → IsRoomier es fs → ((q : Bytes) → room_at q ps ≤ room_at q qs) → (w : KeyWrite)
+    → IsPlaced n es ps w → IsPlaced n fs qs w
 placed-roomier n es fs ps qs h more w p = grind (arith, more w.0, find-roomier w.0 es fs h)
 
 pub on_ok : {A E : Type 0} (r : Result A E) (P : Type 0) → P → OnOk r P
@@ -140,23 +180,27 @@ HavePlaces n es ps ws = AllByRecursion (λ w. HasPlace n (room_at w.0 ps) (find_
 
 -- ---- an install
 
-pub ready-prepared : (n last : ℕ) (es : Chains) (ws : List KeyWrite) → IsKept es last → last < n → AllByRecursion (λ w. HasRoom (find_chain w.0 es)) ws → AllByRecursion (λ w. IsReady n (find_chain w.0 es)) ws
+pub ready-prepared : (n last : ℕ) (es : Chains) (ws : List KeyWrite) → IsKept es last → last < n → AllByRecursion (λ w. HasRoom (find_chain w.0 es)) ws
+    → AllByRecursion (λ w. IsReady n (find_chain w.0 es)) ws
 ready-prepared n last es ws h lt r =
     all-each _ (λ w. IsReady n (find_chain w.0 es)) ws (λ w q. grind (arith, rising_found w.0 es last h)) r
 
-pub rising_one : (n last : ℕ) (es : Chains) (k : Bytes) (v : Option Bytes) (room : ℕ) → IsKept es last → IsReady n (find_chain k es) → n ≤ last → IsRisingChain last (added (find_chain k es) (stamped n v) room)
+pub rising_one : (n last : ℕ) (es : Chains) (k : Bytes) (v : Option Bytes) (room : ℕ) → IsKept es last → IsReady n (find_chain k es) → n ≤ last
+    → IsRisingChain last (added (find_chain k es) (stamped n v) room)
 rising_one n last es k v room h r le = rising-added (find_chain k es) (stamped n v) room last (rising_found k es last h) r le
 
 -- keys above k are not k
 find_apart : (k : Bytes) (c : ChainValue) (es : Chains) (q : Bytes) → T (is_lt (key_cmp k q)) → find_chain q (put (slice_cmp nat_cmp) k c es) ≡ find_chain q es
 find_apart k c es q h = find_chain-put q k c es ∙ ap (λ b. cond b (Some c) (find_chain q es)) (same_key_comm q k ∙ ap is_eq (less _ h))
 
-pub ready-apart : (n : ℕ) (k : Bytes) (c : ChainValue) (es : Chains) (ws : List KeyWrite) → T (below_all (slice_cmp nat_cmp) k ws) → AllByRecursion (λ w. IsReady n (find_chain w.0 es)) ws → AllByRecursion (λ w. IsReady n (find_chain w.0 (put (slice_cmp nat_cmp) k c es))) ws
+pub ready-apart : (n : ℕ) (k : Bytes) (c : ChainValue) (es : Chains) (ws : List KeyWrite) → T (below_all (slice_cmp nat_cmp) k ws)
+    → AllByRecursion (λ w. IsReady n (find_chain w.0 es)) ws → AllByRecursion (λ w. IsReady n (find_chain w.0 (put (slice_cmp nat_cmp) k c es))) ws
 ready-apart n k c es [] h r = tt
 ready-apart n k c es (w ∷ ws) h r = let p = parts _ _ h in (subst (IsReady n) (sym (find_apart k c es w.0 p.0)) r.0, ready-apart n k c es ws p.1 r.1)
 
 -- a new chain takes one place
-pub places-apart : (n : ℕ) (k : Bytes) (c : ChainValue) (es : Chains) (ps qs : List (Page ChainValue)) (ws : List KeyWrite) → T (below_all (slice_cmp nat_cmp) k ws) → ((q : Bytes) → room_at q ps ≤ room_at q qs + 1)
+pub places-apart : (n : ℕ) (k : Bytes) (c : ChainValue) (es : Chains) (ps qs : List (Page ChainValue)) (ws : List KeyWrite)
+    → T (below_all (slice_cmp nat_cmp) k ws) → ((q : Bytes) → room_at q ps ≤ room_at q qs + 1)
     → HavePlaces (suc n) es ps ws → HavePlaces n (put (slice_cmp nat_cmp) k c es) qs ws
 places-apart n k c es ps qs [] h rooms r = tt
 places-apart n k c es ps qs (w ∷ ws) h rooms r =
@@ -182,21 +226,24 @@ number_added None v room = refl
 number_added (Some c) v room = refl
 
 pub newest-step : (n : ℕ) (k : Bytes) (w : KeyWrite) (ws : List KeyWrite) (room : ℕ) (es : Chains)
-    → written_number n ws k (option_map (λ (c : ChainValue). c.newest.number) (find_chain k (put (slice_cmp nat_cmp) w.0 (added (find_chain w.0 es) (stamped n w.1) room) es)))
+    → written_number n ws k (option_map (λ (c : ChainValue). c.newest.number)
+    (find_chain k (put (slice_cmp nat_cmp) w.0 (added (find_chain w.0 es) (stamped n w.1) room) es)))
     ≡ written_number n (w ∷ ws) k (option_map (λ (c : ChainValue). c.newest.number) (find_chain k es))
 newest-step n k w ws room es =
     let c = added (find_chain w.0 es) (stamped n w.1) room in
     grind (arith, find_chain-put k w.0 c es, number_added (find_chain w.0 es) (stamped n w.1) room)
 
 pub kept-step : (n : ℕ) (k : Bytes) (w : KeyWrite) (ws : List KeyWrite) (room : ℕ) (es : Chains)
-    → kept_in (find_chain k (put (slice_cmp nat_cmp) w.0 (added (find_chain w.0 es) (stamped n w.1) room) es)) + writes_of ws k ≡ kept_in (find_chain k es) + writes_of (w ∷ ws) k
+    → kept_in (find_chain k (put (slice_cmp nat_cmp) w.0 (added (find_chain w.0 es) (stamped n w.1) room) es)) + writes_of ws k
+    ≡ kept_in (find_chain k es) + writes_of (w ∷ ws) k
 kept-step n k w ws room es =
     let c = added (find_chain w.0 es) (stamped n w.1) room in
     grind (arith, common_steps, find_chain-put k w.0 c es, same_key k w.0)
 
 -- ---- a reclaim
 
-pub twice : (bs : List ℕ) (last : ℕ) (o : Option ChainValue) → IfSome o (λ c. IsRisingChain last c) → option_map (reclaimed bs) (option_map (reclaimed bs) o) ≡ option_map (reclaimed bs) o
+pub twice : (bs : List ℕ) (last : ℕ) (o : Option ChainValue) → IfSome o (λ c. IsRisingChain last c)
+    → option_map (reclaimed bs) (option_map (reclaimed bs) o) ≡ option_map (reclaimed bs) o
 twice bs last None h = refl
 twice bs last (Some c) h = ap Some (reclaimed_twice bs c h.0)
 
@@ -204,14 +251,17 @@ twice bs last (Some c) h = ap Some (reclaimed_twice bs c h.0)
 pub swap_remove-default : {X : Type 0} (xs : List X) (i : ℕ) (d e : X) → 0 < length xs → swap_remove xs i d ≡ swap_remove xs i e
 swap_remove-default xs i d e lt = ap (λ y. take (length xs - 1) (set xs i y)) (get_or_default xs (length xs - 1) d e (omega arith))
 
-sees_found : (bs : List ℕ) (last n : ℕ) (o : Option ChainValue) → IfSome o (λ c. IsRisingChain last c) → (is_among bs n || nat_le last n) ≡ true → seen_in n (option_map (reclaimed bs) o) ≡ seen_in n o
+sees_found : (bs : List ℕ) (last n : ℕ) (o : Option ChainValue) → IfSome o (λ c. IsRisingChain last c) → (is_among bs n || nat_le last n) ≡ true
+    → seen_in n (option_map (reclaimed bs) o) ≡ seen_in n o
 sees_found bs last n None h t = refl
 sees_found bs last n (Some c) h t = let low = h.1 in grind (arith, nat_tests, version_at-reclaimed bs c n, version_at-newest bs c n)
 
-tight_found : (bs : List ℕ) (last : ℕ) (o : Option ChainValue) (c : ChainValue) → IfSome o (λ c. IsRisingChain last c) → option_map (reclaimed bs) o ≡ Some c → IsTightChain bs c
+tight_found : (bs : List ℕ) (last : ℕ) (o : Option ChainValue) (c : ChainValue) → IfSome o (λ c. IsRisingChain last c) → option_map (reclaimed bs) o ≡ Some c
+    → IsTightChain bs c
 tight_found bs last o c h e = grind (arith, tight-reclaimed bs)
 
-seen-part : (old new : ChainsValue) (bs : List ℕ) → IsKept old.chains old.last → IsKept new.chains new.last → new.last ≡ old.last → IsPartReclaimed bs old.chains new.chains → IsSeenSame old new bs
+seen-part : (old new : ChainsValue) (bs : List ℕ) → IsKept old.chains old.last → IsKept new.chains new.last → new.last ≡ old.last
+    → IsPartReclaimed bs old.chains new.chains → IsSeenSame old new bs
 seen-part old new bs h g e part = record {
   maps = λ n t. same_map _ _ (IsMap-visible n new.chains g.sorted) (IsMap-visible n old.chains h.sorted) (λ q.
       let sees = sees_found bs old.last n (find_chain q old.chains) (rising_found q old.chains old.last h) t in
@@ -221,7 +271,8 @@ seen-part old new bs h g e part = record {
   needed = λ k. grind (arith, part k, twice bs old.last (find_chain k old.chains) (rising_found k old.chains old.last h));
 }
 
-pub reclaimed-part : (old new : ChainsValue) (bs : List ℕ) → IsKept old.chains old.last → IsKept new.chains new.last → new.last ≡ old.last → due_of bs new ≡ due_of bs old - lists_a_step → IsPartReclaimed bs old.chains new.chains
+pub reclaimed-part : (old new : ChainsValue) (bs : List ℕ) → IsKept old.chains old.last → IsKept new.chains new.last → new.last ≡ old.last
+    → due_of bs new ≡ due_of bs old - lists_a_step → IsPartReclaimed bs old.chains new.chains
     → (due_of bs new ≡ 0 → (k : Bytes) → find_chain k new.chains ≡ option_map (reclaimed bs) (find_chain k old.chains)) → IsReclaimedInPart old new bs
 reclaimed-part old new bs h g e due part is =
     let seen = seen-part old new bs h g e part in
@@ -253,7 +304,8 @@ pub reclaimed-on : (old mid new : ChainsValue) (bs : List ℕ) → IsSeenSame ol
 reclaimed-on old mid new bs g h = record { seen = seen-on old mid new bs g h.seen; kept = λ k. h.kept k ∙ g.needed k; tight = h.tight }
 
 -- one chain reclaimed in its place
-kept-some : (bs : List ℕ) (k : Bytes) (es : Chains) (last : ℕ) (o : Option ChainValue) → IfSome o (λ c. IsRisingChain last c) → IsKept es last → IsKept (put_some k (option_map (reclaimed bs) o) es) last
+kept-some : (bs : List ℕ) (k : Bytes) (es : Chains) (last : ℕ) (o : Option ChainValue) → IfSome o (λ c. IsRisingChain last c) → IsKept es last
+    → IsKept (put_some k (option_map (reclaimed bs) o) es) last
 kept-some bs k es last None r h = h
 kept-some bs k es last (Some c) r h = kept-put k (reclaimed bs c) es last h (rising-seen_by bs c.newest.number c.older r.0, r.1)
 

@@ -1,8 +1,28 @@
 -- Under which numbers the older versions are listed, from call to call.
-use Rattle.versions.proofs.Words.{[], ◌≡◌, ℕ, ◌-◌, ◌<◌, ◌≤◌, Bool, true, false, ◌&&◌, List, ◌∷◌, ◌++◌, Option, Some, None, refl, sym, ap, subst, ◌∙◌, arith, inl, inr, length, option_map, nat_le, nat_lt, max, fold, ◌==◌, ◌⊎◌, IsTrue, if◌then◌else◌, AllByRecursion, list_all, list_any, and_parts, both_ways, or_cases, nat_tests, nat_cmp, slice_cmp, put, Bytes, same_key, Stamped, ChainValue, Chains, ChainsValue, added, find_chain, last_at, reclaimed, stamped, IsKept, IsReady, IsRisingChain, IsRisingTo, IsRoomier, IsRoomierChain, GroupValue, Listed, is_among, followed, has_version, is_seen_from, witness_for, witnesses, AreAmong, AreMixedSettled, AreNeeded, IsFollowed, IsNeededChain, IsPartReclaimed, IsSettled, IsTrulyMixed, IsUnmixed, number_at, number_seen, AreUnderWitnesses, IsAddedTo, IsUnderChain, IsUnderWitness, all-append, all-each}
+use Rattle.std.proofs.Common.{[], ◌≡◌, ℕ, ◌-◌, ◌<◌, ◌≤◌, Bool, true, false, ◌&&◌, List, ◌∷◌, ◌++◌, Option, Some, None}
+use Rattle.std.proofs.Common.{refl, sym, ap, subst, ◌∙◌, arith, inl, inr, length}
+use Rattle.std.proofs.lemmas.Bool.{and_parts, both_ways, or_cases}
+use Rattle.std.proofs.lemmas.Bool.Decides.{nat_tests}
+use Rattle.std.specs.Cmp.Lexicographic.{slice_cmp}
+use Rattle.std.specs.FinMap.Entries.{put}
+use Rattle.std.specs.List.{AllByRecursion, list_all, list_any}
+use Rattle.std.specs.Ordering.{nat_cmp}
+use Rattle.std.specs.Prelude.{option_map, nat_le, nat_lt, max, fold, ◌==◌, ◌⊎◌, IsTrue, if◌then◌else◌}
+use Rattle.model.proofs.Elements.{all-append, all-each}
+use Rattle.model.proofs.Lookups.{same_key}
+use Rattle.model.specs.Map.{Bytes}
 use Rattle.versions.proofs.ChainLaws.{above_first, last_at-push, some_between, stays, version_at-reclaimed}
 use Rattle.versions.proofs.Stores.{RoomierFound, all-find, find-put_itself, find-roomier, number_added}
 use Rattle.versions.proofs.Visibles.{find_chain-put}
+use Rattle.versions.specs.Chains.{Stamped, ChainValue, Chains, ChainsValue, added, find_chain, last_at, reclaimed}
+use Rattle.versions.specs.Chains.{stamped, IsKept, IsReady, IsRisingChain, IsRisingTo, IsRoomier, IsRoomierChain}
+use Rattle.versions.specs.Groups.{GroupValue, Listed}
+use Rattle.versions.specs.Listings.{followed, has_version, is_seen_from, witness_for, witnesses, AreAmong}
+use Rattle.versions.specs.Listings.{AreMixedSettled, AreNeeded, IsFollowed, IsNeededChain, IsPartReclaimed, IsSettled}
+use Rattle.versions.specs.Listings.{IsTrulyMixed, IsUnmixed}
+use Rattle.versions.specs.Meaning.{is_among}
+use Rattle.versions.specs.Witnesses.{number_at, number_seen, AreUnderWitnesses, IsAddedTo, IsUnderChain}
+use Rattle.versions.specs.Witnesses.{IsUnderWitness}
 
 -- the group's versions are under its witness
 abbrev pub IsUnder : (ℕ → Bool) → ChainsValue → GroupValue → Type 0
@@ -10,7 +30,8 @@ IsUnder held v g = AllByRecursion (IsUnderWitness held v g.witness) g.versions �
 
 -- ---- each of the groups' versions
 
-pub groups-under : (more held : ℕ → Bool) (v u : ChainsValue) (gs : List GroupValue) → ((w : ℕ) (x : Listed) → IsUnderWitness more v w x → IsUnderWitness held u w x) → AreUnderWitnesses more v gs → AreUnderWitnesses held u gs
+pub groups-under : (more held : ℕ → Bool) (v u : ChainsValue) (gs : List GroupValue)
+    → ((w : ℕ) (x : Listed) → IsUnderWitness more v w x → IsUnderWitness held u w x) → AreUnderWitnesses more v gs → AreUnderWitnesses held u gs
 groups-under more held v u gs f h =
     let each = λ (w : ℕ) (xs : List Listed). all-each (IsUnderWitness more v w) (IsUnderWitness held u w) xs (f w) in
     all-each (IsUnder more v) (IsUnder held u) gs (λ g q. (each g.witness g.versions q.0, each g.witness g.mixed q.1)) h
@@ -20,7 +41,8 @@ groups-under more held v u gs f h =
 -- ---- more room
 
 -- the held numbers see of the chain what they saw
-under-chain : (more held : ℕ → Bool) (last last' w w' n : ℕ) (c d : ChainValue) → d.newest ≡ c.newest → last ≤ last' → ((b : ℕ) → IsTrue (held b) → IsTrue (more b) × (number_at b d ≡ number_at b c) × (b ≤ w → b ≤ w'))
+under-chain : (more held : ℕ → Bool) (last last' w w' n : ℕ) (c d : ChainValue) → d.newest ≡ c.newest → last ≤ last'
+    → ((b : ℕ) → IsTrue (held b) → IsTrue (more b) × (number_at b d ≡ number_at b c) × (b ≤ w → b ≤ w'))
     → IsUnderChain more last w n c → IsUnderChain held last' w' n d
 under-chain more held last last' w w' n c d same le each u = grind (arith, u.behind, u.installed, u.sees, each)
 
@@ -30,28 +52,32 @@ number_roomier b c d r = λ i. option_map (λ (v : Stamped). v.number) (if nat_l
 roomier_before : (o p : Option ChainValue) (d : ChainValue) → RoomierFound o p → p ≡ Some d → (c : ChainValue) × (o ≡ Some c) × IsRoomierChain c d
 roomier_before o p d r e = grind arith
 
-pub under-roomier : (held : ℕ → Bool) (v u : ChainsValue) → IsRoomier v.chains u.chains → u.last ≡ v.last → (w : ℕ) (x : Listed) → IsUnderWitness held v w x → IsUnderWitness held u w x
+pub under-roomier : (held : ℕ → Bool) (v u : ChainsValue) → IsRoomier v.chains u.chains → u.last ≡ v.last → (w : ℕ) (x : Listed) → IsUnderWitness held v w x
+    → IsUnderWitness held u w x
 under-roomier held v u more last w x h =
     let installed = subst (λ n. x.next ≤ n) (sym last) h.installed in
     assumption (
       installed,
       λ (d : ChainValue) (found : find_chain x.key u.chains ≡ Some d). (
           let r = roomier_before (find_chain x.key v.chains) (find_chain x.key u.chains) d (find-roomier x.key v.chains u.chains more) found in
-          under-chain held held v.last u.last w w x.number r.0 d r.2.newest (omega (arith, last)) (λ b t. (t, number_roomier b r.0 d r.2, λ le. le)) (h.chain r.0 r.1)),
+          under-chain held held v.last u.last w w x.number r.0 d r.2.newest (omega (arith, last)) (λ b t. (t, number_roomier b r.0 d r.2, λ le. le))
+          (h.chain r.0 r.1)),
     )
 
 roomier_behind : (o p : Option ChainValue) (c : ChainValue) → RoomierFound o p → o ≡ Some c → (d : ChainValue) × (p ≡ Some d) × IsRoomierChain c d
 roomier_behind o p c r e = grind arith
 
 -- and so it was before there was more room
-pub under-roomy : (held : ℕ → Bool) (v u : ChainsValue) → IsRoomier v.chains u.chains → u.last ≡ v.last → (w : ℕ) (x : Listed) → IsUnderWitness held u w x → IsUnderWitness held v w x
+pub under-roomy : (held : ℕ → Bool) (v u : ChainsValue) → IsRoomier v.chains u.chains → u.last ≡ v.last → (w : ℕ) (x : Listed) → IsUnderWitness held u w x
+    → IsUnderWitness held v w x
 under-roomy held v u more last w x h =
     let installed = subst (λ n. x.next ≤ n) last h.installed in
     assumption (
       installed,
       λ (c : ChainValue) (found : find_chain x.key v.chains ≡ Some c). (
           let r = roomier_behind (find_chain x.key v.chains) (find_chain x.key u.chains) c (find-roomier x.key v.chains u.chains more) found in
-          under-chain held held u.last v.last w w x.number r.0 c (sym r.2.newest) (omega (arith, last)) (λ b t. (t, sym (number_roomier b c r.0 r.2), λ le. le)) (h.chain r.0 r.1)),
+          under-chain held held u.last v.last w w x.number r.0 c (sym r.2.newest) (omega (arith, last)) (λ b t. (t, sym (number_roomier b c r.0 r.2), λ le. le))
+          (h.chain r.0 r.1)),
     )
 
 -- ---- a reclaim
@@ -65,7 +91,8 @@ greatest_rises high [] m = omega arith
 greatest_rises high (b ∷ bs) m = grind (arith, nat_tests, greatest_rises high bs (if nat_lt b high then max m b else m))
 
 -- the greatest is at least each of them
-greatest_most : (high b : ℕ) (bs : List ℕ) (m : ℕ) → is_among bs b ≡ true → b < high → b ≤ fold (λ greatest b. if nat_lt b high then max greatest b else greatest) m bs
+greatest_most : (high b : ℕ) (bs : List ℕ) (m : ℕ) → is_among bs b ≡ true → b < high
+    → b ≤ fold (λ greatest b. if nat_lt b high then max greatest b else greatest) m bs
 greatest_most high b [] m t lt = absurd (both_ways _ refl t)
 greatest_most high b (x ∷ bs) m t lt =
     let next = if nat_lt x high then max m x else m in
@@ -108,20 +135,24 @@ needed_seen bs next m (v ∷ vs) rising needed t = elim (or_cases (v.number == m
 ]
 
 -- a settled version is seen from some of the numbers up to its witness
-settled_seen : (bs : List ℕ) (held : ℕ → Bool) (u : ChainsValue) (last w : ℕ) (x : Listed) → ((n : ℕ) → is_among bs n ≡ true → IsTrue (held n)) → IsKept u.chains last → IsUnderWitness held u w x → IsSettled bs u.chains x
+settled_seen : (bs : List ℕ) (held : ℕ → Bool) (u : ChainsValue) (last w : ℕ) (x : Listed) → ((n : ℕ) → is_among bs n ≡ true → IsTrue (held n))
+    → IsKept u.chains last → IsUnderWitness held u w x → IsSettled bs u.chains x
     → (b : ℕ) × (is_among bs b ≡ true) × (x.number ≤ b) × (b ≤ w)
 settled_seen bs held u last w x all kept h (inl t) = let s = some_between bs x.number x.next t in (s.0, s.1, s.2, h.between s.0 (all s.0 s.1) s.2 s.3)
 settled_seen bs held u last w x all kept h (inr s) = by (find_chain x.key u.chains) refl s.0 s.1
   where
-    by : (o : Option ChainValue) → find_chain x.key u.chains ≡ o → has_version x.number o ≡ true → IsNeededChain bs o → (b : ℕ) × (is_among bs b ≡ true) × (x.number ≤ b) × (b ≤ w)
+    by : (o : Option ChainValue) → find_chain x.key u.chains ≡ o → has_version x.number o ≡ true → IsNeededChain bs o
+        → (b : ℕ) × (is_among bs b ≡ true) × (x.number ≤ b) × (b ≤ w)
     by None e has needed = absurd (both_ways _ refl has)
     by (Some c) e has needed =
         let r = needed_seen bs c.newest.number x.number c.older (all-find (IsRisingChain last) x.key c u.chains kept.rising e).0 needed has in
         let sees : number_at r.0 c ≡ Some x.number = grind (arith, nat_tests, r.3, r.4 None) in
         (r.0, r.1, r.2, (h.chain c e).sees r.0 (all r.0 r.1) r.3 sees)
 
-module _ (bs : List ℕ) (held : ℕ → Bool) (u : ChainsValue) (last : ℕ) (all : (n : ℕ) → is_among bs n ≡ true → IsTrue (held n)) (kept : IsKept u.chains last) where
-  all_seen : (w : ℕ) (xs : List Listed) → AllByRecursion (IsUnderWitness held u w) xs → AllByRecursion (IsSettled bs u.chains) xs → list_all (is_seen_from w) xs ≡ true
+module _ (bs : List ℕ) (held : ℕ → Bool) (u : ChainsValue) (last : ℕ) (all : (n : ℕ) → is_among bs n ≡ true
+    → IsTrue (held n)) (kept : IsKept u.chains last) where
+  all_seen : (w : ℕ) (xs : List Listed) → AllByRecursion (IsUnderWitness held u w) xs → AllByRecursion (IsSettled bs u.chains) xs
+      → list_all (is_seen_from w) xs ≡ true
   all_seen w [] h s = refl
   all_seen w (x ∷ xs) h s =
       let r = settled_seen bs held u last w x all kept h.0 s.0 in
@@ -133,12 +164,15 @@ module _ (bs : List ℕ) (held : ℕ → Bool) (u : ChainsValue) (last : ℕ) (a
       let r = settled_seen bs held u last w x all kept h s in
       grind (arith, nat_tests, r.1, r.3)
 
-  unmixed_list : (w : ℕ) (xs : List Listed) → is_among (0 ∷ bs) w ≡ true → AllByRecursion (IsUnderWitness held u w) xs → AllByRecursion (IsSettled bs u.chains) xs → (is_among bs w && list_all (is_seen_from w) xs) ≡ false → xs ≡ []
+  unmixed_list : (w : ℕ) (xs : List Listed) → is_among (0 ∷ bs) w ≡ true → AllByRecursion (IsUnderWitness held u w) xs
+      → AllByRecursion (IsSettled bs u.chains) xs → (is_among bs w && list_all (is_seen_from w) xs) ≡ false → xs ≡ []
   unmixed_list w [] t h s f = refl
-  unmixed_list w (x ∷ xs) t h s f = absurd (both_ways _ f (ap (λ b. b && list_all (is_seen_from w) (x ∷ xs)) (seen_among w x t h.0 s.0) ∙ all_seen w (x ∷ xs) h s))
+  unmixed_list w (x ∷ xs) t h s f =
+      absurd (both_ways _ f (ap (λ b. b && list_all (is_seen_from w) (x ∷ xs)) (seen_among w x t h.0 s.0) ∙ all_seen w (x ∷ xs) h s))
 
   -- where each mixed version is settled, there is none
-  pub groups-unmixed : (gs : List GroupValue) → AreAmong (0 ∷ bs) (witnesses gs) → AreUnderWitnesses held u gs → AreMixedSettled bs u.chains gs → AllByRecursion (IsTrulyMixed bs) gs → AllByRecursion IsUnmixed gs
+  pub groups-unmixed : (gs : List GroupValue) → AreAmong (0 ∷ bs) (witnesses gs) → AreUnderWitnesses held u gs → AreMixedSettled bs u.chains gs
+      → AllByRecursion (IsTrulyMixed bs) gs → AllByRecursion IsUnmixed gs
   groups-unmixed [] t h s m = tt
   groups-unmixed (g ∷ gs) t h s m =
       let none : g.mixed ≡ [] = elim m.0.1 [ inl none ↦ none | inr f ↦ unmixed_list g.witness g.mixed t.0 h.0.1 s.0 f ] in
@@ -158,46 +192,60 @@ seen_added n None value room b lt = grind (arith, nat_tests)
 seen_added n (Some c) value room b lt = grind (arith, nat_tests, last_at-push b None c.older c.newest)
 
 -- a write with number n
-pub added-put : (n : ℕ) (k q : Bytes) (value : Option Bytes) (room : ℕ) (es : Chains) → IsAddedTo n (find_chain q es) (find_chain q (put (slice_cmp nat_cmp) k (added (find_chain k es) (stamped n value) room) es))
+pub added-put : (n : ℕ) (k q : Bytes) (value : Option Bytes) (room : ℕ) (es : Chains)
+    → IsAddedTo n (find_chain q es) (find_chain q (put (slice_cmp nat_cmp) k (added (find_chain k es) (stamped n value) room) es))
 added-put n k q value room es =
     let put = find_chain-put q k (added (find_chain k es) (stamped n value) room) es in
     grind (arith, seen_added n (find_chain k es) value room, same_key q k, number_added (find_chain k es) (stamped n value) room)
 
 -- what was followed by number n still is
-followed_later : (n : ℕ) (k : Bytes) (value : Option Bytes) (room : ℕ) (es : Chains) (x : Listed) → IsFollowed n es x → IsFollowed n (put (slice_cmp nat_cmp) k (added (find_chain k es) (stamped n value) room) es) x
+followed_later : (n : ℕ) (k : Bytes) (value : Option Bytes) (room : ℕ) (es : Chains) (x : Listed) → IsFollowed n es x
+    → IsFollowed n (put (slice_cmp nat_cmp) k (added (find_chain k es) (stamped n value) room) es) x
 followed_later n k value room es x h =
     grind (arith, number_added, h.number, h.next, h.newest, find_chain-put x.key k (added (find_chain k es) (stamped n value) room) es)
 
-followed_own : (n : ℕ) (k : Bytes) (value : Option Bytes) (room : ℕ) (es : Chains) (o : Option ChainValue) → IsReady n o → AllByRecursion (IsFollowed n (put (slice_cmp nat_cmp) k (added (find_chain k es) (stamped n value) room) es)) (followed o k n)
+followed_own : (n : ℕ) (k : Bytes) (value : Option Bytes) (room : ℕ) (es : Chains) (o : Option ChainValue) → IsReady n o
+    → AllByRecursion (IsFollowed n (put (slice_cmp nat_cmp) k (added (find_chain k es) (stamped n value) room) es)) (followed o k n)
 followed_own n k value room es None ready = tt
 followed_own n k value room es (Some c) ready =
     let own = added (find_chain k es) (stamped n value) room in
     (record { number = ready.0; next = refl; newest = λ d found. grind (arith, number_added, find-put_itself k own es) }, tt)
 
-pub followed-write : (n : ℕ) (k : Bytes) (value : Option Bytes) (room : ℕ) (es : Chains) (ls : List Listed) → IsReady n (find_chain k es) → AllByRecursion (IsFollowed n es) ls
+pub followed-write : (n : ℕ) (k : Bytes) (value : Option Bytes) (room : ℕ) (es : Chains) (ls : List Listed) → IsReady n (find_chain k es)
+    → AllByRecursion (IsFollowed n es) ls
     → AllByRecursion (IsFollowed n (put (slice_cmp nat_cmp) k (added (find_chain k es) (stamped n value) room) es)) (ls ++ followed (find_chain k es) k n)
 followed-write n k value room es ls ready h =
     let fs = put (slice_cmp nat_cmp) k (added (find_chain k es) (stamped n value) room) es in
-    all-append (IsFollowed n fs) ls (followed (find_chain k es) k n) (all-each (IsFollowed n es) (IsFollowed n fs) ls (followed_later n k value room es) h) (followed_own n k value room es (find_chain k es) ready)
+    all-append (IsFollowed n fs) ls (followed (find_chain k es) k n) (all-each (IsFollowed n es) (IsFollowed n fs) ls (followed_later n k value room es) h)
+    (followed_own n k value room es (find_chain k es) ready)
 
 -- a version under its chain is under the chain that is left by an install
-under_added : (held : ℕ → Bool) (last n w m : ℕ) (o : Option ChainValue) (d : ChainValue) → last < n → m < n → IsAddedTo n o (Some d) → ((c : ChainValue) → o ≡ Some c → IsUnderChain held last w m c) → IsUnderChain held n w m d
+under_added : (held : ℕ → Bool) (last n w m : ℕ) (o : Option ChainValue) (d : ChainValue) → last < n → m < n → IsAddedTo n o (Some d)
+    → ((c : ChainValue) → o ≡ Some c → IsUnderChain held last w m c) → IsUnderChain held n w m d
 under_added held last n w m o d lt low h u = elim h.newest [
   | inl e ↦ (let r = u d (sym e) in record { behind = r.behind; installed = omega (arith, r.installed); sees = r.sees })
-  | inr e ↦ (let is : d.newest.number ≡ n = cc in record { behind = omega arith; installed = omega arith; sees = λ b t high sees. old o u b t (sym (h.below b (omega (arith, is, high))) ∙ sees) })
+  | inr e ↦ (let is : d.newest.number
+      ≡ n = cc in record {
+        behind = omega arith;
+        installed = omega arith;
+        sees = λ b t high sees. old o u b t (sym (h.below b (omega (arith, is, high))) ∙ sees);
+      })
 ]
   where
-    old : (p : Option ChainValue) → ((c : ChainValue) → p ≡ Some c → IsUnderChain held last w m c) → (b : ℕ) → IsTrue (held b) → number_seen b p ≡ Some m → b ≤ w
+    old : (p : Option ChainValue) → ((c : ChainValue) → p ≡ Some c → IsUnderChain held last w m c) → (b : ℕ) → IsTrue (held b) → number_seen b p ≡ Some m
+        → b ≤ w
     old None g b t e = cc
     old (Some c) g b t e = let r = g c refl in grind (arith, nat_tests, r.behind, r.sees b t)
 
-pub under-installed : (held : ℕ → Bool) (v u : ChainsValue) (n : ℕ) → v.last < n → u.last ≡ n → ((k : Bytes) → IsAddedTo n (find_chain k v.chains) (find_chain k u.chains)) → (w : ℕ) (x : Listed) → IsUnderWitness held v w x → IsUnderWitness held u w x
+pub under-installed : (held : ℕ → Bool) (v u : ChainsValue) (n : ℕ) → v.last < n → u.last ≡ n
+    → ((k : Bytes) → IsAddedTo n (find_chain k v.chains) (find_chain k u.chains)) → (w : ℕ) (x : Listed) → IsUnderWitness held v w x → IsUnderWitness held u w x
 under-installed held v u n lt last chains w x h =
     let installed : x.next ≤ u.last = omega (arith, h.installed) in
     assumption (
       installed,
       λ (d : ChainValue) (found : find_chain x.key u.chains ≡ Some d). subst (λ l. IsUnderChain held l w x.number d) (sym last)
-          (under_added held v.last n w x.number (find_chain x.key v.chains) d lt (omega (arith, h.rises, h.installed)) (subst (IsAddedTo n (find_chain x.key v.chains)) found (chains x.key)) h.chain),
+          (under_added held v.last n w x.number (find_chain x.key v.chains) d lt (omega (arith, h.rises, h.installed))
+          (subst (IsAddedTo n (find_chain x.key v.chains)) found (chains x.key)) h.chain),
     )
 
 -- what a commit followed is listed under the number before it
@@ -205,13 +253,19 @@ under-followed : (held : ℕ → Bool) (u : ChainsValue) (n : ℕ) → 0 < n →
 under-followed held u n some last x h = grind (arith, h.next, h.number, h.newest)
 
 -- one group more
-groups-last : (held : ℕ → Bool) (u : ChainsValue) (gs : List GroupValue) (g : GroupValue) → AreUnderWitnesses held u gs → AllByRecursion (IsUnderWitness held u g.witness) g.versions → g.mixed ≡ [] → AreUnderWitnesses held u (gs ++ g ∷ [])
-groups-last held u gs g h own none = all-append (IsUnder held u) gs (g ∷ []) h ((own, subst (AllByRecursion (IsUnderWitness held u g.witness)) (sym none) tt), tt)
+groups-last : (held : ℕ → Bool) (u : ChainsValue) (gs : List GroupValue) (g : GroupValue) → AreUnderWitnesses held u gs
+    → AllByRecursion (IsUnderWitness held u g.witness) g.versions → g.mixed ≡ [] → AreUnderWitnesses held u (gs ++ g ∷ [])
+groups-last held u gs g h own none =
+    all-append (IsUnder held u) gs (g ∷ []) h ((own, subst (AllByRecursion (IsUnderWitness held u g.witness)) (sym none) tt), tt)
 
-pub groups-installed : (held : ℕ → Bool) (v u : ChainsValue) (n : ℕ) (g : GroupValue) (ls : List Listed) → v.last < n → u.last ≡ n → ((k : Bytes) → IsAddedTo n (find_chain k v.chains) (find_chain k u.chains)) → u.groups ≡ v.groups ++ g ∷ []
-    → g.witness ≡ n - 1 → g.mixed ≡ [] → g.versions ≡ ls → AllByRecursion (IsFollowed n u.chains) ls → AreUnderWitnesses held v v.groups → AreUnderWitnesses held u u.groups
+pub groups-installed : (held : ℕ → Bool) (v u : ChainsValue) (n : ℕ) (g : GroupValue) (ls : List Listed) → v.last < n → u.last ≡ n
+    → ((k : Bytes) → IsAddedTo n (find_chain k v.chains) (find_chain k u.chains)) → u.groups ≡ v.groups ++ g ∷ []
+    → g.witness ≡ n - 1 → g.mixed ≡ [] → g.versions ≡ ls → AllByRecursion (IsFollowed n u.chains) ls → AreUnderWitnesses held v v.groups
+    → AreUnderWitnesses held u u.groups
 groups-installed held v u n g ls lt last chains groups witness mixed versions each h =
-    let own : AllByRecursion (IsUnderWitness held u (n - 1)) ls = all-each (IsFollowed n u.chains) (IsUnderWitness held u (n - 1)) ls (under-followed held u n (omega arith) last) each in
+    let own : AllByRecursion (IsUnderWitness held u (n - 1)) ls =
+    all-each (IsFollowed n u.chains) (IsUnderWitness held u (n - 1)) ls (under-followed held u n (omega arith) last) each in
     subst (AreUnderWitnesses held u) (sym groups)
     (groups-last held u v.groups g (groups-under held held v u v.groups (under-installed held v u n lt last chains) h)
-    (subst (λ (p : ℕ × List Listed). AllByRecursion (IsUnderWitness held u p.0) p.1) {x = (n - 1, ls)} {y = (g.witness, g.versions)} (λ i. (sym witness i, sym versions i)) own) mixed)
+    (subst (λ (p : ℕ × List Listed). AllByRecursion (IsUnderWitness held u p.0) p.1) {x = (n - 1, ls)} {y = (g.witness, g.versions)}
+    (λ i. (sym witness i, sym versions i)) own) mixed)

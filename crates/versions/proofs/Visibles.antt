@@ -1,6 +1,18 @@
 -- What the numbers see when chains change.
-use Rattle.versions.proofs.Words.{◌≡◌, ℕ, ◌<◌, ◌≤◌, min, Bool, true, T, cond, ◌&&◌, List, [], ◌∷◌, Option, Some, None, refl, ap, arith, fold, is_none, nat_le, if◌then◌else◌, nat_tests, nat_cmp, slice_cmp, nat_list_cmp_total, put, where_key, below_all, find-put, is_sorted-put, Bytes, key_cmp, IsMap, is_same_key, value_at, after_write, same_key, same_map, value_after_write, IsMap-after_write, Stamped, ChainValue, Chains, find_chain, first_shown, hides, last_at, least_value, seen, seen_in, u64_max, value_of, visible, IsSorted, IsBelowAll, find_none, parts}
+use Rattle.std.proofs.Common.{◌≡◌, ℕ, ◌<◌, ◌≤◌, min, Bool, true, T, cond, ◌&&◌, List, [], ◌∷◌, Option, Some, None}
+use Rattle.std.proofs.Common.{refl, ap, arith}
+use Rattle.std.proofs.lemmas.Bool.Decides.{nat_tests}
+use Rattle.std.specs.Cmp.Lexicographic.{slice_cmp, nat_list_cmp_total}
+use Rattle.std.specs.FinMap.Entries.{put, where_key, below_all, find-put, is_sorted-put}
+use Rattle.std.specs.Ordering.{nat_cmp}
+use Rattle.std.specs.Prelude.{fold, is_none, nat_le, if◌then◌else◌}
+use Rattle.model.proofs.Entries.{IsSorted, IsBelowAll}
+use Rattle.model.proofs.InOrder.{find_none, parts}
+use Rattle.model.proofs.Lookups.{same_key, same_map, value_after_write, IsMap-after_write}
+use Rattle.model.specs.Map.{Bytes, key_cmp, IsMap, is_same_key, value_at, after_write}
 use Rattle.sorted_pages.specs.Blanks.{shown}
+use Rattle.versions.specs.Chains.{Stamped, ChainValue, Chains, find_chain, first_shown, hides, last_at, least_value}
+use Rattle.versions.specs.Chains.{seen, seen_in, u64_max, value_of, visible}
 
 below_visible : (n : ℕ) (k : Bytes) (es : Chains) → IsBelowAll k es → T (below_all (slice_cmp nat_cmp) k (visible n es))
 below_visible n k [] h = tt
@@ -19,22 +31,31 @@ value-visible n q (e ∷ es) h =
     let p = parts _ _ h in
     grind (arith, value-visible n q es p.1, same_key q e.0, find_none key_cmp e.0 (visible n es) (below_visible n e.0 es p.0))
 
-pub find_chain-put : (q k : Bytes) (c : ChainValue) (es : Chains) → find_chain q (put (slice_cmp nat_cmp) k c es) ≡ cond (is_same_key q k) (Some c) (find_chain q es)
+pub find_chain-put : (q k : Bytes) (c : ChainValue) (es : Chains)
+    → find_chain q (put (slice_cmp nat_cmp) k c es) ≡ cond (is_same_key q k) (Some c) (find_chain q es)
 find_chain-put q k c es = find-put (slice_cmp nat_cmp) nat_list_cmp_total q k c es
 
 pub sorted-put : (k : Bytes) (c : ChainValue) (es : Chains) → IsSorted es → IsSorted (put (slice_cmp nat_cmp) k c es)
 sorted-put k c es h = is_sorted-put (slice_cmp nat_cmp) nat_list_cmp_total k c es h
 
 -- a chain in its place is a write of what n sees of it
-pub visible-put : (n : ℕ) (k : Bytes) (c : ChainValue) (es : Chains) → IsSorted es → visible n (put (slice_cmp nat_cmp) k c es) ≡ after_write (visible n es) k (seen n c)
+pub visible-put : (n : ℕ) (k : Bytes) (c : ChainValue) (es : Chains) → IsSorted es
+    → visible n (put (slice_cmp nat_cmp) k c es) ≡ after_write (visible n es) k (seen n c)
 visible-put n k c es h =
     let new = put (slice_cmp nat_cmp) k c es in
     let written = IsMap-after_write (visible n es) k (seen n c) (IsMap-visible n es h) in
     same_map (visible n new) (after_write (visible n es) k (seen n c)) (IsMap-visible n new (sorted-put k c es h)) written (λ q.
-    grind (arith, find_chain-put q k c es, value-visible n q new (sorted-put k c es h), value-visible n q es h, value_after_write (visible n es) k (seen n c) q))
+    grind (
+      arith,
+      find_chain-put q k c es,
+      value-visible n q new (sorted-put k c es h),
+      value-visible n q es h,
+      value_after_write (visible n es) k (seen n c) q,
+    ))
 
 -- a chain of which n sees what it saw changes nothing for n
-pub visible-put_same : (n : ℕ) (k : Bytes) (c : ChainValue) (es : Chains) → IsSorted es → seen n c ≡ seen_in n (find_chain k es) → visible n (put (slice_cmp nat_cmp) k c es) ≡ visible n es
+pub visible-put_same : (n : ℕ) (k : Bytes) (c : ChainValue) (es : Chains) → IsSorted es → seen n c ≡ seen_in n (find_chain k es)
+    → visible n (put (slice_cmp nat_cmp) k c es) ≡ visible n es
 visible-put_same n k c es h same =
     let new = put (slice_cmp nat_cmp) k c es in
     same_map (visible n new) (visible n es) (IsMap-visible n new (sorted-put k c es h)) (IsMap-visible n es h) (λ q.
@@ -72,6 +93,7 @@ visible-shown n [] = refl
 visible-shown n (e ∷ es) = grind (arith, visible-shown n es)
 
 -- first by one test and then by another
-pub where_twice : {X : Type 0} (p q r : Bytes → Bool) → ((k : Bytes) → r k ≡ (p k && q k)) → (es : List (Bytes × X)) → where_key (slice_cmp nat_cmp) p (where_key (slice_cmp nat_cmp) q es) ≡ where_key (slice_cmp nat_cmp) r es
+pub where_twice : {X : Type 0} (p q r : Bytes → Bool) → ((k : Bytes) → r k ≡ (p k && q k)) → (es : List (Bytes × X))
+    → where_key (slice_cmp nat_cmp) p (where_key (slice_cmp nat_cmp) q es) ≡ where_key (slice_cmp nat_cmp) r es
 where_twice p q r h [] = refl
 where_twice p q r h (e ∷ es) = grind (arith, h e.0, where_twice p q r h es)

@@ -1,8 +1,23 @@
 -- The witnesses of groups: each is one of the numbers or 0, and no two are the same.
-use Rattle.versions.proofs.Words.{◌||◌, list_any, ◌≡◌, ℕ, zero, suc, ◌+◌, ◌^◌, ◌<◌, ◌≤◌, true, false, Some, None, List, [], ◌∷◌, ◌++◌, length, take, get_or, set, map, refl, sym, ap, subst, ◌∙◌, arith, nat_lt, max, fold, ◌==◌, if◌then◌else◌, remove, sum_by, position, both_ways, or_left, or_right, eq-eqb, nat_tests, common_steps, get_or-map, get_or-take, get_or_default, length-map, length-take, take_more, list_any-append, list_any_none, GroupValue, all-each, is_among, witness_for, witnesses, AreApart, AreAmong, CanJoin, lists_in}
+use Rattle.std.proofs.Common.{◌||◌, ◌≡◌, ℕ, zero, suc, ◌+◌, ◌^◌, ◌<◌, ◌≤◌, true, false, Some, None, List, [], ◌∷◌}
+use Rattle.std.proofs.Common.{◌++◌, length, take, get_or, set, map, refl, sym, ap, subst, ◌∙◌, arith}
+use Rattle.std.proofs.Math.Seq.{map-set_same}
+use Rattle.std.proofs.lemmas.Bool.{both_ways, or_left, or_right, eq-eqb}
+use Rattle.std.proofs.lemmas.Bool.Decides.{nat_tests}
+use Rattle.std.proofs.lemmas.Grind.{common_steps}
+use Rattle.std.proofs.lemmas.List.{get_or-map, get_or-take, get_or_default, length-map, length-take, take_more}
 use Rattle.std.proofs.lemmas.List.{take-map}
-use Rattle.std.proofs.{Math.Seq.map-set_same, lemmas.List.Sums.fails_before_first, lemmas.List.Edits.get_or-remove_below, lemmas.List.Edits.length-remove, lemmas.List.Recursion.is_sum_by}
+use Rattle.std.proofs.lemmas.List.Edits.{get_or-remove_below, length-remove}
+use Rattle.std.proofs.lemmas.List.Folds.{list_any-append, list_any_none}
 use Rattle.std.proofs.lemmas.List.Quantifiers.{position-Some}
+use Rattle.std.proofs.lemmas.List.Recursion.{is_sum_by}
+use Rattle.std.proofs.lemmas.List.Sums.{fails_before_first}
+use Rattle.std.specs.List.{list_any, remove, sum_by, position}
+use Rattle.std.specs.Prelude.{nat_lt, max, fold, ◌==◌, if◌then◌else◌}
+use Rattle.model.proofs.Elements.{all-each}
+use Rattle.versions.specs.Groups.{GroupValue}
+use Rattle.versions.specs.Listings.{witness_for, witnesses, AreApart, AreAmong, CanJoin, lists_in}
+use Rattle.versions.specs.Meaning.{is_among}
 
 -- ---- a witness is one of the numbers or 0
 
@@ -13,7 +28,8 @@ among-itself : (bs : List ℕ) → AreAmong bs bs
 among-itself [] = tt
 among-itself (b ∷ bs) = (or_left (b == b) (is_among bs b) (eq-eqb b b refl), among-more b bs bs (among-itself bs))
 
-greatest-among : (high : ℕ) (all bs : List ℕ) (m : ℕ) → is_among all m ≡ true → AreAmong all bs → is_among all (fold (λ greatest b. if nat_lt b high then max greatest b else greatest) m bs) ≡ true
+greatest-among : (high : ℕ) (all bs : List ℕ) (m : ℕ) → is_among all m ≡ true → AreAmong all bs
+    → is_among all (fold (λ greatest b. if nat_lt b high then max greatest b else greatest) m bs) ≡ true
 greatest-among high all [] m h each = h
 greatest-among high all (b ∷ bs) m h each = greatest-among high all bs (if nat_lt b high then max m b else m) (grind (arith, nat_tests, each.0)) each.1
 
@@ -57,7 +73,8 @@ pub take-get : {X Y : Type 0} (f : X → Y) (xs : List X) (i : ℕ) (x : X) (d :
 take-get f xs i x d lt at = ap f at ∙ sym (get_or-map f xs i x d lt)
 
 -- one more of the groups has a witness of its own
-pub apart-next : (gs : List GroupValue) (i : ℕ) → i < length gs → AreApart (take i (witnesses gs)) → is_among (take i (witnesses gs)) (get_or (witnesses gs) i 0) ≡ false → AreApart (take (i + 1) (witnesses gs))
+pub apart-next : (gs : List GroupValue) (i : ℕ) → i < length gs → AreApart (take i (witnesses gs))
+    → is_among (take i (witnesses gs)) (get_or (witnesses gs) i 0) ≡ false → AreApart (take (i + 1) (witnesses gs))
 apart-next gs i lt h other =
     let long : i < length (witnesses gs) = omega (arith, lt, length-map gs (λ (g : GroupValue). g.witness)) in
     subst AreApart (sym (take_more (witnesses gs) i 0 long)) (apart-push (take i (witnesses gs)) (get_or (witnesses gs) i 0) h other)
@@ -84,7 +101,8 @@ among-witnesses (g ∷ gs) w = ap (λ b. (g.witness == w) || b) (among-witnesses
 -- the witness is that of no group before
 pub none-before : (gs : List GroupValue) (i w : ℕ) → position (λ g. g.witness == w) (take i gs) ≡ None → is_among (take i (witnesses gs)) w ≡ false
 none-before gs i w e = ap (λ ns. is_among ns w) (take-map (λ (g : GroupValue). g.witness) i gs) ∙ among-witnesses (take i gs) w
-    ∙ list_any_none (λ (g : GroupValue). g.witness == w) (take i gs) (λ k d lt. fails_before_first (λ (g : GroupValue). g.witness == w) (take i gs) k d (grind (arith, nat_tests)))
+    ∙ list_any_none (λ (g : GroupValue). g.witness == w) (take i gs)
+    (λ k d lt. fails_before_first (λ (g : GroupValue). g.witness == w) (take i gs) k d (grind (arith, nat_tests)))
 
 -- ---- how many lists
 
@@ -97,26 +115,31 @@ lists-set gs i g h lt at = grind (arith, common_steps, lists-sum)
 pub lists-remove : (gs : List GroupValue) (i : ℕ) (g : GroupValue) → i < length gs → g ≡ get_or gs i g → lists_in (remove gs i) + g.lists ≡ lists_in gs
 lists-remove gs i g lt at = grind (arith, common_steps, lists-sum)
 
-pub lists-joined : (gs hs : List GroupValue) (i m : ℕ) (a g j : GroupValue) → i < length gs → g ≡ get_or gs i g → hs ≡ remove gs i → m < length hs → a ≡ get_or hs m a → j.lists ≡ a.lists + g.lists → lists_in (set hs m j) ≡ lists_in gs
+pub lists-joined : (gs hs : List GroupValue) (i m : ℕ) (a g j : GroupValue) → i < length gs → g ≡ get_or gs i g → hs ≡ remove gs i → m < length hs
+    → a ≡ get_or hs m a → j.lists ≡ a.lists + g.lists → lists_in (set hs m j) ≡ lists_in gs
 lists-joined gs hs i m a g j lt second less short first both =
     omega (arith, lists-set hs m a j short first, ap lists_in less, lists-remove gs i g lt second)
 
 -- two of the groups have no more lists than all
-pub two-fit : (gs hs : List GroupValue) (i m : ℕ) (a g : GroupValue) → i < length gs → g ≡ get_or gs i g → hs ≡ remove gs i → m < length hs → a ≡ get_or hs m a → a.lists + g.lists ≤ lists_in gs
+pub two-fit : (gs hs : List GroupValue) (i m : ℕ) (a g : GroupValue) → i < length gs → g ≡ get_or gs i g → hs ≡ remove gs i → m < length hs → a ≡ get_or hs m a
+    → a.lists + g.lists ≤ lists_in gs
 two-fit gs hs i m a g lt second less short first =
     omega (arith, lists-remove hs m a short first, ap lists_in less, lists-remove gs i g lt second)
 
 -- the group that was found stands before the other
-pub found-before : (gs hs : List GroupValue) (i m w : ℕ) (a : GroupValue) → i < length gs → hs ≡ remove gs i → position (λ g. g.witness == w) (take i gs) ≡ Some m → m < length hs
+pub found-before : (gs hs : List GroupValue) (i m w : ℕ) (a : GroupValue) → i < length gs → hs ≡ remove gs i
+    → position (λ g. g.witness == w) (take i gs) ≡ Some m → m < length hs
 found-before gs hs i m w a lt less at =
     omega (arith, (position-Some (λ (g : GroupValue). g.witness == w) (take i gs) m a at).0, length-take i gs, ap length less, length-remove gs i lt)
 
 -- and can take in its lists
-pub join-fits : (gs hs : List GroupValue) (i m w : ℕ) (x a g : GroupValue) → i < length gs → x ≡ get_or gs i x → w ≡ x.witness → g ≡ get_or gs i g → hs ≡ remove gs i → a ≡ get_or hs m a → position (λ g. g.witness == w) (take i gs) ≡ Some m → lists_in gs < 2 ^ 63 → CanJoin a g
+pub join-fits : (gs hs : List GroupValue) (i m w : ℕ) (x a g : GroupValue) → i < length gs → x ≡ get_or gs i x → w ≡ x.witness → g ≡ get_or gs i g
+    → hs ≡ remove gs i → a ≡ get_or hs m a → position (λ g. g.witness == w) (take i gs) ≡ Some m → lists_in gs < 2 ^ 63 → CanJoin a g
 join-fits gs hs i m w x a g lt own is second less first at few =
     let found = position-Some (λ (g : GroupValue). g.witness == w) (take i gs) m a at in
     let before : m < i = omega (arith, found.0, length-take i gs) in
-    let same : get_or (take i gs) m a ≡ a = get_or-take i gs m a before ∙ sym (get_or-remove_below gs i a m before lt) ∙ sym (ap (λ l. get_or l m a) less) ∙ sym first in
+    let same : get_or (take i gs) m a ≡ a =
+    get_or-take i gs m a before ∙ sym (get_or-remove_below gs i a m before lt) ∙ sym (ap (λ l. get_or l m a) less) ∙ sym first in
     let held : (a.witness == w) ≡ true = sym (ap (λ (y : GroupValue). y.witness == w) same) ∙ found.1 in
     let equal : a.witness ≡ w = grind (arith, nat_tests, held) in
     let other : g ≡ x = second ∙ get_or_default gs i g x lt ∙ sym own in

@@ -1,7 +1,11 @@
 -- Chains of versions by key, as contracts see them.
-use Rattle.std.specs.Prelude.{◌≡◌, ℕ, T, ◌+◌, ◌-◌, ◌<◌, ◌≤◌, Bool, List, [], ◌∷◌, ◌++◌, length, Option, Some, None, option_map, nat_le, nat_lt, ◌&&◌, ◌==◌, ◌^◌, min, fold, is_none, is_some, if◌then◌else◌, ⊤}
-use Rattle.std.specs.{List.AllByRecursion, List.list_any, Ordering.nat_cmp, Cmp.Lexicographic.slice_cmp}
+use Rattle.std.specs.Cmp.Lexicographic.{slice_cmp}
 use Rattle.std.specs.FinMap.Entries.{find, is_sorted, put}
+use Rattle.std.specs.List.{AllByRecursion, list_any}
+use Rattle.std.specs.Ordering.{nat_cmp}
+use Rattle.std.specs.Prelude.{◌≡◌, ℕ, T, ◌+◌, ◌-◌, ◌<◌, ◌≤◌, Bool, List, [], ◌∷◌, ◌++◌, length, Option, Some, None}
+use Rattle.std.specs.Prelude.{option_map, nat_le, nat_lt, ◌&&◌, ◌==◌, ◌^◌, min, fold, is_none, is_some, if◌then◌else◌}
+use Rattle.std.specs.Prelude.{⊤}
 use Rattle.model.specs.Map.{Bytes, KeyMap, KeyWrite, is_same_key}
 use Rattle.sorted_pages.specs.Pages.{Page, room_at}
 use Rattle.versions.specs.Groups.{GroupValue}
@@ -21,8 +25,8 @@ pub record ChainValue : Type 0 where
 abbrev pub Chains : Type 0
 Chains = List (Bytes × ChainValue)
 
--- the chains by rising key, the pages that they stand in, the groups of their older versions, and the greatest number that was installed,
--- or 0
+-- the chains by rising key, the pages that they stand in, the groups of their older versions, and the greatest number
+-- that was installed, or 0
 pub record ChainsValue : Type 0 where
   pub chains : Chains
   pub pages : List (Page ChainValue)
@@ -150,18 +154,28 @@ is_between bs low high = list_any (λ b. nat_le low b && nat_lt b high) bs
 -- the versions that some of the numbers sees, where the version after the last one has number next
 abbrev pub seen_by : List ℕ → ℕ → List Stamped → List Stamped
 seen_by bs next [] = []
-seen_by bs next (v ∷ vs) = if is_between bs v.number (first_number vs next) then v ∷ seen_by bs next vs else seen_by bs next vs
+seen_by bs next (v ∷ vs) =
+    if is_between bs v.number (first_number vs next) then v ∷ seen_by bs next vs else seen_by bs next vs
 
 -- without the older versions that none of the numbers sees
 abbrev pub thinned : List ℕ → ChainValue → ChainValue
-thinned bs c = record { older = seen_by bs c.newest.number c.older; newest = c.newest; room = c.room + (length c.older - length (seen_by bs c.newest.number c.older)) }
+thinned bs c = record {
+  older = seen_by bs c.newest.number c.older;
+  newest = c.newest;
+  room = c.room + (length c.older - length (seen_by bs c.newest.number c.older));
+}
 
 -- the room for more is given back with the last older version
 abbrev pub room_left : ChainValue → List Stamped → ℕ
-room_left c left = if length left == length c.older then c.room else (if length left == 0 then 0 else c.room + (length c.older - length left))
+room_left c left = if length left == length c.older then c.room else (if length left == 0 then 0 else c.room
+    + (length c.older - length left))
 
 abbrev pub reclaimed : List ℕ → ChainValue → ChainValue
-reclaimed bs c = record { older = seen_by bs c.newest.number c.older; newest = c.newest; room = room_left c (seen_by bs c.newest.number c.older) }
+reclaimed bs c = record {
+  older = seen_by bs c.newest.number c.older;
+  newest = c.newest;
+  room = room_left c (seen_by bs c.newest.number c.older);
+}
 
 -- ---- what always holds
 
@@ -180,7 +194,8 @@ pub record IsKept (chains : Chains) (last : ℕ) : Type 0 where
 
 -- the key's chain was reclaimed, and no other has changed
 pub record IsReclaimedAt (bs : List ℕ) (k : Bytes) (old new : Chains) : Type 0 where
-  pub found : (q : Bytes) → find_chain q new ≡ (if is_same_key q k then option_map (reclaimed bs) (find_chain k old) else find_chain q old)
+  pub found : (q : Bytes) → find_chain q new
+      ≡ (if is_same_key q k then option_map (reclaimed bs) (find_chain k old) else find_chain q old)
   pub kept : (last : ℕ) → IsKept old last → IsKept new last
 
 -- ---- chains that are made, and chains with more room

@@ -8,7 +8,8 @@ pub record Listed : Type 0 where
   pub number : ℕ
   pub next : ℕ
 
--- older versions in lists, and those of them that stand in the mixed lists: how many of the lists are all seen from one number, the witness, how many are due, and how many there are in all
+-- older versions in lists, and those of them that stand in the mixed lists: how many of the lists are all seen from one
+-- number, the witness, how many are due, and how many there are in all
 pub record GroupValue : Type 0 where
   pub witness : ℕ
   pub versions : List Listed

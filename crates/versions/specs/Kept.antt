@@ -1,6 +1,7 @@
 -- The versions that a chain keeps.
 use Rattle.std.specs.Prelude.{Some, None}
-use Rattle.versions.specs.{declared.chain.Kept.Kept, Chains.ChainValue, Chains.fresh_chain, Chains.stamped}
+use Rattle.versions.specs.Chains.{ChainValue, fresh_chain, stamped}
+use Rattle.versions.specs.declared.chain.Kept.{Kept}
 use Rattle.versions.specs.declared.chain.Kept.TheVariants.{Value, Deletion, More}
 
 -- the chain of these versions

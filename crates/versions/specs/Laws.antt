@@ -1,12 +1,15 @@
 -- What versions stand for, where none of their calls is made.
 use Rattle.std.specs.Prelude.{◌≡◌, ℕ, Bool, ◌||◌, nat_le, IsTrue, List, [], ◌∷◌, ◌++◌}
-use Rattle.model.specs.{Map.KeyMap, Map.IsMap, History.Record, History.map_at}
-use Rattle.versions.specs.{Chains.ChainsValue, StandsFor.StandsFor}
+use Rattle.model.specs.History.{Record, map_at}
+use Rattle.model.specs.Map.{KeyMap, IsMap}
+use Rattle.versions.specs.Chains.{ChainsValue}
+use Rattle.versions.specs.StandsFor.{StandsFor}
 
 -- numbers may be held no more, and numbers from the greatest installed on may be held from now on
 abbrev pub HoldingLaw : Type 0
 HoldingLaw = (v : ChainsValue) (held others : ℕ → Bool) (base : KeyMap) (history : List Record)
-    → ((n : ℕ) → IsTrue (others n) → IsTrue (held n || nat_le v.last n)) → StandsFor v held base history → StandsFor v others base history
+    → ((n : ℕ) → IsTrue (others n) → IsTrue (held n || nat_le v.last n)) → StandsFor v held base history
+    → StandsFor v others base history
 
 -- a record that wrote nothing may follow
 abbrev pub ReadOnlyLaw : Type 0

@@ -4,6 +4,8 @@ pub mod Kept
 pub mod Listings
 pub mod Meaning
 pub mod Witnesses
+pub mod Reclaiming
+pub mod Installing
 pub mod StandsFor
 pub mod Lent
 pub mod Laws

@@ -1,10 +1,14 @@
 -- Which older versions are listed, so that a reclaim finds those that no number sees any more.
-use Rattle.std.specs.Prelude.{◌≡◌, ℕ, ◌+◌, ◌-◌, ◌<◌, ◌≤◌, ◌^◌, length, Bool, false, not, ◌||◌, ◌&&◌, ◌==◌, ◌⊎◌, nat_le, nat_lt, max, List, [], ◌∷◌, map, fold, Option, Some, None, option_map, IsTrue, ⊤, if◌then◌else◌}
 use Rattle.std.specs.List.{AllByRecursion, list_all, list_any, flat_map}
-use Rattle.std.specs.{Vec.vec_len, Vec.vec_capacity, declared.vec.Vec.Vec}
+use Rattle.std.specs.Prelude.{◌≡◌, ℕ, ◌+◌, ◌-◌, ◌<◌, ◌≤◌, ◌^◌, length, Bool, false, not, ◌||◌, ◌&&◌, ◌==◌, ◌⊎◌}
+use Rattle.std.specs.Prelude.{nat_le, nat_lt, max, List, [], ◌∷◌, map, fold, Option, Some, None, option_map, IsTrue}
+use Rattle.std.specs.Prelude.{⊤, if◌then◌else◌}
+use Rattle.std.specs.Vec.{vec_len, vec_capacity}
+use Rattle.std.specs.declared.vec.Vec.{Vec}
 use Rattle.model.specs.Map.{Bytes, is_same_key}
-use Rattle.versions.specs.{Groups.GroupValue, Groups.Listed, Meaning.is_among}
 use Rattle.versions.specs.Chains.{Stamped, ChainValue, Chains, find_chain, first_number, is_between, reclaimed}
+use Rattle.versions.specs.Groups.{GroupValue, Listed}
+use Rattle.versions.specs.Meaning.{is_among}
 
 -- the versions of lists, one list after the other
 abbrev pub versions_in : {Z : Type 0} → List (Vec Listed Z) → List Listed
@@ -105,7 +109,8 @@ IsTakenIn bs g = IsTrue (is_among bs g.witness) ⊎ (g.seen ≡ 0)
 abbrev pub sees_mixed : List ℕ → GroupValue → Bool
 sees_mixed bs g = is_among bs g.witness && list_all (is_seen_from g.witness) g.mixed
 
--- there are no more mixed lists than versions in them; and there is no such version, or the witness is none of the numbers or doesn't see all of them
+-- there are no more mixed lists than versions in them; and there is no such version, or the witness is none of the
+-- numbers or doesn't see all of them
 abbrev pub IsTrulyMixed : List ℕ → GroupValue → Type 0
 IsTrulyMixed bs g = (g.lists ≤ g.seen + g.due + length g.mixed) × ((g.mixed ≡ []) ⊎ (sees_mixed bs g ≡ false))
 
@@ -156,11 +161,13 @@ IsNeededChain bs (Some c) = AreNeeded bs c.newest.number c.older
 
 -- some of the numbers sees the listed version, or its chain has it and holds none that they don't see
 abbrev pub IsSettled : List ℕ → Chains → Listed → Type 0
-IsSettled bs chains v = IsTrue (is_between bs v.number v.next) ⊎ (IsTrue (has_version v.number (find_chain v.key chains)) × IsNeededChain bs (find_chain v.key chains))
+IsSettled bs chains v = IsTrue (is_between bs v.number v.next)
+    ⊎ (IsTrue (has_version v.number (find_chain v.key chains)) × IsNeededChain bs (find_chain v.key chains))
 
 -- each chain is as it was, or was reclaimed
 abbrev pub IsPartReclaimed : List ℕ → Chains → Chains → Type 0
-IsPartReclaimed bs old new = (k : Bytes) → (find_chain k new ≡ find_chain k old) ⊎ (find_chain k new ≡ option_map (reclaimed bs) (find_chain k old))
+IsPartReclaimed bs old new = (k : Bytes)
+    → (find_chain k new ≡ find_chain k old) ⊎ (find_chain k new ≡ option_map (reclaimed bs) (find_chain k old))
 
 -- each chain was reclaimed
 abbrev pub IsAllReclaimed : List ℕ → Chains → Chains → Type 0
@@ -169,11 +176,13 @@ IsAllReclaimed bs old new = (k : Bytes) → find_chain k new ≡ option_map (rec
 -- where the old versions and some more are settled, the new ones are
 abbrev pub StaySettled : List ℕ → List Listed → List Listed → List Listed → Type 0
 StaySettled bs old more new =
-    (chains : Chains) → AllByRecursion (IsSettled bs chains) old → AllByRecursion (IsSettled bs chains) more → AllByRecursion (IsSettled bs chains) new
+    (chains : Chains) → AllByRecursion (IsSettled bs chains) old → AllByRecursion (IsSettled bs chains) more
+    → AllByRecursion (IsSettled bs chains) new
 
 -- a version that is listed no more is in its chain no more
 abbrev pub AreKept : List Listed → List Listed → Chains → Type 0
-AreKept old new chains = (k : Bytes) (n high : ℕ) → IsTrue (is_in old k n high) → IsTrue (is_in new k n high || not (has_version n (find_chain k chains)))
+AreKept old new chains = (k : Bytes) (n high : ℕ) → IsTrue (is_in old k n high)
+    → IsTrue (is_in new k n high || not (has_version n (find_chain k chains)))
 
 -- each version of the mixed lists is settled
 abbrev pub AreMixedSettled : List ℕ → Chains → List GroupValue → Type 0

@@ -1,9 +1,11 @@
 -- What versions mean: a map for each number, the number of each key's newest version, and how many versions are kept.
-use Rattle.std.specs.Prelude.{◌≡◌, ℕ, ◌+◌, ◌-◌, ◌⊎◌, Bool, ◌||◌, ◌==◌, nat_le, IsTrue, List, [], ◌∷◌, length, Option, Some, None, option_map, if◌then◌else◌}
 use Rattle.std.specs.List.{AllByRecursion, list_any}
+use Rattle.std.specs.Prelude.{◌≡◌, ℕ, ◌+◌, ◌-◌, ◌⊎◌, Bool, ◌||◌, ◌==◌, nat_le, IsTrue, List, [], ◌∷◌, length, Option}
+use Rattle.std.specs.Prelude.{Some, None, option_map, if◌then◌else◌}
 use Rattle.model.specs.Map.{Bytes, KeyMap, KeyWrite, is_same_key, after_writes}
+use Rattle.versions.specs.Chains.{Stamped, ChainValue, Chains, ChainsValue, version_at, visible, find_chain}
+use Rattle.versions.specs.Chains.{reclaimed}
 use Rattle.versions.specs.Groups.{GroupValue}
-use Rattle.versions.specs.Chains.{Stamped, ChainValue, Chains, ChainsValue, version_at, visible, find_chain, reclaimed}
 
 -- the map that number n sees
 abbrev pub map_seen : ChainsValue → ℕ → KeyMap
@@ -58,7 +60,9 @@ is_written_by ws k = list_any (λ w. is_same_key k w.0) ws
 -- the writes came into the chains with number n, and nothing else has changed
 pub record AreInstalled (old new : Chains) (n : ℕ) (ws : List KeyWrite) : Type 0 where
   pub maps : (m : ℕ) → visible m new ≡ (if nat_le n m then after_writes (visible m old) ws else visible m old)
-  pub newest : (k : Bytes) → option_map (λ (c : ChainValue). c.newest.number) (find_chain k new) ≡ (if is_written_by ws k then Some n else option_map (λ (c : ChainValue). c.newest.number) (find_chain k old))
+  pub newest : (k : Bytes)
+      → option_map (λ (c : ChainValue). c.newest.number) (find_chain k new)
+      ≡ (if is_written_by ws k then Some n else option_map (λ (c : ChainValue). c.newest.number) (find_chain k old))
   pub kept : (k : Bytes) → kept_in (find_chain k new) ≡ kept_in (find_chain k old) + writes_of ws k
 
 -- the writes came in with number n, and nothing else has changed
@@ -95,14 +99,15 @@ pub record IsSeenSame (old new : ChainsValue) (bs : List ℕ) : Type 0 where
   pub last : new.last ≡ old.last
   pub needed : (k : Bytes) → needed_of bs new k ≡ needed_of bs old k
 
--- So it is, and of each key those that are needed are left, and no other: its newest, and those that some of the numbers sees.
+-- So it is, and of each key those that are needed are left, and no other: its newest, and those that some of the
+-- numbers sees.
 pub record IsReclaimed (old new : ChainsValue) (bs : List ℕ) : Type 0 where
   pub seen : IsSeenSame old new bs
   pub kept : (k : Bytes) → kept_of new k ≡ needed_of bs old k
   pub tight : IsTight bs new
 
--- A step of that: so many lists are due no more. Each key has all its versions still or those alone that are needed, and
--- where no list is due, all of it is done.
+-- A step of that: so many lists are due no more. Each key has all its versions still or those alone that are needed,
+-- and where no list is due, all of it is done.
 pub record IsReclaimedInPart (old new : ChainsValue) (bs : List ℕ) : Type 0 where
   pub seen : IsSeenSame old new bs
   pub due : due_of bs new ≡ due_of bs old - lists_a_step

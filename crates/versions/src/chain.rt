@@ -1,7 +1,8 @@
 //! The versions of one key.
 ghost use Rattle.std.specs.Prelude.{◌≡◌, ◌+◌, ◌<◌, ◌≤◌, [], length, IfSome, IsOk, OnOk, Some, option_copied};
 ghost use Rattle.model.specs.Key.{IsValue};
-ghost use Rattle.versions.specs.Chains.{seen, hides, shows, first_shown, longer_chain, fresh_chain, reclaimed, is_blank};
+ghost use Rattle.versions.specs.Chains.{seen, hides, shows, first_shown, longer_chain, fresh_chain, reclaimed};
+ghost use Rattle.versions.specs.Chains.{is_blank};
 ghost use Rattle.versions.specs.Kept.{kept_chain};
 ghost use Rattle.versions.specs.Listings.{has_version};
 
@@ -208,6 +209,16 @@ impl Aging for Chain {
     // The number of the newest version.
     fn last(&self) -> u64 {
         self.number()
+    }
+
+    // The end of the last value that a number below `high` sees, where that is above `low`.
+    fn hidden_from(&self, low: u64, high: u64) -> u64 {
+        match &self.kept {
+            Kept::Value(number, _) if *number < high => low.max(high),
+            Kept::Value(_, _) => low,
+            Kept::Deletion(_) => low,
+            Kept::More(several) => several.as_ref().hidden_from(low, high),
+        }
     }
 }
 

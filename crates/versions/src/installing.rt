@@ -1,16 +1,15 @@
 //! New versions come.
-ghost use Rattle.std.specs.Prelude.{◌≡◌, ℕ, T, ◌+◌, ◌-◌, ◌<◌, ◌≤◌, [], ◌∷◌, ◌++◌, length, IsOk, OnOk};
-ghost use Rattle.std.specs.List.{AllByRecursion};
+ghost use Rattle.std.specs.Prelude.{◌≡◌, ℕ, T, ◌+◌, ◌-◌, ◌<◌, ◌≤◌, [], ◌∷◌, length, IsOk, OnOk};
 ghost use Rattle.std.specs.Ordering.{nat_cmp};
 ghost use Rattle.std.specs.Cmp.Lexicographic.{slice_cmp};
 ghost use Rattle.std.specs.FinMap.Entries.{is_sorted};
 ghost use Rattle.std.specs.Vec.{vec_len, vec_capacity};
 ghost use Rattle.model.specs.Map.{Bytes};
 ghost use Rattle.sorted_pages.specs.Pages.{entries, room_at};
-ghost use Rattle.versions.specs.Chains.{HasPlaceAt, HasRoom, IsAddedAt, IsKept, IsReady, IsRoomier, WhereRoom, find_chain, stamped};
-ghost use Rattle.versions.specs.Listings.{AreSeenFrom, IsFollowed, StayListed, followed};
-ghost use Rattle.versions.specs.Meaning.{AreInstalled};
-ghost use Rattle.versions.specs.Witnesses.{IsAddedTo};
+ghost use Rattle.versions.specs.Chains.{HasPlaceAt, HasRoom, IsAddedAt, IsKept, IsReady, IsRoomier, WhereRoom};
+ghost use Rattle.versions.specs.Chains.{find_chain, stamped};
+ghost use Rattle.versions.specs.Listings.{followed};
+ghost use Rattle.versions.specs.Installing.{AddsWrites, HaveRoom, ListsFollowed, ListsMore};
 
 use crate::chain::Chain;
 use crate::listing::OldVersion;
@@ -23,8 +22,7 @@ use std::alloc::{AllocError, Global};
 // Lists the version of the key that commit `n` puts its own behind.
 fn list(listed: &mut Vec<OldVersion>, key: Key, number: u64, n: u64)
     requires { vec_len listed.old < vec_capacity listed.old }
-    ensures items { listed.new.items ≡ listed.old.items ++ record { key = key; number = number; next = n } ∷ [] }
-    ensures room { vec_capacity listed.old - vec_len listed.old ≤ vec_capacity listed.new - vec_len listed.new + 1 }
+    ensures { ListsMore listed.old listed.new (record { key = key; number = number; next = n } ∷ []) }
 {
     let version = OldVersion {
         key,
@@ -65,8 +63,7 @@ fn add(chains: &mut SortedPages<Chain>, listed: &mut Vec<OldVersion>, n: u64, wr
     requires listed_spare { 1 ≤ vec_capacity listed.old - vec_len listed.old }
     ensures chains { IsAddedAt write.0 (stamped n write.1) (entries chains.old) (entries chains.new) }
     ensures rooms { (q : Bytes) → room_at q chains.old ≤ room_at q chains.new + 1 }
-    ensures listed { listed.new.items ≡ listed.old.items ++ followed (find_chain write.0 (entries chains.old)) write.0 n }
-    ensures listed_spare { vec_capacity listed.old - vec_len listed.old ≤ vec_capacity listed.new - vec_len listed.new + 1 }
+    ensures listed { ListsMore listed.old listed.new (followed (find_chain write.0 (entries chains.old)) write.0 n) }
 {
     let (key, value) = write.into_parts();
     let version = Version {
@@ -92,16 +89,11 @@ pub(crate) fn add_all(
 )
     requires kept { (last : ℕ) × (last < n) × IsKept (entries chains.old) last }
     requires rising { T (is_sorted (slice_cmp nat_cmp) writes.items) }
-    requires rooms { AllByRecursion (λ w. HasRoom (find_chain w.0 (entries chains.old))) writes.items }
-    requires places { AllByRecursion (λ w. HasPlaceAt (length writes.items) w.0 chains.old (entries chains.old)) writes.items }
+    requires room { HaveRoom chains.old (entries chains.old) writes.items }
     requires none { listed.old.items ≡ [] }
     requires listed_spare { length writes.items ≤ vec_capacity listed.old - vec_len listed.old }
-    ensures kept { IsKept (entries chains.new) n }
-    ensures installed { AreInstalled (entries chains.old) (entries chains.new) n writes.items }
-    ensures listed { StayListed (entries chains.old) (entries chains.new) listed.new.items }
-    ensures seen { AreSeenFrom (n - 1) listed.new.items }
-    ensures added { (k : Bytes) → IsAddedTo n (find_chain k (entries chains.old)) (find_chain k (entries chains.new)) }
-    ensures followed { AllByRecursion (IsFollowed n (entries chains.new)) listed.new.items }
+    ensures chains { AddsWrites (entries chains.old) (entries chains.new) n writes.items }
+    ensures listed { ListsFollowed (entries chains.old) (entries chains.new) n listed.new.items }
 {
     for write in writes {
         add(chains, listed, n, write);

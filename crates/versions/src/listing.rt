@@ -2,7 +2,8 @@
 ghost use Rattle.std.specs.Prelude.{◌≡◌, ◌==◌, ◌≤◌, ◌<◌, ◌^◌, ℕ, List, nat_lt, length, true, [], IsOk, OnOk};
 ghost use Rattle.std.specs.List.{list_all};
 ghost use Rattle.std.specs.Vec.{vec_len};
-ghost use Rattle.versions.specs.Listings.{AreSeenFrom, greatest_below, is_seen_by, is_seen_from, spare_in, versions_in};
+ghost use Rattle.versions.specs.Listings.{AreSeenFrom, greatest_below, is_seen_by, is_seen_from, spare_in};
+ghost use Rattle.versions.specs.Listings.{versions_in};
 ghost use Rattle.versions.specs.Meaning.{due_for};
 ghost use Rattle.versions.specs.Meaning.{is_among};
 
@@ -65,9 +66,17 @@ impl Model for Group {
 
     ghost Value = { GroupValue };
 
-    ghost view = { λ g. record { witness = g.witness; versions = versions_in g.lists ++ (versions_in g.due ++ versions_in g.mixed); mixed = versions_in g.mixed; seen = length g.lists; due = length g.due; lists = length g.lists + length g.due + length g.mixed } };
+    ghost view = { λ g. record {
+      witness = g.witness;
+      versions = versions_in g.lists ++ (versions_in g.due ++ versions_in g.mixed);
+      mixed = versions_in g.mixed;
+      seen = length g.lists;
+      due = length g.due;
+      lists = length g.lists + length g.due + length g.mixed;
+    } };
 
-    ghost invariant = { λ g. AreSeenFrom g.witness (versions_in g.lists) × (length g.lists + length g.due + length g.mixed < 2 ^ 63) × AreFilled g.mixed };
+    ghost invariant = { λ g.
+        AreSeenFrom g.witness (versions_in g.lists) × (length g.lists + length g.due + length g.mixed < 2 ^ 63) × AreFilled g.mixed };
 }
 
 impl Group {

@@ -1,16 +1,20 @@
 //! Old versions go.
-ghost use Rattle.std.specs.Prelude.{◌≡◌, ◌==◌, ℕ, List, [], ◌∷◌, T, false, IfSome, IsTrue, nat_lt, ◌<◌, ◌≤◌, ◌+◌, ◌-◌, ◌^◌, ◌++◌, length, take, drop, get_or, position};
-ghost use Rattle.std.specs.List.{AllByRecursion, list_any};
+ghost use Rattle.std.specs.Prelude.{◌≡◌, ◌==◌, ℕ, [], T, false, IfSome, IsTrue, nat_lt, ◌<◌, ◌≤◌, ◌+◌, ◌-◌, ◌^◌};
+ghost use Rattle.std.specs.Prelude.{◌++◌, length, take, drop, position};
+ghost use Rattle.std.specs.List.{list_any};
 ghost use Rattle.std.specs.Ordering.{nat_cmp};
 ghost use Rattle.std.specs.Cmp.Lexicographic.{slice_cmp};
 ghost use Rattle.std.specs.FinMap.Entries.{is_sorted};
 ghost use Rattle.std.specs.Vec.{vec_len};
 ghost use Rattle.sorted_pages.specs.Pages.{entries};
-ghost use Rattle.versions.specs.Chains.{Chains, IsKept, IsReclaimedAt, find_chain};
-ghost use Rattle.versions.specs.Witnesses.{GroupStaysUnder, GroupTakesUnder, GroupsJoinUnder, GroupsStayUnder, MoveUnderWitnesses, StayUnder};
-ghost use Rattle.versions.specs.Listings.{AreAmong, AreApart, AreFilled, AreFound, AreIn, AreKept, AreMixedSettled, AreOfBoth, AreSeenFrom, CanJoin, IsAllReclaimed, IsListed, IsPartReclaimed, IsSettled, IsTakenIn, IsTrulyMixed, StaySettled, has_version, lists_in, versions_in, witness_for, witnesses};
-ghost use Rattle.versions.specs.Meaning.{due_for, due_in};
-ghost use Rattle.versions.specs.Meaning.{is_among, lists_a_step};
+ghost use Rattle.versions.specs.Chains.{IsKept, IsReclaimedAt, find_chain};
+ghost use Rattle.versions.specs.Witnesses.{GroupStaysUnder};
+ghost use Rattle.versions.specs.Listings.{AreApart, AreFilled, AreIn, CanJoin, IsListed, IsTakenIn, IsTrulyMixed};
+ghost use Rattle.versions.specs.Listings.{has_version, lists_in, versions_in, witness_for, witnesses};
+ghost use Rattle.versions.specs.Reclaiming.{AreLookedAt, DropsFromGroup, DropsUnseen, IsLookedAfter, KeepsListed};
+ghost use Rattle.versions.specs.Reclaiming.{ReclaimsChains, ReclaimsStep, StaysApart, TakesGroup, TakesLists};
+ghost use Rattle.versions.specs.Reclaiming.{TakesVersions};
+ghost use Rattle.versions.specs.Meaning.{due_for, due_in, is_among};
 
 use crate::chain::Chain;
 use crate::listing::{Group, OldVersion, are_empty, are_seen_from, greatest_below, is_among};
@@ -40,12 +44,8 @@ fn drop_unseen(
 )
     requires kept { (last : ℕ) × IsKept (entries chains.old) last }
     requires next { IfSome next (λ n. IsTrue (is_among begins.now n)) }
-    ensures part { IsPartReclaimed begins.now (entries chains.old) (entries chains.new) }
-    ensures kept { (last : ℕ) → IsKept (entries chains.old) last → IsKept (entries chains.new) last }
-    ensures settled { AllByRecursion (IsSettled begins.now (entries chains.new)) versions.new.items }
-    ensures left { AreKept versions.old.items versions.new.items (entries chains.new) }
-    ensures seen { (n : ℕ) → AreSeenFrom n versions.old.items → AreSeenFrom n versions.new.items }
-    ensures each { StayUnder versions.old.items versions.new.items }
+    ensures chains { ReclaimsChains begins.now (entries chains.old) (entries chains.new) }
+    ensures versions { DropsUnseen begins.now (entries chains.new) versions.old.items versions.new.items }
 {
     let mut left = versions.len();
     while left > 0 {
@@ -92,12 +92,8 @@ fn settle_first(
     requires kept { (last : ℕ) × IsKept (entries chains.old) last }
     requires next { IfSome next (λ n. IsTrue (is_among begins.now n)) }
     ensures one { length lists.new ≡ 1 }
-    ensures part { IsPartReclaimed begins.now (entries chains.old) (entries chains.new) }
-    ensures kept { (last : ℕ) → IsKept (entries chains.old) last → IsKept (entries chains.new) last }
-    ensures settled { AllByRecursion (IsSettled begins.now (entries chains.new)) (versions_in lists.new) }
-    ensures left { AreKept (versions_in lists.old) (versions_in lists.new) (entries chains.new) }
-    ensures seen { (n : ℕ) → AreSeenFrom n (versions_in lists.old) → AreSeenFrom n (versions_in lists.new) }
-    ensures each { StayUnder (versions_in lists.old) (versions_in lists.new) }
+    ensures chains { ReclaimsChains begins.now (entries chains.old) (entries chains.new) }
+    ensures versions { DropsUnseen begins.now (entries chains.new) (versions_in lists.old) (versions_in lists.new) }
 {
     match lists.front_mut() {
         Some(list) => drop_unseen(chains, list, begins, next),
@@ -116,12 +112,8 @@ fn settle_lists(
     requires next { IfSome next (λ n. IsTrue (is_among begins.now n)) }
     ensures fewer { length lists.new ≤ length lists.old }
     ensures filled { AreFilled lists.new }
-    ensures part { IsPartReclaimed begins.now (entries chains.old) (entries chains.new) }
-    ensures kept { (last : ℕ) → IsKept (entries chains.old) last → IsKept (entries chains.new) last }
-    ensures settled { AllByRecursion (IsSettled begins.now (entries chains.new)) (versions_in lists.new) }
-    ensures left { AreKept (versions_in lists.old) (versions_in lists.new) (entries chains.new) }
-    ensures seen { (n : ℕ) → AreSeenFrom n (versions_in lists.old) → AreSeenFrom n (versions_in lists.new) }
-    ensures each { StayUnder (versions_in lists.old) (versions_in lists.new) }
+    ensures chains { ReclaimsChains begins.now (entries chains.old) (entries chains.new) }
+    ensures versions { DropsUnseen begins.now (entries chains.new) (versions_in lists.old) (versions_in lists.new) }
 {
     let alloc = *lists.allocator();
     let mut rest = mem::replace(lists, LinkedList::new(alloc));
@@ -163,16 +155,10 @@ impl Group {
         requires fits { self.old.lists + length lists < 2 ^ 63 }
         requires filled { AreFilled lists }
         requires taken_in { IsTakenIn begins.now self.old }
-        ensures found { AreIn self.old.versions self.new.versions }
-        ensures kept { AreIn (versions_in lists) self.new.versions }
-        ensures due { self.new.due ≡ self.old.due }
+        ensures versions { TakesVersions begins.now self.old (versions_in lists) self.new }
+        ensures lists { TakesLists self.old (length lists) self.new }
         ensures taken_in { IsTakenIn begins.now self.new }
-        ensures witness { self.new.witness ≡ self.old.witness }
-        ensures lists { self.new.lists ≡ self.old.lists + length lists }
-        ensures settled { StaySettled begins.now self.old.versions (versions_in lists) self.new.versions }
         ensures truly { self.old.mixed ≡ [] → IsTrulyMixed begins.now self.new }
-        ensures each { GroupTakesUnder self.old (versions_in lists) self.new }
-        ensures mixed { StaySettled begins.now self.old.mixed (versions_in lists) self.new.mixed }
     {
         if is_among(begins, self.witness) && are_seen_from(&lists, self.witness) {
             append(&mut self.lists, lists);
@@ -186,14 +172,10 @@ impl Group {
         requires count { count ≤ self.old.due }
         requires taken_in { IsTakenIn begins.now self.old }
         requires kept { (last : ℕ) × IsKept (entries chains.old) last }
-        ensures part { IsPartReclaimed begins.now (entries chains.old) (entries chains.new) }
-        ensures kept { (last : ℕ) → IsKept (entries chains.old) last → IsKept (entries chains.new) last }
-        ensures left { AreKept self.old.versions self.new.versions (entries chains.new) }
+        ensures chains { ReclaimsChains begins.now (entries chains.old) (entries chains.new) }
+        ensures group { DropsFromGroup (entries chains.new) self.old.witness self.old self.new }
         ensures due { self.new.due + count ≡ self.old.due }
         ensures taken_in { IsTakenIn begins.now self.new }
-        ensures witness { self.new.witness ≡ self.old.witness }
-        ensures lists { self.new.lists ≤ self.old.lists }
-        ensures each { GroupStaysUnder self.old self.new }
     {
         if count == 0 {
             return;
@@ -204,21 +186,15 @@ impl Group {
         self.keep(lists, begins);
     }
 
-    // Looks after the mixed lists, and puts them under the witness where it sees all of them now. Where no list is due, all was looked after
-    // then.
+    // Looks after the mixed lists, and puts them under the witness where it sees all of them now. Where no list is due, all was looked
+    // after then.
     fn look_at_mixed(&mut self, chains: &mut SortedPages<Chain>, begins: &[u64])
         requires taken_in { IsTakenIn begins.now self.old }
         requires kept { (last : ℕ) × IsKept (entries chains.old) last }
-        ensures part { IsPartReclaimed begins.now (entries chains.old) (entries chains.new) }
-        ensures kept { (last : ℕ) → IsKept (entries chains.old) last → IsKept (entries chains.new) last }
-        ensures left { AreKept self.old.versions self.new.versions (entries chains.new) }
+        ensures chains { ReclaimsChains begins.now (entries chains.old) (entries chains.new) }
+        ensures group { DropsFromGroup (entries chains.new) self.old.witness self.old self.new }
         ensures due { due_for begins.now self.new ≡ self.old.due }
-        ensures settled { due_for begins.now self.new ≡ 0 → AllByRecursion (IsSettled begins.now (entries chains.new)) self.new.versions }
-        ensures witness { self.new.witness ≡ self.old.witness }
-        ensures lists { self.new.lists ≤ self.old.lists }
-        ensures truly { IsTrulyMixed begins.now self.new }
-        ensures each { GroupStaysUnder self.old self.new }
-        ensures mixed { AllByRecursion (IsSettled begins.now (entries chains.new)) self.new.mixed }
+        ensures looked_after { IsLookedAfter begins.now (entries chains.new) self.new }
     {
         if self.mixed.is_empty() {
             return;
@@ -234,15 +210,9 @@ impl Group {
         requires kept { (last : ℕ) × IsKept (entries chains.old) last }
         ensures spare { result ≡ most - due_for begins.now self.old }
         ensures due { due_for begins.now self.new ≡ due_for begins.now self.old - most }
-        ensures part { IsPartReclaimed begins.now (entries chains.old) (entries chains.new) }
-        ensures kept { (last : ℕ) → IsKept (entries chains.old) last → IsKept (entries chains.new) last }
-        ensures left { AreKept self.old.versions self.new.versions (entries chains.new) }
-        ensures settled { due_for begins.now self.new ≡ 0 → AllByRecursion (IsSettled begins.now (entries chains.new)) self.new.versions }
-        ensures witness { self.new.witness ≡ witness_for begins.now self.old.witness }
-        ensures lists { self.new.lists ≤ self.old.lists }
-        ensures truly { IsTrulyMixed begins.now self.new }
-        ensures each { GroupStaysUnder self.old self.new }
-        ensures mixed { AllByRecursion (IsSettled begins.now (entries chains.new)) self.new.mixed }
+        ensures chains { ReclaimsChains begins.now (entries chains.old) (entries chains.new) }
+        ensures group { DropsFromGroup (entries chains.new) (witness_for begins.now self.old.witness) self.old self.new }
+        ensures looked_after { IsLookedAfter begins.now (entries chains.new) self.new }
     {
         self.take_in(begins);
         let count = self.due().min(most);
@@ -254,13 +224,9 @@ impl Group {
     // Takes in the versions of a group with the same witness. Takes no memory.
     fn absorb(&mut self, other: Group)
         requires { CanJoin self.old other }
-        ensures found { AreOfBoth self.old.versions other.versions self.new.versions }
-        ensures due { (bs : List ℕ) → due_for bs self.new ≡ due_for bs self.old + due_for bs other }
+        ensures joined { TakesGroup self.old other self.new }
         ensures witness { self.new.witness ≡ self.old.witness }
         ensures lists { self.new.lists ≡ self.old.lists + other.lists }
-        ensures truly { (bs : List ℕ) → IsTrulyMixed bs self.old → IsTrulyMixed bs other → IsTrulyMixed bs self.new }
-        ensures each { GroupsJoinUnder self.old other self.new }
-        ensures mixed { (bs : List ℕ) → StaySettled bs self.old.mixed other.mixed self.new.mixed }
     {
         append(&mut self.lists, other.lists);
         append(&mut self.due, other.due);
@@ -273,16 +239,8 @@ impl Group {
 fn reclaim_groups(chains: &mut SortedPages<Chain>, groups: &mut [Group], begins: &[u64])
     requires kept { (last : ℕ) × IsKept (entries chains.old) last }
     requires listed { IsListed (entries chains.old) groups.old }
-    ensures due { due_in begins.now groups.new ≡ due_in begins.now groups.old - lists_a_step }
-    ensures part { IsPartReclaimed begins.now (entries chains.old) (entries chains.new) }
-    ensures all { due_in begins.now groups.new ≡ 0 → IsAllReclaimed begins.now (entries chains.old) (entries chains.new) }
-    ensures kept { (last : ℕ) → IsKept (entries chains.old) last → IsKept (entries chains.new) last }
-    ensures listed { IsListed (entries chains.new) groups.new }
-    ensures held { AreAmong (0 ∷ begins.now) (witnesses groups.new) }
-    ensures lists { lists_in groups.new ≤ lists_in groups.old }
-    ensures truly { AllByRecursion (IsTrulyMixed begins.now) groups.new }
-    ensures each { MoveUnderWitnesses begins.now groups.old groups.new }
-    ensures mixed { AreMixedSettled begins.now (entries chains.new) groups.new }
+    ensures step { ReclaimsStep begins.now (entries chains.old) (entries chains.new) groups.old groups.new }
+    ensures groups { AreLookedAt begins.now (entries chains.new) groups.old groups.new }
 {
     let mut most = LISTS_A_STEP;
     let mut left = groups.len();
@@ -303,17 +261,11 @@ fn place_of(groups: &[Group], witness: u64) -> Option<usize>
 fn join(groups: &mut Vec<Group>, i: usize) -> bool
     requires within { i < vec_len groups.old }
     requires few { lists_in groups.old.items < 2 ^ 63 }
-    ensures found { AreFound groups.old.items groups.new.items }
-    ensures due { (bs : List ℕ) → due_in bs groups.new.items ≡ due_in bs groups.old.items }
-    ensures joined { IsTrue result → vec_len groups.new + 1 ≡ vec_len groups.old }
-    ensures same { result ≡ false → groups.new.items ≡ groups.old.items }
-    ensures first { take i (witnesses groups.new.items) ≡ take i (witnesses groups.old.items) }
-    ensures other { result ≡ false → is_among (take i (witnesses groups.old.items)) (get_or (witnesses groups.old.items) i 0) ≡ false }
-    ensures held { (bs : List ℕ) → AreAmong bs (witnesses groups.old.items) → AreAmong bs (witnesses groups.new.items) }
+    ensures keeps { KeepsListed groups.old.items groups.new.items }
     ensures lists { lists_in groups.new.items ≡ lists_in groups.old.items }
-    ensures truly { (bs : List ℕ) → AllByRecursion (IsTrulyMixed bs) groups.old.items → AllByRecursion (IsTrulyMixed bs) groups.new.items }
-    ensures each { GroupsStayUnder groups.old.items groups.new.items }
-    ensures mixed { (bs : List ℕ) (es : Chains) → AreMixedSettled bs es groups.old.items → AreMixedSettled bs es groups.new.items }
+    ensures first { take i (witnesses groups.new.items) ≡ take i (witnesses groups.old.items) }
+    ensures joined { IsTrue result → vec_len groups.new + 1 ≡ vec_len groups.old }
+    ensures apart { result ≡ false → StaysApart groups.old.items i groups.new.items }
 {
     match place_of(&groups[..i], groups[i].witness) {
         Some(place) => {
@@ -328,14 +280,9 @@ fn join(groups: &mut Vec<Group>, i: usize) -> bool
 // Takes the empty groups out, and joins those with one witness.
 fn join_groups(groups: &mut Vec<Group>)
     requires { lists_in groups.old.items < 2 ^ 63 }
-    ensures found { AreFound groups.old.items groups.new.items }
-    ensures due { (bs : List ℕ) → due_in bs groups.new.items ≡ due_in bs groups.old.items }
-    ensures apart { AreApart (witnesses groups.new.items) }
-    ensures held { (bs : List ℕ) → AreAmong bs (witnesses groups.old.items) → AreAmong bs (witnesses groups.new.items) }
+    ensures keeps { KeepsListed groups.old.items groups.new.items }
     ensures lists { lists_in groups.new.items ≤ lists_in groups.old.items }
-    ensures truly { (bs : List ℕ) → AllByRecursion (IsTrulyMixed bs) groups.old.items → AllByRecursion (IsTrulyMixed bs) groups.new.items }
-    ensures each { GroupsStayUnder groups.old.items groups.new.items }
-    ensures mixed { (bs : List ℕ) (es : Chains) → AreMixedSettled bs es groups.old.items → AreMixedSettled bs es groups.new.items }
+    ensures apart { AreApart (witnesses groups.new.items) }
 {
     let mut i = 0;
     while i < groups.len() {
@@ -365,17 +312,9 @@ pub(crate) fn reclaim_versions(
     requires listed { IsListed (entries chains.old) groups.old.items }
     requires few { lists_in groups.old.items < 2 ^ 63 }
     ensures still { result ≡ nat_lt 0 (due_in begins.now groups.new.items) }
-    ensures due { due_in begins.now groups.new.items ≡ due_in begins.now groups.old.items - lists_a_step }
-    ensures part { IsPartReclaimed begins.now (entries chains.old) (entries chains.new) }
-    ensures all { due_in begins.now groups.new.items ≡ 0 → IsAllReclaimed begins.now (entries chains.old) (entries chains.new) }
-    ensures kept { (last : ℕ) → IsKept (entries chains.old) last → IsKept (entries chains.new) last }
-    ensures listed { IsListed (entries chains.new) groups.new.items }
+    ensures step { ReclaimsStep begins.now (entries chains.old) (entries chains.new) groups.old.items groups.new.items }
+    ensures groups { AreLookedAt begins.now (entries chains.new) groups.old.items groups.new.items }
     ensures few { length groups.new.items ≤ length begins.now + 1 }
-    ensures lists { lists_in groups.new.items ≤ lists_in groups.old.items }
-    ensures truly { AllByRecursion (IsTrulyMixed begins.now) groups.new.items }
-    ensures held { AreAmong (0 ∷ begins.now) (witnesses groups.new.items) }
-    ensures each { MoveUnderWitnesses begins.now groups.old.items groups.new.items }
-    ensures mixed { AreMixedSettled begins.now (entries chains.new) groups.new.items }
 {
     reclaim_groups(chains, groups, begins);
     join_groups(groups);

@@ -1,7 +1,9 @@
 //! Several versions of one key.
-ghost use Rattle.std.specs.Prelude.{◌≡◌, ◌==◌, ◌+◌, ◌<◌, ◌≤◌, length, IfSome, IsOk, OnOk, Some, option_copied};
+ghost use Rattle.std.specs.Prelude.{◌≡◌, ◌==◌, ◌+◌, ◌<◌, ◌≤◌, ℕ, true, length, IfSome, IsOk, OnOk, Some};
+ghost use Rattle.std.specs.Prelude.{option_copied};
 ghost use Rattle.model.specs.Key.{IsValue};
-ghost use Rattle.versions.specs.Chains.{seen, shows, first_shown, least_value, longer_chain, thinned, is_between};
+ghost use Rattle.versions.specs.Chains.{hides, seen, shows, first_shown, least_value, longer_chain, thinned};
+ghost use Rattle.versions.specs.Chains.{is_between};
 ghost use Rattle.versions.specs.Listings.{has_version};
 
 use crate::value::KeptValue;
@@ -82,6 +84,31 @@ impl Several {
             }
         }
         None
+    }
+
+    // The least number, `low` or above, from which on none below `high` sees a value. The walk starts at the newest, and ends at the
+    // first value that such a number sees.
+    pub(crate) fn hidden_from(&self, low: u64, high: u64) -> u64
+        ensures above { low ≤ result }
+        ensures hidden { (n : ℕ) → result ≤ n → n < high → hides n self.now ≡ true }
+        ensures least { (m : ℕ) → low ≤ m → ((n : ℕ) → m ≤ n → n < high → hides n self.now ≡ true) → result ≤ m }
+    {
+        let mut until = high;
+        if self.newest.number < until {
+            if self.newest.value.is_some() {
+                return low.max(until);
+            }
+            until = self.newest.number;
+        }
+        for version in self.older.iter().rev() {
+            if version.number < until {
+                if version.value.is_some() {
+                    return low.max(until);
+                }
+                until = version.number;
+            }
+        }
+        low
     }
 
     // Makes room for a version.

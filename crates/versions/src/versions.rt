@@ -1,19 +1,23 @@
 //! The versions of all keys.
-ghost use Rattle.std.specs.Prelude.{◌≡◌, ◌≢◌, ℕ, T, true, false, nat_lt, ◌^◌, ◌+◌, ◌≤◌, ◌<◌, List, [], ◌∷◌, ◌++◌, length, IsOk, IfOk, IfSome, OnOk, option_copied};
+ghost use Rattle.std.specs.Prelude.{◌≡◌, ◌≢◌, T, true, false, nat_lt, ◌^◌, ◌+◌, ◌≤◌, ◌<◌, List, [], ◌∷◌, ◌++◌};
+ghost use Rattle.std.specs.Prelude.{length, IsOk, IfOk, IfSome, OnOk, option_copied};
 ghost use Rattle.model.specs.Key.{IsValue};
 ghost use Rattle.std.specs.Ordering.{nat_cmp};
 ghost use Rattle.std.specs.Cmp.Lexicographic.{slice_cmp};
 ghost use Rattle.std.specs.FinMap.Entries.{is_sorted};
 ghost use Rattle.model.specs.KeyBytes.{end_bytes};
-ghost use Rattle.model.specs.Map.{Bytes, value_at, pairs_in_range};
-ghost use Rattle.versions.specs.Chains.{IsPrepared, HasPlaceAt, HasRoom, IsRoomier, WhereRoom, find_chain};
-ghost use Rattle.versions.specs.Meaning.{map_seen, newest_of, kept_of, due_of, groups_of, IsSameMeaning, IsInstalled, IsReclaimed};
+ghost use Rattle.model.specs.Map.{value_at, pairs_in_range};
+ghost use Rattle.versions.specs.Chains.{IsPrepared, HasPlaceAt, HasRoom, WhereRoom, find_chain};
+ghost use Rattle.versions.specs.Meaning.{map_seen, newest_of, kept_of, due_of, groups_of, IsSameMeaning, IsInstalled};
+ghost use Rattle.versions.specs.Meaning.{IsReclaimed};
 ghost use Rattle.versions.specs.Meaning.{IsReclaimedInPart};
-ghost use Rattle.sorted_pages.specs.Pages.{places_in, room_at};
+ghost use Rattle.sorted_pages.specs.Pages.{places_in};
 ghost use Rattle.std.specs.List.{AllByRecursion};
 ghost use Rattle.versions.specs.Listings.{IsTrulyMixed};
+ghost use Rattle.versions.specs.Installing.{HasMoreRoom};
 ghost use Rattle.versions.specs.Lent.{range_pairs};
-ghost use Rattle.versions.specs.StandsFor.{StandForSame, StandWithCommit, StandWhereAmong, StandsFor, UnmixedWhereHeld};
+ghost use Rattle.versions.specs.StandsFor.{StandForSame, StandWithCommit, StandWhereAmong, StandsFor};
+ghost use Rattle.versions.specs.StandsFor.{UnmixedWhereHeld};
 
 use crate::chain::Chain;
 use crate::installing::{add_all, make_room};
@@ -53,9 +57,18 @@ impl Model for Versions {
 
     ghost Value = { ChainsValue };
 
-    ghost view = { λ v. record { chains = entries v.chains; pages = v.chains; listed_spare = spare_in v.listed; groups_spare = vec_capacity v.groups - vec_len v.groups; groups = v.groups.items; last = v.last } };
+    ghost view = { λ v. record {
+      chains = entries v.chains;
+      pages = v.chains;
+      listed_spare = spare_in v.listed;
+      groups_spare = vec_capacity v.groups - vec_len v.groups;
+      groups = v.groups.items;
+      last = v.last;
+    } };
 
-    ghost invariant = { λ v. IsKept (entries v.chains) v.last × IsListed (entries v.chains) v.groups.items × (versions_in v.listed ≡ []) × HasFewLists v.groups.items v.listed v.last };
+    ghost invariant = { λ v.
+        IsKept (entries v.chains) v.last × IsListed (entries v.chains) v.groups.items × (versions_in v.listed ≡ [])
+        × HasFewLists v.groups.items v.listed v.last };
 }
 
 impl Versions {
@@ -142,12 +155,7 @@ impl Versions {
 
     // Makes room for a version in the key's chain, or for `n` new chains where it would stand.
     fn make_room(&mut self, key: KeyRef<'_>, n: usize) -> Result<(), AllocError>
-        ensures chains { IsRoomier self.old.chains self.new.chains }
-        ensures rooms { (q : Bytes) → room_at q self.old.pages ≤ room_at q self.new.pages }
-        ensures listed_spare { self.new.listed_spare ≡ self.old.listed_spare }
-        ensures groups_spare { self.new.groups_spare ≡ self.old.groups_spare }
-        ensures groups { self.new.groups ≡ self.old.groups }
-        ensures last { self.new.last ≡ self.old.last }
+        ensures roomier { HasMoreRoom self.old self.new }
         ensures room { OnOk result (HasRoom (find_chain key.entry.bytes.now self.new.chains)) }
         ensures place { OnOk result (HasPlaceAt n key.entry.bytes.now self.new.pages self.new.chains) }
         ensures known { WhereRoom n key.entry.bytes.now self.old.pages self.old.chains (IsOk result) }
@@ -157,8 +165,8 @@ impl Versions {
     }
 
     /// Makes the room in which these writes can be installed: in the pages of new keys, where a full page is split, once in the chain
-    /// of each other key, and for a list of the keys. What the versions mean stays, also where memory is refused, which is answered by `Memory`.
-    /// Where the room is there already, it takes none and succeeds.
+    /// of each other key, and for a list of the keys. What the versions mean stays, also where memory is refused, which is answered by
+    /// `Memory`. Where the room is there already, it takes none and succeeds.
     pub fn prepare(&mut self, writes: &[Write]) -> Result<(), Memory>
         ensures prepared { OnOk result (IsPrepared self.new writes.now) }
         ensures known { IsPrepared self.old writes.now → IsOk result }

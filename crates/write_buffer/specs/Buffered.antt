@@ -1,7 +1,11 @@
 -- What a buffer of writes has at a key, and when one more is refused.
+use Rattle.std.specs.Cmp.Lexicographic.{slice_cmp}
+use Rattle.std.specs.FinMap.Entries.{find, put, is_sorted}
+use Rattle.std.specs.List.{AllByRecursion}
+use Rattle.std.specs.Ordering.{nat_cmp}
 use Rattle.std.specs.Prelude.{List, Bool, ◌≤◌, length, nat_lt, Option, Some, None, not, ◌&&◌, is_some, ⊤, T}
-use Rattle.std.specs.{List.AllByRecursion, Ordering.nat_cmp, Cmp.Lexicographic.slice_cmp, FinMap.Entries.find, FinMap.Entries.put, FinMap.Entries.is_sorted}
-use Rattle.model.specs.{Bounds.value_max, Map.Bytes, Map.KeyWrite}
+use Rattle.model.specs.Bounds.{value_max}
+use Rattle.model.specs.Map.{Bytes, KeyWrite}
 
 -- the last write of the key
 abbrev pub written : List KeyWrite → Bytes → Option (Option Bytes)

@@ -1,5 +1,6 @@
 //! The last writes of one transaction.
-ghost use Rattle.std.specs.Prelude.{◌≡◌, ◌≤◌, ◌↔◌, [], length, IsTrue, IsOk, IfOk, IfErr, OnOk, OnErr, Err, Some, None, is_some, option_map, false};
+ghost use Rattle.std.specs.Prelude.{◌≡◌, ◌≤◌, ◌↔◌, [], length, IsTrue, IsOk, IfOk, IfErr, OnOk, OnErr, Err, Some};
+ghost use Rattle.std.specs.Prelude.{None, is_some, option_map, false};
 ghost use Rattle.model.specs.Entries.{IsAt, IsGap};
 ghost use Rattle.write_buffer.specs.Buffered.{AreEntries, written, with_write, is_full_for, IsShortValue};
 ghost use Rattle.write_buffer.specs.Written.{written_lent, IsShortWritten};
@@ -63,8 +64,8 @@ impl WriteBuffer {
         }
     }
 
-    /// Writes a value of at most `VALUE_MAX` bytes to the key. It takes a copy of the value, and for a new key a copy of the key and a place.
-    /// The buffer is as it was where it answers `FullWrites`, which it does where the key is new and 64 are written, or `Memory`.
+    /// Writes a value of at most `VALUE_MAX` bytes to the key. It takes a copy of the value, and for a new key a copy of the key and a
+    /// place. The buffer is as it was where it answers `FullWrites`, which it does where the key is new and 64 are written, or `Memory`.
     pub fn put(&mut self, key: KeyRef<'_>, value: &[u8]) -> Result<(), WritesFault>
         requires { length value.now ≤ VALUE_MAX }
         ensures ok { OnOk result (self.new ≡ with_write self.old key.entry.bytes.now (Some value.now)) }

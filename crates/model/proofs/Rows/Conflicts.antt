@@ -1,6 +1,12 @@
 -- Worked runs: which commits are refused, and the serial order of those that are not; what a range marks.
-use Rattle.model.proofs.Words.{◌≡◌, List, [], ◌∷◌, None, refl, map, codes, Overwritten, PivotSelf, Pivot, NotOpen, Done, Number, Value, Pairs, Refused, step, place, serial_order, replay, verdict}
-use Rattle.model.proofs.Rows.Words.{begin, get, set, range, commit, value, pair, ◌⇒◌, Exchange, Plays, PlaysInOrder, history_after, range_from}
+use Rattle.std.proofs.Common.{◌≡◌, List, [], ◌∷◌, None, refl, map, codes}
+use Rattle.model.proofs.Rows.Words.{begin, get, set, range, commit, value, pair, ◌⇒◌, Exchange, Plays, PlaysInOrder}
+use Rattle.model.proofs.Rows.Words.{history_after, range_from}
+use Rattle.model.specs.Machine.{step}
+use Rattle.model.specs.Operations.Response.{Done, Number, Value, Pairs, Refused}
+use Rattle.model.specs.SerialOrder.{place, serial_order, replay}
+use Rattle.model.specs.Verdict.{verdict}
+use Rattle.model.specs.declared.refusals.Refusal.TheVariants.{Overwritten, PivotSelf, Pivot, NotOpen}
 
 first_committer_wins : Plays
     (begin 1 ⇒ Done ∷ begin 2 ⇒ Done ∷ set 1 "k" "1" ⇒ Done ∷ set 2 "k" "2" ⇒ Done ∷

@@ -1,6 +1,15 @@
 -- Worked runs: limits, refusals outside a transaction, and a device that fails or is full.
-use Rattle.model.proofs.Words.{◌≡◌, ℕ, zero, suc, true, List, [], ◌∷◌, ◌++◌, None, refl, replicate, UnknownCommand, BadArguments, BadKey, BadLimit, AlreadyOpen, NotOpen, FullWrites, FullMarks, FullTransactions, FullLog, StoreFault, StoreStopped, Response, opened, step, verdict, Get, Set, Commit, Done, Pong, Number, Value, Pairs, Refused}
-use Rattle.model.proofs.Rows.Words.{Request, begin, get, set, range, range_from, commit, abort, ping, faulty, value, pair, start, run, after, ◌⇒◌, Plays}
+use Rattle.std.proofs.Common.{◌≡◌, ℕ, zero, suc, true, List, [], ◌∷◌, ◌++◌, None, refl, replicate}
+use Rattle.model.proofs.Rows.Words.{Request, begin, get, set, range, range_from, commit, abort, ping, faulty, value}
+use Rattle.model.proofs.Rows.Words.{pair, start, run, after, ◌⇒◌, Plays}
+use Rattle.model.specs.Machine.{opened, step}
+use Rattle.model.specs.Operations.{Response}
+use Rattle.model.specs.Operations.Operation.{Get, Set, Commit}
+use Rattle.model.specs.Operations.Response.{Done, Pong, Number, Value, Pairs, Refused}
+use Rattle.model.specs.Verdict.{verdict}
+use Rattle.model.specs.declared.refusals.Refusal.TheVariants.{UnknownCommand, BadArguments, BadKey, BadLimit}
+use Rattle.model.specs.declared.refusals.Refusal.TheVariants.{AlreadyOpen, NotOpen, FullWrites, FullMarks}
+use Rattle.model.specs.declared.refusals.Refusal.TheVariants.{FullTransactions, FullLog, StoreFault, StoreStopped}
 
 -- ---- the most of each
 
@@ -24,7 +33,8 @@ sixty_four_transactions : run start (each_of (λ n. begin (suc n)) 64 ++ begin 6
     ≡ replicate 64 Done ++ Refused FullTransactions ∷ Done ∷ Done ∷ []
 sixty_four_transactions = unfold step verdict in refl
 
-two_hundred_fifty_six_marks : run start (begin 1 ∷ set 1 "z" "1" ∷ (each_of get_key 256 ++ get 1 "q" ∷ (each_of get_key 1 ++ get 1 "z" ∷ range 1 "a" "b" 1 ∷ [])))
+two_hundred_fifty_six_marks : run start (begin 1 ∷ set 1 "z" "1"
+    ∷ (each_of get_key 256 ++ get 1 "q" ∷ (each_of get_key 1 ++ get 1 "z" ∷ range 1 "a" "b" 1 ∷ [])))
     ≡ Done ∷ Done ∷ (replicate 256 (Value None) ++ Refused FullMarks ∷ Value None ∷ value "1" ∷ Refused FullMarks ∷ [])
 two_hundred_fifty_six_marks = unfold step verdict in refl
 
@@ -33,14 +43,16 @@ two_hundred_fifty_six_marks = unfold step verdict in refl
 range_bounds_and_limits : Plays
     (begin 9 ⇒ Done ∷ set 9 "a" "1" ⇒ Done ∷ set 9 "b" "2" ⇒ Done ∷ commit 9 ⇒ Number 1 ∷
     begin 1 ⇒ Done ∷ range 1 "b" "b" 5 ⇒ Pairs [] ∷ range 1 "c" "a" 5 ⇒ Pairs [] ∷
-    range_from 1 "a" 5 ⇒ Pairs (pair "a" "1" ∷ pair "b" "2" ∷ []) ∷ range_from 1 "a" 1 ⇒ Pairs (pair "a" "1" ∷ []) ∷ range 1 "a" "b" 128 ⇒ Pairs (pair "a" "1" ∷ []) ∷
+    range_from 1 "a" 5 ⇒ Pairs (pair "a" "1" ∷ pair "b" "2" ∷ []) ∷ range_from 1 "a" 1 ⇒ Pairs (pair "a" "1" ∷ [])
+    ∷ range 1 "a" "b" 128 ⇒ Pairs (pair "a" "1" ∷ []) ∷
     faulty 1 BadLimit ⇒ Refused BadLimit ∷ faulty 1 BadKey ⇒ Refused BadKey ∷ [])
 range_bounds_and_limits = unfold step verdict in refl
 
 -- ---- outside a transaction
 
 refusals_outside_a_transaction : Plays
-    (faulty 1 BadKey ⇒ Refused BadKey ∷ get 1 "a" ⇒ Refused NotOpen ∷ faulty 1 BadArguments ⇒ Refused BadArguments ∷ faulty 1 UnknownCommand ⇒ Refused UnknownCommand ∷
+    (faulty 1 BadKey ⇒ Refused BadKey ∷ get 1 "a" ⇒ Refused NotOpen ∷ faulty 1 BadArguments ⇒ Refused BadArguments
+    ∷ faulty 1 UnknownCommand ⇒ Refused UnknownCommand ∷
     ping 1 ⇒ Pong ∷ abort 1 ⇒ Refused NotOpen ∷ begin 1 ⇒ Done ∷ begin 1 ⇒ Refused AlreadyOpen ∷ [])
 refusals_outside_a_transaction = unfold step verdict in refl
 

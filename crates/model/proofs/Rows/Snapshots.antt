@@ -1,6 +1,9 @@
 -- Worked runs: what a transaction reads.
-use Rattle.model.proofs.Words.{[], ◌∷◌, None, refl, Done, Number, Value, Pairs, step, verdict}
+use Rattle.std.proofs.Common.{[], ◌∷◌, None, refl}
 use Rattle.model.proofs.Rows.Words.{begin, get, set, del, range, range_from, commit, value, pair, ◌⇒◌, Plays}
+use Rattle.model.specs.Machine.{step}
+use Rattle.model.specs.Operations.Response.{Done, Number, Value, Pairs}
+use Rattle.model.specs.Verdict.{verdict}
 
 committed_write_is_seen : Plays
     (begin 1 ⇒ Done ∷ set 1 "a" "1" ⇒ Done ∷ commit 1 ⇒ Number 1 ∷ begin 2 ⇒ Done ∷ get 2 "a" ⇒ value "1" ∷ [])

@@ -1,9 +1,13 @@
 -- The words that the worked runs are written with.
-use Prim.Native.String.{String}
 use Rattle.std.proofs.Common.{◌≡◌, ℕ, false, List, [], ◌∷◌, Some, None, map, codes}
-use Rattle.model.specs.{declared.refusals.Refusal.Refusal, Operations.Response.Value, History.Record, SerialOrder.serial_order, Operations.Operation, Operations.Response}
+use Prim.Native.String.{String}
+use Rattle.model.specs.History.{Record}
 use Rattle.model.specs.Machine.{State, opened, step}
+use Rattle.model.specs.Operations.{Operation, Response}
 use Rattle.model.specs.Operations.Operation.{Begin, Get, Set, Del, Range, Commit, Abort, Ping, Faulty}
+use Rattle.model.specs.Operations.Response.{Value}
+use Rattle.model.specs.SerialOrder.{serial_order}
+use Rattle.model.specs.declared.refusals.Refusal.{Refusal}
 
 -- a request of a session
 abbrev pub Request : Type 0

@@ -1,8 +1,9 @@
-use Rattle.commit_log.proofs.Words.{common_steps, Option, Some, None, arith, length-drop}
-use Rattle.std.specs.Prelude.{IfNone}
-use Rattle.commit_log.proofs.Putting.{bounds_drop, no_sets, length-write_sets, write_sets_give}
-use Rattle.commit_log.proofs.CopyProtocol.{next_set_of}
 use Rattle.commit_log.proofs.copying.copy_sectors.Goals as goal
+use Rattle.std.proofs.Common.{Option, Some, None, arith, length-drop}
+use Rattle.std.proofs.lemmas.Grind.{common_steps}
+use Rattle.std.specs.Prelude.{IfNone}
+use Rattle.commit_log.proofs.CopyProtocol.{next_set_of}
+use Rattle.commit_log.proofs.Putting.{bounds_drop, no_sets, length-write_sets, write_sets_give}
 
 if_none : {A : Type 0} (r : Option A) (P : Type 0) → P → IfNone r P
 if_none None P p = p

@@ -1,5 +1,8 @@
-use Rattle.commit_log.proofs.Words.{◌≡◌, ◌+◌, length, IsInBounds, span, write_sets_of}
 use Rattle.commit_log.proofs.copying.copy_sectors.Given as goal
+use Rattle.std.proofs.Common.{◌≡◌, ◌+◌, length}
+use Rattle.model.specs.Map.{IsInBounds}
+use Rattle.commit_log.specs.Copying.{write_sets_of}
+use Rattle.commit_log.specs.LogImage.{span}
 
 abbrev pub invariant-loop-left : goal.invariant-loop-left
 invariant-loop-left l = record {

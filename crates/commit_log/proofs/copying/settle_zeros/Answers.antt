@@ -1,12 +1,14 @@
-use Rattle.commit_log.proofs.Words.{◌≡◌, ◌∙◌, List, ℕ, Some, slice_get, ap, sym, zero_sector}
 use Rattle.commit_log.proofs.copying.settle_zeros.Goals as goal
+use Rattle.std.proofs.Common.{◌≡◌, ◌∙◌, List, ℕ, Some, slice_get, ap, sym}
+use Rattle.commit_log.specs.Copying.{zero_sector}
 
 pub returns-then-is_same-clause-zeros : goal.returns-then-is_same-clause-zeros
 unfolding zero_sector
 returns-then-is_same-clause-zeros g c keeps crash left =
     let settles = c.in-Ok.ensures.settles keeps in
     let is : crash ≡ settles.image = settles.settled.left crash (c.read.ensures.crash keeps crash left) in
-    ap (λ (l : List (List ℕ)). slice_get l 0) is ∙ settles.settled.read 0 c.read.new.into (c.in-Ok-read.ensures.gives keeps) ∙ ap (λ (s : List ℕ). Some s) (c.is_same.ensures.yes c.if-is_same.true)
+    ap (λ (l : List (List ℕ)). slice_get l 0) is ∙ settles.settled.read 0 c.read.new.into (c.in-Ok-read.ensures.gives keeps)
+    ∙ ap (λ (s : List ℕ). Some s) (c.is_same.ensures.yes c.if-is_same.true)
 
 pub returns-then-is_same-clause-empty : goal.returns-then-is_same-clause-empty
 unfolding zero_sector

@@ -1,7 +1,13 @@
-use Rattle.commit_log.proofs.Words.{◌≡◌, ◌+◌, ◌*◌, ◌∙◌, ℕ, length, take, drop, min, refl, sym, ap, subst, arith, length-drop, KeyMap, IsInBounds, payload_size, closed_gate, body_sectors, puts}
-use Rattle.commit_log.proofs.Putting.{bounds_drop}
-use Rattle.commit_log.proofs.CopyProtocol.{next_set_of, none_copied, copied_more, in_range, next_gate_le, done_are_all, all_read, shut_read, record_within, last_gate}
 use Rattle.commit_log.proofs.copying.write_records.Goals as goal
+use Rattle.std.proofs.Common.{◌≡◌, ◌+◌, ◌*◌, ◌∙◌, ℕ, length, take, drop, min, refl, sym, ap, subst, arith}
+use Rattle.std.proofs.Common.{length-drop}
+use Rattle.model.specs.Machine.{payload_size}
+use Rattle.model.specs.Map.{KeyMap, IsInBounds}
+use Rattle.commit_log.proofs.CopyProtocol.{next_set_of, none_copied, copied_more, in_range, next_gate_le}
+use Rattle.commit_log.proofs.CopyProtocol.{done_are_all, all_read, shut_read, record_within, last_gate}
+use Rattle.commit_log.proofs.Putting.{bounds_drop}
+use Rattle.commit_log.specs.Copying.{puts}
+use Rattle.commit_log.specs.RecordFormat.{closed_gate, body_sectors}
 
 pub loop-left-init : goal.loop-left-init
 loop-left-init g c = record {
@@ -16,27 +22,64 @@ loop-left-init g c = record {
 
 pub write_open_record-requires-clause-room : goal.write_open_record-requires-clause-room
 write_open_record-requires-clause-room g c =
-    let next = next_set_of c.loop-left.pairs c.min-count.result c.next_payload_len-len.result (c.min-count.ensures ∙ ap (λ (n : ℕ). min n 64) c.loop-left.invariant.left) (omega (arith, c.loop-left.invariant.left, c.loop-left-test.true)) (c.next_payload_len-len.ensures.len ∙ ap (λ (l : KeyMap). payload_size (puts (take c.min-count.result l))) c.loop-left.invariant.ahead) in
-    omega (arith, ap length c.deref.ensures.value, c.encode_pairs-digest.ensures.sectors, next.sectors, next_gate_le g.D.Sectors _ _ _ _ _ _ _ c.loop-left.invariant.copied c.min-count.result c.next_payload_len-len.result next, c.requires.room, c.loop-left.invariant.size)
+    let next = next_set_of c.loop-left.pairs c.min-count.result c.next_payload_len-len.result (c.min-count.ensures
+    ∙ ap (λ (n : ℕ). min n 64) c.loop-left.invariant.left) (omega (arith, c.loop-left.invariant.left, c.loop-left-test.true))
+    (c.next_payload_len-len.ensures.len ∙ ap (λ (l : KeyMap). payload_size (puts (take c.min-count.result l))) c.loop-left.invariant.ahead) in
+    omega (
+      arith,
+      ap length c.deref.ensures.value,
+      c.encode_pairs-digest.ensures.sectors,
+      next.sectors,
+      next_gate_le g.D.Sectors _ _ _ _ _ _ _ c.loop-left.invariant.copied c.min-count.result c.next_payload_len-len.result next,
+      c.requires.room,
+      c.loop-left.invariant.size,
+    )
 
 pub write_open_record-requires-clause-fits : goal.write_open_record-requires-clause-fits
 write_open_record-requires-clause-fits g c =
-    let next = next_set_of c.loop-left.pairs c.min-count.result c.next_payload_len-len.result (c.min-count.ensures ∙ ap (λ (n : ℕ). min n 64) c.loop-left.invariant.left) (omega (arith, c.loop-left.invariant.left, c.loop-left-test.true)) (c.next_payload_len-len.ensures.len ∙ ap (λ (l : KeyMap). payload_size (puts (take c.min-count.result l))) c.loop-left.invariant.ahead) in
-    omega (arith, ap length c.deref.ensures.value, c.encode_pairs-digest.ensures.sectors, next.sectors, next_gate_le g.D.Sectors _ _ _ _ _ _ _ c.loop-left.invariant.copied c.min-count.result c.next_payload_len-len.result next, c.requires.room, c.requires.fits)
+    let next = next_set_of c.loop-left.pairs c.min-count.result c.next_payload_len-len.result (c.min-count.ensures
+    ∙ ap (λ (n : ℕ). min n 64) c.loop-left.invariant.left) (omega (arith, c.loop-left.invariant.left, c.loop-left-test.true))
+    (c.next_payload_len-len.ensures.len ∙ ap (λ (l : KeyMap). payload_size (puts (take c.min-count.result l))) c.loop-left.invariant.ahead) in
+    omega (
+      arith,
+      ap length c.deref.ensures.value,
+      c.encode_pairs-digest.ensures.sectors,
+      next.sectors,
+      next_gate_le g.D.Sectors _ _ _ _ _ _ _ c.loop-left.invariant.copied c.min-count.result c.next_payload_len-len.result next,
+      c.requires.room,
+      c.requires.fits,
+    )
 
 pub overflow_add-gate-in-loop-left : goal.overflow_add-gate-in-loop-left
 overflow_add-gate-in-loop-left g c =
-    let next = next_set_of c.loop-left.pairs c.min-count.result c.next_payload_len-len.result (c.min-count.ensures ∙ ap (λ (n : ℕ). min n 64) c.loop-left.invariant.left) (omega (arith, c.loop-left.invariant.left, c.loop-left-test.true)) (c.next_payload_len-len.ensures.len ∙ ap (λ (l : KeyMap). payload_size (puts (take c.min-count.result l))) c.loop-left.invariant.ahead) in
-    omega (arith, c.sectors_for.ensures, next_gate_le g.D.Sectors _ _ _ _ _ _ _ c.loop-left.invariant.copied c.min-count.result c.next_payload_len-len.result next, c.requires.room, c.requires.fits)
+    let next = next_set_of c.loop-left.pairs c.min-count.result c.next_payload_len-len.result (c.min-count.ensures
+    ∙ ap (λ (n : ℕ). min n 64) c.loop-left.invariant.left) (omega (arith, c.loop-left.invariant.left, c.loop-left-test.true))
+    (c.next_payload_len-len.ensures.len ∙ ap (λ (l : KeyMap). payload_size (puts (take c.min-count.result l))) c.loop-left.invariant.ahead) in
+    omega (
+      arith,
+      c.sectors_for.ensures,
+      next_gate_le g.D.Sectors _ _ _ _ _ _ _ c.loop-left.invariant.copied c.min-count.result c.next_payload_len-len.result next,
+      c.requires.room,
+      c.requires.fits,
+    )
 
 pub overflow_add-records : goal.overflow_add-records
 overflow_add-records g c =
-    omega (arith, (in_range g.D.Sectors _ _ _ _ _ _ _ c.loop-left.invariant.copied).0, (in_range g.D.Sectors _ _ _ _ _ _ _ c.loop-left.invariant.copied).1, c.requires.room, c.requires.fits)
+    omega (
+      arith,
+      (in_range g.D.Sectors _ _ _ _ _ _ _ c.loop-left.invariant.copied).0,
+      (in_range g.D.Sectors _ _ _ _ _ _ _ c.loop-left.invariant.copied).1,
+      c.requires.room,
+      c.requires.fits,
+    )
 
 pub loop-left-preserved : goal.loop-left-preserved
 loop-left-preserved g c =
-    let next = next_set_of c.loop-left.pairs c.min-count.result c.next_payload_len-len.result (c.min-count.ensures ∙ ap (λ (n : ℕ). min n 64) c.loop-left.invariant.left) (omega (arith, c.loop-left.invariant.left, c.loop-left-test.true)) (c.next_payload_len-len.ensures.len ∙ ap (λ (l : KeyMap). payload_size (puts (take c.min-count.result l))) c.loop-left.invariant.ahead) in
-    let size : length c.deref.result.now ≡ 512 * body_sectors (puts (take c.min-count.result c.loop-left.pairs)) = ap length c.deref.ensures.value ∙ c.encode_pairs-digest.ensures.sectors in
+    let next = next_set_of c.loop-left.pairs c.min-count.result c.next_payload_len-len.result (c.min-count.ensures
+    ∙ ap (λ (n : ℕ). min n 64) c.loop-left.invariant.left) (omega (arith, c.loop-left.invariant.left, c.loop-left-test.true))
+    (c.next_payload_len-len.ensures.len ∙ ap (λ (l : KeyMap). payload_size (puts (take c.min-count.result l))) c.loop-left.invariant.ahead) in
+    let size : length c.deref.result.now ≡ 512 * body_sectors (puts (take c.min-count.result c.loop-left.pairs)) =
+    ap length c.deref.ensures.value ∙ c.encode_pairs-digest.ensures.sectors in
     let rest = c.encode_pairs-digest.ensures.rest in
     record {
       left = omega (arith, c.loop-left.invariant.left, ap length rest, length-drop c.min-count.result c.loop-left.pairs);
@@ -45,8 +88,11 @@ loop-left-preserved g c =
       memory = omega (arith, c.loop-left.invariant.memory, c.encode_pairs-digest.ensures.capacity);
       size = c.write_open_record.ensures.size ∙ c.loop-left.invariant.size;
       failures = c.in_ok-write_open_record.ensures.ok.0 ∙ c.loop-left.invariant.failures;
-      copied = copied_more g.D.Sectors c.args.device.now c.args.map.now c.loop-left.device c.write_open_record.new.device c.loop-left.pairs c.encode_pairs-digest.new.pairs c.loop-left.gate _ c.loop-left.records c.min-count.result c.next_payload_len-len.result c.loop-left.digest c.deref.result.now c.encode_pairs-digest.result
-          c.loop-left.invariant.copied next (ap (λ (n : ℕ). c.loop-left.gate + (1 + n)) c.sectors_for.ensures) rest (c.deref.ensures.value ∙ c.encode_pairs-digest.ensures.body) size c.encode_pairs-digest.ensures.digest
+      copied = copied_more g.D.Sectors c.args.device.now c.args.map.now c.loop-left.device c.write_open_record.new.device c.loop-left.pairs
+          c.encode_pairs-digest.new.pairs c.loop-left.gate _ c.loop-left.records c.min-count.result c.next_payload_len-len.result c.loop-left.digest
+          c.deref.result.now c.encode_pairs-digest.result
+          c.loop-left.invariant.copied next (ap (λ (n : ℕ). c.loop-left.gate + (1 + n)) c.sectors_for.ensures) rest (c.deref.ensures.value
+          ∙ c.encode_pairs-digest.ensures.body) size c.encode_pairs-digest.ensures.digest
           (λ keeps. c.in_ok-write_open_record.ensures.written keeps)
           (λ keeps. c.write_open_record.ensures.alone keeps);
     }
@@ -56,26 +102,35 @@ write-requires g c = omega (arith, (in_range g.D.Sectors _ _ _ _ _ _ _ c.loop-le
 
 pub returns-clause-number : goal.returns-clause-number
 returns-clause-number g c =
-    c.loop-left.invariant.copied.records_are ∙ ap length (done_are_all g.D.Sectors _ _ _ _ _ _ _ c.loop-left.invariant.copied (omega (arith, c.loop-left.invariant.left, c.loop-left-test.false)))
+    c.loop-left.invariant.copied.records_are
+    ∙ ap length (done_are_all g.D.Sectors _ _ _ _ _ _ _ c.loop-left.invariant.copied (omega (arith, c.loop-left.invariant.left, c.loop-left-test.false)))
 
 pub returns-clause-records : goal.returns-clause-records
 returns-clause-records g c keeps =
-    all_read g.D.Sectors _ _ _ _ _ _ _ c.loop-left.invariant.copied (omega (arith, c.loop-left.invariant.left, c.loop-left-test.false)) c.write.new.self keeps (c.write.ensures.others keeps)
+    all_read g.D.Sectors _ _ _ _ _ _ _ c.loop-left.invariant.copied (omega (arith, c.loop-left.invariant.left, c.loop-left-test.false)) c.write.new.self keeps
+    (c.write.ensures.others keeps)
 
 pub returns-clause-behind : goal.returns-clause-behind
 returns-clause-behind g c keeps =
-    shut_read g.D.Sectors _ _ _ _ _ _ _ c.loop-left.invariant.copied (omega (arith, c.loop-left.invariant.left, c.loop-left-test.false)) c.write.new.self closed_gate (λ s read. c.in_ok-write.ensures.written keeps s read ∙ c.closed_gate.ensures)
+    shut_read g.D.Sectors _ _ _ _ _ _ _ c.loop-left.invariant.copied (omega (arith, c.loop-left.invariant.left, c.loop-left-test.false)) c.write.new.self
+    closed_gate (λ s read. c.in_ok-write.ensures.written keeps s read ∙ c.closed_gate.ensures)
 
 pub returns-in_err-write_open_record-clause-alone : goal.returns-in_err-write_open_record-clause-alone
 returns-in_err-write_open_record-clause-alone g c keeps =
-    let next = next_set_of c.loop-left.pairs c.min-count.result c.next_payload_len-len.result (c.min-count.ensures ∙ ap (λ (n : ℕ). min n 64) c.loop-left.invariant.left) (omega (arith, c.loop-left.invariant.left, c.loop-left-test.true)) (c.next_payload_len-len.ensures.len ∙ ap (λ (l : KeyMap). payload_size (puts (take c.min-count.result l))) c.loop-left.invariant.ahead) in
-    let size : length c.deref.result.now ≡ 512 * body_sectors (puts (take c.min-count.result c.loop-left.pairs)) = ap length c.deref.ensures.value ∙ c.encode_pairs-digest.ensures.sectors in
-    record_within g.D.Sectors _ _ _ _ _ _ _ c.loop-left.invariant.copied c.write_open_record.new.device c.min-count.result c.next_payload_len-len.result (length c.deref.result.now) next size (c.loop-left.invariant.copied.within keeps) (c.write_open_record.ensures.alone keeps)
+    let next = next_set_of c.loop-left.pairs c.min-count.result c.next_payload_len-len.result (c.min-count.ensures
+    ∙ ap (λ (n : ℕ). min n 64) c.loop-left.invariant.left) (omega (arith, c.loop-left.invariant.left, c.loop-left-test.true))
+    (c.next_payload_len-len.ensures.len ∙ ap (λ (l : KeyMap). payload_size (puts (take c.min-count.result l))) c.loop-left.invariant.ahead) in
+    let size : length c.deref.result.now ≡ 512 * body_sectors (puts (take c.min-count.result c.loop-left.pairs)) =
+    ap length c.deref.ensures.value ∙ c.encode_pairs-digest.ensures.sectors in
+    record_within g.D.Sectors _ _ _ _ _ _ _ c.loop-left.invariant.copied c.write_open_record.new.device c.min-count.result c.next_payload_len-len.result
+    (length c.deref.result.now) next size (c.loop-left.invariant.copied.within keeps) (c.write_open_record.ensures.alone keeps)
 
 pub returns-in_err-write-clause-alone : goal.returns-in_err-write-clause-alone
 returns-in_err-write-clause-alone g c keeps =
-    last_gate g.D.Sectors _ _ _ _ _ _ _ c.loop-left.invariant.copied c.write.new.self keeps (c.write.ensures.others keeps) (c.write.ensures.crash keeps) (c.write.ensures.time keeps)
+    last_gate g.D.Sectors _ _ _ _ _ _ _ c.loop-left.invariant.copied c.write.new.self keeps (c.write.ensures.others keeps) (c.write.ensures.crash keeps)
+    (c.write.ensures.time keeps)
 
 pub returns-clause-alone : goal.returns-clause-alone
 returns-clause-alone g c keeps =
-    last_gate g.D.Sectors _ _ _ _ _ _ _ c.loop-left.invariant.copied c.write.new.self keeps (c.write.ensures.others keeps) (c.write.ensures.crash keeps) (c.write.ensures.time keeps)
+    last_gate g.D.Sectors _ _ _ _ _ _ _ c.loop-left.invariant.copied c.write.new.self keeps (c.write.ensures.others keeps) (c.write.ensures.crash keeps)
+    (c.write.ensures.time keeps)

@@ -1,6 +1,8 @@
-use Rattle.commit_log.proofs.Words.{◌≡◌, ◌≤◌, ◌*◌, length, vec_capacity, value_max, body_bound, IsInBounds}
-use Rattle.commit_log.proofs.CopyProtocol.{Copied}
 use Rattle.commit_log.proofs.copying.write_records.Given as goal
+use Rattle.std.proofs.Common.{◌≡◌, ◌≤◌, ◌*◌, length, vec_capacity}
+use Rattle.model.specs.Bounds.{value_max, body_bound}
+use Rattle.model.specs.Map.{IsInBounds}
+use Rattle.commit_log.proofs.CopyProtocol.{Copied}
 
 abbrev pub invariant-loop-left : goal.invariant-loop-left
 invariant-loop-left g l = record {

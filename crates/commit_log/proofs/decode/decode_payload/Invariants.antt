@@ -1,5 +1,8 @@
-use Rattle.commit_log.proofs.Words.{◌≡◌, ◌++◌, All, length, flat_map, big_bytes, IsWithinLimits, IsRising, entry_bytes}
 use Rattle.commit_log.proofs.decode.decode_payload.Given as goal
+use Rattle.std.proofs.Common.{◌≡◌, ◌++◌, All, length}
+use Rattle.std.specs.List.{flat_map}
+use Rattle.byteorder.specs.Endian.{big_bytes}
+use Rattle.commit_log.specs.RecordFormat.{IsWithinLimits, IsRising, entry_bytes}
 
 abbrev pub invariant-loop-i : goal.invariant-loop-i
 invariant-loop-i l = record {

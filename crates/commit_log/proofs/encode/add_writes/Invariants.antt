@@ -1,5 +1,8 @@
-use Rattle.commit_log.proofs.Words.{◌≡◌, ◌≤◌, ◌+◌, ◌++◌, take, vec_len, vec_capacity, flat_map, payload_size, entry_bytes}
 use Rattle.commit_log.proofs.encode.add_writes.Given as goal
+use Rattle.std.proofs.Common.{◌≡◌, ◌≤◌, ◌+◌, ◌++◌, take, vec_len, vec_capacity}
+use Rattle.std.specs.List.{flat_map}
+use Rattle.model.specs.Machine.{payload_size}
+use Rattle.commit_log.specs.RecordFormat.{entry_bytes}
 
 abbrev pub invariant-loop-write : goal.invariant-loop-write
 invariant-loop-write l = record {

@@ -1,5 +1,6 @@
-use Rattle.commit_log.proofs.Words.{arith, common_steps}
 use Rattle.commit_log.proofs.encode.encode.Goals as goal
+use Rattle.std.proofs.Common.{arith}
+use Rattle.std.proofs.lemmas.Grind.{common_steps}
 
 pub returns : goal.returns
 returns c = grind (arith, common_steps)

@@ -1,5 +1,7 @@
-use Rattle.commit_log.proofs.Words.{◌≡◌, ◌+◌, ◌*◌, ◌≤◌, take, value_max, entry_bound, payload_size}
 use Rattle.commit_log.proofs.encode.payload_len.Given as goal
+use Rattle.std.proofs.Common.{◌≡◌, ◌+◌, ◌*◌, ◌≤◌, take}
+use Rattle.model.specs.Bounds.{value_max, entry_bound}
+use Rattle.model.specs.Machine.{payload_size}
 
 abbrev pub invariant-loop-write : goal.invariant-loop-write
 invariant-loop-write l = record {

@@ -1,13 +1,23 @@
-use Rattle.commit_log.proofs.Words.{common_steps, ◌≡◌, ◌++◌, ℕ, List, Some, take, arith, append_assoc, length-append, flat_map, Bytes, entry_bytes, puts}
-use Rattle.commit_log.proofs.{Encoding.entry_size, Putting.next_pair, Putting.not_none, Putting.size_le}
 use Rattle.commit_log.proofs.pairs.add_pairs.Goals as goal
+use Rattle.std.proofs.Common.{◌≡◌, ◌++◌, ℕ, List, Some, take, arith, append_assoc, length-append}
+use Rattle.std.proofs.lemmas.Grind.{common_steps}
+use Rattle.std.specs.List.{flat_map}
+use Rattle.model.specs.Map.{Bytes}
+use Rattle.commit_log.proofs.Encoding.{entry_size}
+use Rattle.commit_log.proofs.Putting.{next_pair, not_none, size_le}
+use Rattle.commit_log.specs.Copying.{puts}
+use Rattle.commit_log.specs.RecordFormat.{entry_bytes}
 
 pub unreachable-requires : goal.unreachable-requires
-unreachable-requires c = not_none c.args.pairs.now c.loop-i.pairs c.loop-i.i c.args.count c.loop-i.invariant.rest c.in_default.ensures.steps.0 c.loop-i-test.true c.requires.there
+unreachable-requires c =
+    not_none c.args.pairs.now c.loop-i.pairs c.loop-i.i c.args.count c.loop-i.invariant.rest c.in_default.ensures.steps.0 c.loop-i-test.true c.requires.there
 
 pub add_entry-requires : goal.add_entry-requires
 add_entry-requires c =
-    let p = next_pair c.args.pairs.now c.loop-i.i c.loop-i.pairs c.next.new.self (c.in-Some.key.bytes.now, c.in-Some.value.now) c.loop-i.invariant.rest c.in-Some.ensures.steps c.requires.in_bounds in
+    let p = next_pair c.args.pairs.now c.loop-i.i c.loop-i.pairs c.next.new.self (
+      c.in-Some.key.bytes.now,
+      c.in-Some.value.now,
+    ) c.loop-i.invariant.rest c.in-Some.ensures.steps c.requires.in_bounds in
     grind (arith, common_steps, size_le)
 
 pub loop-i-preserved : goal.loop-i-preserved

@@ -1,5 +1,9 @@
-use Rattle.commit_log.proofs.Words.{◌≡◌, ◌≤◌, ◌+◌, ◌++◌, take, drop, vec_len, vec_capacity, flat_map, payload_size, entry_bytes, puts}
 use Rattle.commit_log.proofs.pairs.add_pairs.Given as goal
+use Rattle.std.proofs.Common.{◌≡◌, ◌≤◌, ◌+◌, ◌++◌, take, drop, vec_len, vec_capacity}
+use Rattle.std.specs.List.{flat_map}
+use Rattle.model.specs.Machine.{payload_size}
+use Rattle.commit_log.specs.Copying.{puts}
+use Rattle.commit_log.specs.RecordFormat.{entry_bytes}
 
 abbrev pub invariant-loop-i : goal.invariant-loop-i
 invariant-loop-i l = record {

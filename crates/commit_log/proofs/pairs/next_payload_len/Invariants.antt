@@ -1,5 +1,8 @@
-use Rattle.commit_log.proofs.Words.{◌≡◌, ◌≤◌, ◌+◌, ◌*◌, take, drop, value_max, entry_bound, payload_size, puts}
 use Rattle.commit_log.proofs.pairs.next_payload_len.Given as goal
+use Rattle.std.proofs.Common.{◌≡◌, ◌≤◌, ◌+◌, ◌*◌, take, drop}
+use Rattle.model.specs.Bounds.{value_max, entry_bound}
+use Rattle.model.specs.Machine.{payload_size}
+use Rattle.commit_log.specs.Copying.{puts}
 
 abbrev pub invariant-loop-i : goal.invariant-loop-i
 invariant-loop-i l = record {

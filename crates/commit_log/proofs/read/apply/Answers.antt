@@ -1,7 +1,13 @@
-use Rattle.commit_log.proofs.Words.{arith, common_steps, ◌≡◌, ◌∷◌, List, All-rest, KeyMap, KeyWrite, after_write, after_writes, IsWithinLimits, current}
 use Rattle.commit_log.proofs.read.apply.Goals as goal
+use Rattle.std.proofs.Common.{arith, ◌≡◌, ◌∷◌, List}
+use Rattle.std.proofs.lemmas.Grind.{common_steps}
+use Rattle.std.proofs.lemmas.List.Elements.{All-rest}
+use Rattle.model.specs.Map.{KeyMap, KeyWrite, after_write, after_writes}
+use Rattle.commit_log.specs.Format.{current}
+use Rattle.commit_log.specs.RecordFormat.{IsWithinLimits}
 
-applied : (m after all : KeyMap) (writes rest : List KeyWrite) (w : KeyWrite) → writes ≡ w ∷ rest → after_writes m writes ≡ all → after ≡ after_write m w.0 w.1 → after_writes after rest ≡ all
+applied : (m after all : KeyMap) (writes rest : List KeyWrite) (w : KeyWrite) → writes ≡ w ∷ rest → after_writes m writes ≡ all → after ≡ after_write m w.0 w.1
+    → after_writes after rest ≡ all
 applied m after all writes rest w is so_far next = grind (arith, common_steps)
 
 pub loop-write-preserved : goal.loop-write-preserved

@@ -1,5 +1,8 @@
-use Rattle.commit_log.proofs.Words.{◌≡◌, All, after_writes, IsWithinLimits, current}
 use Rattle.commit_log.proofs.read.apply.Given as goal
+use Rattle.std.proofs.Common.{◌≡◌, All}
+use Rattle.model.specs.Map.{after_writes}
+use Rattle.commit_log.specs.Format.{current}
+use Rattle.commit_log.specs.RecordFormat.{IsWithinLimits}
 
 abbrev pub invariant-loop-write : goal.invariant-loop-write
 invariant-loop-write l = record {

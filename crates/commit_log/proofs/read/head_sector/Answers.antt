@@ -1,5 +1,6 @@
-use Rattle.commit_log.proofs.Words.{◌∷◌, [], ◌++◌, ℕ, replicate, ap, head_sector}
 use Rattle.commit_log.proofs.read.head_sector.Goals as goal
+use Rattle.std.proofs.Common.{◌∷◌, [], ◌++◌, ℕ, replicate, ap}
+use Rattle.commit_log.specs.Format.{head_sector}
 
 pub returns : goal.returns
 unfolding head_sector

@@ -1,8 +1,11 @@
-use Rattle.commit_log.proofs.Words.{common_steps, ◌∙◌, refl, arith, of_none, ReadsAs}
+use Rattle.commit_log.proofs.read.read_records.Goals as goal
+use Rattle.std.proofs.Common.{◌∙◌, refl, arith}
+use Rattle.std.proofs.lemmas.Grind.{common_steps}
 use Rattle.std.proofs.lemmas.Result.{err_from_is_err_and}
+use Rattle.sector.proofs.Crashes.{of_none}
 use Rattle.commit_log.proofs.Calls.{reads_joined}
 use Rattle.commit_log.proofs.Recovering.{read_fault, nothing_read, ended, damaged, more}
-use Rattle.commit_log.proofs.read.read_records.Goals as goal
+use Rattle.commit_log.specs.Reading.{ReadsAs}
 
 pub records-init : goal.records-init
 records-init g c = record {
@@ -31,15 +34,18 @@ pub records-preserved : goal.records-preserved
 records-preserved g c = record {
   size = c.read_record.ensures.size ∙ c.read.ensures.size ∙ c.records.invariant.size;
   failures = c.in_ok-record.ensures.fault ∙ c.in-Ok.ensures.ok.0 ∙ c.records.invariant.failures;
-  only_reads = λ keeps. reads_joined g.D.Sectors _ _ c.read.new.self _ (c.records.invariant.only_reads keeps) (c.read.ensures.reads keeps) (c.read.ensures.crash keeps) (c.read.ensures.time keeps) (c.read_record.ensures.only_reads keeps);
+  only_reads = λ keeps. reads_joined g.D.Sectors _ _ c.read.new.self _ (c.records.invariant.only_reads keeps) (c.read.ensures.reads keeps)
+      (c.read.ensures.crash keeps) (c.read.ensures.time keeps) (c.read_record.ensures.only_reads keeps);
   in_range = omega (arith, rw c.in-Some.is at c.in_ok-record.ensures.sectors);
   counted = omega (arith, c.records.invariant.counted);
   found = λ keeps image size reads.
       let there = reads _ _ ((c.records.invariant.only_reads keeps).reads _ _ (c.in-Ok.ensures.gives keeps)) in
-      let mid : ReadsAs (g.D.Sectors.may_read c.read.new.self) image = λ i s read. reads i s ((c.records.invariant.only_reads keeps).reads i s (c.read.ensures.reads keeps i s read)) in
+      let mid : ReadsAs (g.D.Sectors.may_read c.read.new.self) image =
+      λ i s read. reads i s ((c.records.invariant.only_reads keeps).reads i s (c.read.ensures.reads keeps i s read)) in
       let read = c.records.invariant.found keeps image size reads in
       more c.args.format image _ _ _ _ _ read there c.if-sector-ne1.false c.in-Some.record.writes.items c.in-Some.record.sectors c.in-Some.record.digest.bytes _
-      (rw c.in-Some.is at (c.in_ok-record.ensures.some keeps image size mid)) (rw c.in-Some.is at (c.in_ok-record.ensures.counted keeps image size mid)) (rw c.in-Some.is at c.in_ok-record.ensures.digest) c.in_ok-latest-in-Some.ensures;
+      (rw c.in-Some.is at (c.in_ok-record.ensures.some keeps image size mid)) (rw c.in-Some.is at (c.in_ok-record.ensures.counted keeps image size mid))
+      (rw c.in-Some.is at c.in_ok-record.ensures.digest) c.in_ok-latest-in-Some.ensures;
 }
 
 pub returns-in-None-clause-found : goal.returns-in-None-clause-found

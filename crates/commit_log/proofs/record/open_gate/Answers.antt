@@ -1,5 +1,6 @@
-use Rattle.commit_log.proofs.Words.{refl, open_gate}
 use Rattle.commit_log.proofs.record.open_gate.Goals as goal
+use Rattle.std.proofs.Common.{refl}
+use Rattle.commit_log.specs.RecordFormat.{open_gate}
 
 pub returns : goal.returns
 unfolding open_gate

@@ -1,5 +1,7 @@
-use Rattle.engine.proofs.Words.{◌≡◌, ◌≤◌, ◌++◌, map, take, length, values, IsLeast}
 use Rattle.engine.proofs.reclaiming.gather_begins.Given as goal
+use Rattle.std.proofs.Common.{◌≡◌, ◌≤◌, ◌++◌, map, take, length}
+use Rattle.std.specs.BTreeMap.{values}
+use Rattle.engine.specs.Least.{IsLeast}
 
 -- the least so far, and the numbers so far, which are those of the transactions so far where these are few
 abbrev pub invariant-loop-transaction : goal.invariant-loop-transaction

@@ -1,6 +1,7 @@
-use Rattle.last_readers.proofs.Words.{length, ◌/◌, ◌∙◌, later}
-use Rattle.last_readers.proofs.MarkSteps.{both_covered}
 use Rattle.last_readers.proofs.gathering.+steps_of.Goals as goal
+use Rattle.std.proofs.Common.{length, ◌/◌, ◌∙◌}
+use Rattle.last_readers.proofs.MarkSteps.{both_covered}
+use Rattle.last_readers.specs.Merging.{later}
 
 pub returns-clause-covers : goal.returns-clause-covers
 returns-clause-covers t c = λ k.

@@ -1,5 +1,9 @@
-use Rattle.last_readers.proofs.Words.{◌≡◌, ◌+◌, ◌≤◌, ◌++◌, true, deque_len, deque_capacity, Bytes, cut, number_at, merged_at, steps_rise, later}
 use Rattle.last_readers.proofs.merging.merge.Given as goal
+use Rattle.std.proofs.Common.{◌≡◌, ◌+◌, ◌≤◌, ◌++◌, true}
+use Rattle.std.specs.VecDeque.{deque_len, deque_capacity}
+use Rattle.model.specs.Map.{Bytes}
+use Rattle.last_readers.specs.Merging.{later}
+use Rattle.last_readers.specs.Steps.{cut, number_at, merged_at, steps_rise}
 
 abbrev pub invariant-steps : goal.invariant-steps
 invariant-steps l = record {

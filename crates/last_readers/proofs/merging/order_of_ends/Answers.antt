@@ -1,6 +1,10 @@
-use Rattle.last_readers.proofs.Words.{refl, sym, ◌∙◌, deque_len, key_cmp, turned_greater}
-use Rattle.last_readers.proofs.{StepLaws.back_is, MergeLaws.ends_over, MergeLaws.ends_equal}
 use Rattle.last_readers.proofs.merging.order_of_ends.Goals as goal
+use Rattle.std.proofs.Common.{refl, sym, ◌∙◌}
+use Rattle.std.specs.VecDeque.{deque_len}
+use Rattle.model.proofs.KeyOrder.{turned_greater}
+use Rattle.model.specs.Map.{key_cmp}
+use Rattle.last_readers.proofs.MergeLaws.{ends_over, ends_equal}
+use Rattle.last_readers.proofs.StepLaws.{back_is}
 
 pub returns : goal.returns
 returns c =

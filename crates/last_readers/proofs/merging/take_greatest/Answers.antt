@@ -1,5 +1,5 @@
-use Rattle.last_readers.proofs.MergeLaws.{joined_swapped}
 use Rattle.last_readers.proofs.merging.take_greatest.Goals as goal
+use Rattle.last_readers.proofs.MergeLaws.{joined_swapped}
 
 pub returns-in-Less-clause-joined : goal.returns-in-Less-clause-joined
 returns-in-Less-clause-joined c =

@@ -1,5 +1,6 @@
-use Rattle.last_readers.proofs.Words.{◌≡◌, ◌++◌, take, drop, map, renumbered}
 use Rattle.last_readers.proofs.run.renumber.Given as goal
+use Rattle.std.proofs.Common.{◌≡◌, ◌++◌, take, drop, map}
+use Rattle.last_readers.specs.Steps.{renumbered}
 
 -- those up to the place have the number
 abbrev pub invariant-loop-i : goal.invariant-loop-i

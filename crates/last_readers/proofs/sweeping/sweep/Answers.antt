@@ -1,7 +1,8 @@
-use Rattle.last_readers.proofs.Words.{length, drop, ap, arith, rules, ◌∙◌, ◌+◌, ◌<◌, deque_len}
-use Rattle.std.proofs.lemmas.List.{length-append, length-drop}
-use Rattle.last_readers.proofs.Sweeps.{so_far_all, so_far_more, so_far_none}
 use Rattle.last_readers.proofs.sweeping.sweep.Goals as goal
+use Rattle.std.proofs.Common.{length, drop, ap, arith, rules, ◌∙◌, ◌+◌, ◌<◌}
+use Rattle.std.proofs.lemmas.List.{length-append, length-drop}
+use Rattle.std.specs.VecDeque.{deque_len}
+use Rattle.last_readers.proofs.Sweeps.{so_far_all, so_far_more, so_far_none}
 
 pub loop-turn-init : goal.loop-turn-init
 loop-turn-init c = record { far = so_far_none c.args.oldest c.args.told c.args.steps.now.items; len = omega arith; capacity = search rules }
@@ -11,7 +12,17 @@ turn-told-requires c =
     let far = c.loop-turn.invariant.far in
     let xs = c.args.steps.now.items in
     let i = c.loop-turn._turn in
-    let some : 0 < deque_len c.loop-turn.steps = omega (arith, ap length far.items, length-append (drop i xs) far.kept, length-drop i xs, c.loop-turn.steps.ok.0, c.args.steps.now.ok.0, c.loop-turn-test.true, c.len-turn-end.ensures) in
+    let some : 0 < deque_len c.loop-turn.steps =
+    omega (
+      arith,
+      ap length far.items,
+      length-append (drop i xs) far.kept,
+      length-drop i xs,
+      c.loop-turn.steps.ok.0,
+      c.args.steps.now.ok.0,
+      c.loop-turn-test.true,
+      c.len-turn-end.ensures,
+    ) in
     record { some = some }
 
 pub loop-turn-preserved : goal.loop-turn-preserved
@@ -20,7 +31,8 @@ loop-turn-preserved c =
     let is = c.loop-turn.invariant in
     let lt : i < length c.args.steps.now.items = omega (arith, c.args.steps.now.ok.0, c.loop-turn-test.true, c.len-turn-end.ensures) in
     record {
-      far = so_far_more c.args.oldest c.args.told c.loop-turn.told c.turn-told.result c.args.steps.now.items c.loop-turn.steps.items c.turn-told.new.steps.items i (i + 1) (omega arith) lt c.turn-told.ensures.turned is.far;
+      far = so_far_more c.args.oldest c.args.told c.loop-turn.told c.turn-told.result c.args.steps.now.items c.loop-turn.steps.items c.turn-told.new.steps.items
+          i (i + 1) (omega arith) lt c.turn-told.ensures.turned is.far;
       len = omega (arith, is.len, c.turn-told.ensures.len);
       capacity = c.turn-told.ensures.capacity ∙ is.capacity;
     }
@@ -29,7 +41,8 @@ pub returns : goal.returns
 returns c =
     let is = c.loop-turn.invariant in
     record {
-      swept = so_far_all c.args.oldest c.args.told c.loop-turn.told c.args.steps.now.items c.loop-turn.steps.items c.loop-turn._turn (omega (arith, c.args.steps.now.ok.0, c.loop-turn-test.false, c.len-turn-end.ensures)) is.far;
+      swept = so_far_all c.args.oldest c.args.told c.loop-turn.told c.args.steps.now.items c.loop-turn.steps.items c.loop-turn._turn
+          (omega (arith, c.args.steps.now.ok.0, c.loop-turn-test.false, c.len-turn-end.ensures)) is.far;
       len = is.len;
       capacity = is.capacity;
     }

@@ -1,6 +1,7 @@
-use Rattle.last_readers.proofs.Words.{◌≡◌, ◌≤◌, deque_capacity, deque_len}
-use Rattle.last_readers.proofs.Sweeps.{IsSoFar}
 use Rattle.last_readers.proofs.sweeping.sweep.Given as goal
+use Rattle.std.proofs.Common.{◌≡◌, ◌≤◌}
+use Rattle.std.specs.VecDeque.{deque_capacity, deque_len}
+use Rattle.last_readers.proofs.Sweeps.{IsSoFar}
 
 abbrev pub invariant-loop-turn : goal.invariant-loop-turn
 invariant-loop-turn l = record {

@@ -1,6 +1,7 @@
-use Rattle.latest_writes.proofs.Words.{◌≡◌, [], length, after_writes}
-use Rattle.std.specs.Prelude.{reverse}
 use Rattle.latest_writes.proofs.latest.put_all.Given as goal
+use Rattle.std.proofs.Common.{◌≡◌, [], length}
+use Rattle.std.specs.Prelude.{reverse}
+use Rattle.model.specs.Map.{after_writes}
 
 -- what is left makes of the map so far what all make
 abbrev pub invariant-loop-entry : goal.invariant-loop-entry

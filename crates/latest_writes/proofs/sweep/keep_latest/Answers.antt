@@ -1,9 +1,12 @@
-use Rattle.latest_writes.proofs.Words.{arith, common_steps, ◌∙◌, sym, ap, refl, subst, [], ◌∷◌, ◌++◌, List, KeyWrite, HasOneOfEach}
-use Rattle.std.proofs.lemmas.List.{nil_from_length}
-use Rattle.latest_writes.proofs.Sweeping.{begun, left_out, kept_more, ended}
-use Rattle.latest_writes.proofs.Holding.{under, one_more, one_for_last}
 use Rattle.latest_writes.proofs.sweep.keep_latest.Goals as goal
+use Rattle.std.proofs.Common.{arith, ◌∙◌, sym, ap, refl, subst, [], ◌∷◌, ◌++◌, List}
+use Rattle.std.proofs.lemmas.Grind.{common_steps}
+use Rattle.std.proofs.lemmas.List.{nil_from_length}
+use Rattle.model.specs.Map.{KeyWrite}
+use Rattle.latest_writes.proofs.Holding.{under, one_more, one_for_last}
+use Rattle.latest_writes.proofs.Sweeping.{begun, left_out, kept_more, ended}
 use Rattle.latest_writes.proofs.sweep.keep_latest.Goals.{then-not-is_superseded+in_ok-push, else-not-is_superseded}
+use Rattle.latest_writes.specs.Held.{HasOneOfEach}
 
 pub loop-entry-init : goal.loop-entry-init
 loop-entry-init c = rw (c.new-kept.ensures.items, c.into_iter-entry-iterator.ensures.into_iter_gives) record {
@@ -21,7 +24,8 @@ loop-entry-preserved c =
           record {
             swept = kept_more _ _ _ _ _ _ so_far (w.if-not-is_superseded.ensures.latest refl) is;
             one_of_each = subst (λ (l : List KeyWrite). HasOneOfEach (l ++ c.in-Some-entry.entry ∷ [])) (sym is)
-                (one_more _ _ _ each (under c.loop-entry.latest c.in-Some-entry.entry so_far.rising.0 (w.if-not-is_superseded.ensures.latest refl)) (w.if-not-is_superseded.ensures.value refl));
+                (one_more _ _ _ each (under c.loop-entry.latest c.in-Some-entry.entry so_far.rising.0 (w.if-not-is_superseded.ensures.latest refl))
+                (w.if-not-is_superseded.ensures.value refl));
           }
       | else-not-is_superseded w ↦ rw w.kept-is record {
         swept = left_out _ _ _ _ _ so_far (w.if-not-is_superseded.ensures.superseded refl);

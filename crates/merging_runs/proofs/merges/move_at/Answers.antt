@@ -1,7 +1,8 @@
+use Rattle.merging_runs.proofs.merges.move_at.Goals as goal
 use Rattle.std.proofs.Common.{◌<◌, ◌+◌, ◌-◌, ◌*◌, length, ap, arith, rules}
 use Rattle.merging_runs.proofs.Moves.{as_slow}
-use Rattle.merging_runs.proofs.RunSteps.{left_changed, lasts_changed, none_left, number_kept, other_agrees, passed_left, same_run}
-use Rattle.merging_runs.proofs.merges.move_at.Goals as goal
+use Rattle.merging_runs.proofs.RunSteps.{left_changed, lasts_changed, none_left, number_kept, other_agrees}
+use Rattle.merging_runs.proofs.RunSteps.{passed_left, same_run}
 
 pub returns : goal.returns
 returns g c =
@@ -29,4 +30,6 @@ returns g c =
     }
 
 pub returns-then-last-oldest-clause-ended : goal.returns-then-last-oldest-clause-ended
-returns-then-last-oldest-clause-ended g c = λ some behind. passed_left g.R.Run.sizes c.args.oldest c.args.runs.now.items c.args.place (c.args.place + 1) c.index.result.now (omega arith) c.index.ensures (omega (arith, c.last.ensures, c.if-last-oldest.true)) behind
+returns-then-last-oldest-clause-ended g c =
+    λ some behind. passed_left g.R.Run.sizes c.args.oldest c.args.runs.now.items c.args.place (c.args.place
+    + 1) c.index.result.now (omega arith) c.index.ensures (omega (arith, c.last.ensures, c.if-last-oldest.true)) behind

@@ -1,7 +1,11 @@
-use Rattle.merging_runs.proofs.Words.{◌≡◌, ◌≤◌, ◌+◌, ◌-◌, refl, ap, ◌∙◌, drop, map, arith, inl, inr, min, vec_len, left_above}
-use Rattle.std.proofs.lemmas.Bool.{cases_lt}
-use Rattle.merging_runs.proofs.{Moves.slower, Moves.slowest, RunSteps.past_left}
 use Rattle.merging_runs.proofs.merges.move_runs.Goals as goal
+use Rattle.std.proofs.Common.{◌≡◌, ◌≤◌, ◌+◌, ◌-◌, refl, ap, ◌∙◌, drop, map, arith, inl, inr}
+use Rattle.std.proofs.lemmas.Bool.{cases_lt}
+use Rattle.std.specs.Prelude.{min}
+use Rattle.std.specs.Vec.{vec_len}
+use Rattle.merging_runs.proofs.Moves.{slower, slowest}
+use Rattle.merging_runs.proofs.RunSteps.{past_left}
+use Rattle.merging_runs.specs.RunSizes.{left_above}
 
 pub loop-after-init : goal.loop-after-init
 loop-after-init g c =

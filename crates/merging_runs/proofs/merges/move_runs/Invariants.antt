@@ -1,5 +1,7 @@
-use Rattle.merging_runs.proofs.Words.{◌≡◌, ◌≤◌, ◌<◌, ◌+◌, ◌*◌, ◌-◌, drop, map, vec_len, left_above, lasts_of, wholes_of}
 use Rattle.merging_runs.proofs.merges.move_runs.Given as goal
+use Rattle.std.proofs.Common.{◌≡◌, ◌≤◌, ◌<◌, ◌+◌, ◌*◌, ◌-◌, drop, map}
+use Rattle.std.specs.Vec.{vec_len}
+use Rattle.merging_runs.specs.RunSizes.{left_above, lasts_of, wholes_of}
 
 abbrev pub invariant-loop-after : goal.invariant-loop-after
 invariant-loop-after g l = record {

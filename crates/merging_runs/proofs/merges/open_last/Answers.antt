@@ -1,6 +1,8 @@
-use Rattle.merging_runs.proofs.Words.{◌≡◌, ◌+◌, ◌-◌, sym, ◌∙◌, take, drop, map, arith, vec_len, has_alike}
-use Rattle.merging_runs.proofs.RunSteps.{none_alike, unlike_from}
 use Rattle.merging_runs.proofs.merges.open_last.Goals as goal
+use Rattle.std.proofs.Common.{◌≡◌, ◌+◌, ◌-◌, sym, ◌∙◌, take, drop, map, arith}
+use Rattle.std.specs.Vec.{vec_len}
+use Rattle.merging_runs.proofs.RunSteps.{none_alike, unlike_from}
+use Rattle.merging_runs.specs.RunSizes.{has_alike}
 
 pub loop-after-init : goal.loop-after-init
 loop-after-init g c = grind (arith, none_alike g.R.Run.sizes (g.R.Run.alike c.args.oldest) c.args.runs.now.items (vec_len c.args.runs.now - 1))

@@ -1,5 +1,7 @@
-use Rattle.merging_runs.proofs.Words.{◌≡◌, ◌≤◌, ◌-◌, false, drop, map, vec_len, has_alike}
 use Rattle.merging_runs.proofs.merges.open_last.Given as goal
+use Rattle.std.proofs.Common.{◌≡◌, ◌≤◌, ◌-◌, false, drop, map}
+use Rattle.std.specs.Vec.{vec_len}
+use Rattle.merging_runs.specs.RunSizes.{has_alike}
 
 abbrev pub invariant-loop-after : goal.invariant-loop-after
 invariant-loop-after g l = record {

@@ -1,7 +1,10 @@
-use Rattle.merging_runs.proofs.Words.{◌+◌, map, sym, ap, ◌∙◌, mixed_upto, size_upto, left_above}
-use Rattle.merging_runs.specs.Value.{held_of}
-use Rattle.merging_runs.proofs.{OldRuns.old_at, OldRuns.mixed_without, OldRuns.part_of, OldRuns.none_old, RunSteps.left_without, RunSteps.rest_agrees}
 use Rattle.merging_runs.proofs.old.take_old.Goals as goal
+use Rattle.std.proofs.Common.{◌+◌, map, sym, ap, ◌∙◌}
+use Rattle.merging_runs.proofs.OldRuns.{old_at, mixed_without, part_of, none_old}
+use Rattle.merging_runs.proofs.RunSteps.{left_without, rest_agrees}
+use Rattle.merging_runs.specs.Held.{mixed_upto, size_upto}
+use Rattle.merging_runs.specs.RunSizes.{left_above}
+use Rattle.merging_runs.specs.Value.{held_of}
 
 pub returns-in-Some : goal.returns-in-Some
 returns-in-Some g c =
@@ -27,4 +30,5 @@ returns-in-None-clause-agree g c = g.met.R.Run.same c.args.oldest c.args.runs.no
 
 pub returns-in-None-clause-none : goal.returns-in-None-clause-none
 returns-in-None-clause-none g c = λ none.
-    none_old (held_of g.R.Run.from g.R.Run.sizes g.R.Run.held) c.args.oldest c.args.runs.now.items c.deref.result.now (sym c.deref.ensures.value) (sym c.first_old.ensures ∙ c.in-None.is)
+    none_old (held_of g.R.Run.from g.R.Run.sizes g.R.Run.held) c.args.oldest c.args.runs.now.items c.deref.result.now (sym c.deref.ensures.value)
+    (sym c.first_old.ensures ∙ c.in-None.is)

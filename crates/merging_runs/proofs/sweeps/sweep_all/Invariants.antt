@@ -1,7 +1,7 @@
+use Rattle.merging_runs.proofs.sweeps.sweep_all.Given as goal
 use Rattle.std.proofs.Common.{◌≡◌, ◌≤◌, map}
 use Rattle.merging_runs.specs.RunSizes.{left_above}
 use Rattle.merging_runs.specs.Value.{size_mixed, size_old}
-use Rattle.merging_runs.proofs.sweeps.sweep_all.Given as goal
 
 abbrev pub invariant-runs : goal.invariant-runs
 invariant-runs g l = record {

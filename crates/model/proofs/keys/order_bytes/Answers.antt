@@ -1,7 +1,9 @@
-use Rattle.model.proofs.Words.{◌≡◌, ℕ, ◌+◌, ◌<◌, List, drop, sym, subst, ◌∙◌, arith, get_or-drop, nat_cmp, take_rest, key_cmp}
+use Rattle.model.proofs.keys.order_bytes.Goals as goal
+use Rattle.std.proofs.Common.{◌≡◌, ℕ, ◌+◌, ◌<◌, List, drop, sym, subst, ◌∙◌, arith, get_or-drop, nat_cmp}
+use Rattle.std.proofs.lemmas.List.{take_rest}
 use Rattle.byteorder.specs.Endian.{big_number}
 use Rattle.model.proofs.KeyNumbers.{AreBytes, apart, alike}
-use Rattle.model.proofs.keys.order_bytes.Goals as goal
+use Rattle.model.specs.Map.{key_cmp}
 
 later : (n : ℕ) (xs : List ℕ) → AreBytes xs → AreBytes (drop n xs)
 later n xs g k = subst (λ (b : ℕ). b < 256) (sym (get_or-drop n xs k 0)) (g (n + k))

@@ -1,6 +1,7 @@
-use Rattle.model.proofs.Words.{◌≡◌, length, key_cmp}
-use Rattle.model.proofs.KeyNumbers.{AreBytes}
 use Rattle.model.proofs.keys.order_bytes.Given as goal
+use Rattle.std.proofs.Common.{◌≡◌, length}
+use Rattle.model.proofs.KeyNumbers.{AreBytes}
+use Rattle.model.specs.Map.{key_cmp}
 
 -- what is left of both stands as both do
 abbrev pub invariant-loop-left : goal.invariant-loop-left

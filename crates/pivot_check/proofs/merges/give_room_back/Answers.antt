@@ -1,6 +1,7 @@
-use Rattle.pivot_check.proofs.Words.{◌≡◌, ◌+◌, sym, ◌∙◌, arith, left}
-use Rattle.pivot_check.proofs.Joined.{at_rest}
 use Rattle.pivot_check.proofs.merges.give_room_back.Goals as goal
+use Rattle.std.proofs.Common.{◌≡◌, ◌+◌, sym, ◌∙◌, arith}
+use Rattle.pivot_check.proofs.Joined.{at_rest}
+use Rattle.pivot_check.specs.Parts.{left}
 
 pub returns-clause-same : goal.returns-clause-same
 returns-clause-same c = λ t.

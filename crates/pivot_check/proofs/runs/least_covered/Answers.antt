@@ -1,5 +1,7 @@
-use Rattle.pivot_check.proofs.Words.{arith, common_steps, lesser_assoc, least-append}
 use Rattle.pivot_check.proofs.runs.least_covered.Goals as goal
+use Rattle.std.proofs.Common.{arith}
+use Rattle.std.proofs.lemmas.Grind.{common_steps}
+use Rattle.pivot_check.specs.Agreeing.{lesser_assoc, least-append}
 
 pub loop-run-preserved : goal.loop-run-preserved
 loop-run-preserved c = grind (arith, common_steps, lesser_assoc, least-append)

@@ -1,6 +1,8 @@
-use Rattle.pivot_check.proofs.Words.{◌≡◌, ◌≤◌, ◌-◌, ◌+◌, Bool, true, length, Posting, postings_by, keys_rise, least, lesser}
-use Rattle.std.specs.{Vec.vec_len, Vec.vec_capacity, Vec.Iter.into_iter_items}
 use Rattle.pivot_check.proofs.written.add_all.Given as goal
+use Rattle.std.proofs.Common.{◌≡◌, ◌≤◌, ◌-◌, ◌+◌, Bool, true, length}
+use Rattle.std.specs.Vec.{vec_len, vec_capacity}
+use Rattle.std.specs.Vec.Iter.{into_iter_items}
+use Rattle.pivot_check.specs.Postings.{Posting, postings_by, keys_rise, least, lesser}
 
 -- what is there and the keys that are left are what was there and all keys
 abbrev pub invariant-loop-key : goal.invariant-loop-key

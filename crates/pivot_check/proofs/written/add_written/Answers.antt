@@ -1,6 +1,6 @@
+use Rattle.pivot_check.proofs.written.add_written.Goals as goal
 use Rattle.std.proofs.Common.{arith}
 use Rattle.pivot_check.proofs.Walks.{inserted_least}
-use Rattle.pivot_check.proofs.written.add_written.Goals as goal
 
 pub returns-clause-added : goal.returns-clause-added
 returns-clause-added c = λ t. grind (arith, inserted_least)

@@ -1,6 +1,6 @@
+use Rattle.sessions.proofs.reply_buffer.digits.Goals as goal
 use Rattle.std.proofs.Common.{arith}
 use Rattle.std.proofs.lemmas.Fmt.{length-decimal-le}
-use Rattle.sessions.proofs.reply_buffer.digits.Goals as goal
 
 pub returns-in-0-to-9-clause-all : goal.returns-in-0-to-9-clause-all
 returns-in-0-to-9-clause-all c = length-decimal-le 1 c.args.n (omega arith) (omega arith) (omega arith)

@@ -1,22 +1,28 @@
-use Rattle.std.proofs.Common.{refl, ap, ◌∙◌, Err}
-use Rattle.sessions.proofs.RequestSteps.{survives_after, executes_commit}
 use Rattle.sessions.proofs.requests.commit.Goals as goal
+use Rattle.std.proofs.Common.{refl, ap, ◌∙◌, Err}
+use Rattle.commit_log.specs.LogState.{device_of as log_device}
+use Rattle.sessions.proofs.RequestSteps.{survives_after, executes_commit}
 
 pub returns-in-Ok-clause-crash : goal.returns-in-Ok-clause-crash
-returns-in-Ok-clause-crash g c = survives_after c.args.engine.now c.commit.new.self c.reclaim_step.new.self c.args.s c.reclaim_step.ensures.device c.commit.ensures.crash
+returns-in-Ok-clause-crash g c =
+    survives_after c.args.engine.now c.commit.new.self c.reclaim_step.new.self c.args.s (ap log_device c.reclaim_step.ensures.keeps.log)
+    c.commit.ensures.crash
 
 pub returns-in-Err-Refused-clause-crash : goal.returns-in-Err-Refused-clause-crash
 returns-in-Err-Refused-clause-crash g c =
-    survives_after c.args.engine.now c.commit.new.self c.reclaim_step-in-Err-Refused.new.self c.args.s c.reclaim_step-in-Err-Refused.ensures.device c.commit.ensures.crash
+    survives_after c.args.engine.now c.commit.new.self c.reclaim_step-in-Err-Refused.new.self c.args.s
+    (ap log_device c.reclaim_step-in-Err-Refused.ensures.keeps.log) c.commit.ensures.crash
 
 pub returns-in-Ok-clause-step : goal.returns-in-Ok-clause-step
 returns-in-Ok-clause-step g c =
-    executes_commit c.args.engine.now c.commit.new.self c.reclaim_step.new.self c.args.s _ _ c.write_brief.result c.reclaim_step.ensures.device c.in-Ok.ensures.step c.reclaim_step.ensures.keeps c.write_brief.ensures
+    executes_commit c.args.engine.now c.commit.new.self c.reclaim_step.new.self c.args.s _ _ c.write_brief.result
+    (ap log_device c.reclaim_step.ensures.keeps.log) c.in-Ok.ensures.step c.reclaim_step.ensures.keeps.stands c.write_brief.ensures
 
 pub returns-in-Err-Refused-clause-step : goal.returns-in-Err-Refused-clause-step
 returns-in-Err-Refused-clause-step g c =
-    executes_commit c.args.engine.now c.commit.new.self c.reclaim_step-in-Err-Refused.new.self c.args.s _ _ c.write_brief-in-Err-Refused.result c.reclaim_step-in-Err-Refused.ensures.device
-    (rw c.in-Err-Refused.field-0-is at c.in-Err-Refused.ensures.step) c.reclaim_step-in-Err-Refused.ensures.keeps c.write_brief-in-Err-Refused.ensures
+    executes_commit c.args.engine.now c.commit.new.self c.reclaim_step-in-Err-Refused.new.self c.args.s _ _ c.write_brief-in-Err-Refused.result
+    (ap log_device c.reclaim_step-in-Err-Refused.ensures.keeps.log)
+    (rw c.in-Err-Refused.field-0-is at c.in-Err-Refused.ensures.step) c.reclaim_step-in-Err-Refused.ensures.keeps.stands c.write_brief-in-Err-Refused.ensures
 
 pub returns-in-Err-Memory-clause-step : goal.returns-in-Err-Memory-clause-step
 returns-in-Err-Memory-clause-step g c =

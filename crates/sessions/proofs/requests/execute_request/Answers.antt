@@ -1,6 +1,8 @@
-use Rattle.sessions.proofs.Words.{◌≡◌, refl, ap, Faulty, asks, or_faulty}
-use Rattle.sessions.proofs.RequestSteps.{executes_flag, executes_always}
 use Rattle.sessions.proofs.requests.execute_request.Goals as goal
+use Rattle.std.proofs.Common.{◌≡◌, refl, ap}
+use Rattle.model.specs.Operations.{Faulty}
+use Rattle.sessions.proofs.RequestSteps.{executes_flag, executes_always}
+use Rattle.sessions.specs.SessionStreams.{asks, or_faulty}
 
 pub returns-in-Err-clause-step : goal.returns-in-Err-clause-step
 returns-in-Err-clause-step g c =

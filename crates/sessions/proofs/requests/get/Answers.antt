@@ -1,6 +1,7 @@
-use Rattle.sessions.proofs.Words.{refl, Get}
-use Rattle.sessions.proofs.RequestSteps.{executes_read, executes_refused}
 use Rattle.sessions.proofs.requests.get.Goals as goal
+use Rattle.std.proofs.Common.{refl}
+use Rattle.model.specs.Operations.{Get}
+use Rattle.sessions.proofs.RequestSteps.{executes_read, executes_refused}
 
 pub returns-in-Ok-clause-step : goal.returns-in-Ok-clause-step
 returns-in-Ok-clause-step g c =

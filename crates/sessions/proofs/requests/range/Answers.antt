@@ -1,7 +1,8 @@
-use Rattle.sessions.proofs.Words.{refl, Range}
-use Rattle.model.specs.KeyBytes.{key_bytes, end_bytes}
-use Rattle.sessions.proofs.RequestSteps.{executes_read, executes_refused}
 use Rattle.sessions.proofs.requests.range.Goals as goal
+use Rattle.std.proofs.Common.{refl}
+use Rattle.model.specs.KeyBytes.{key_bytes, end_bytes}
+use Rattle.model.specs.Operations.{Range}
+use Rattle.sessions.proofs.RequestSteps.{executes_read, executes_refused}
 
 pub returns-in-Ok-clause-step : goal.returns-in-Ok-clause-step
 returns-in-Ok-clause-step g c =

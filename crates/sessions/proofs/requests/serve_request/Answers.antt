@@ -1,6 +1,7 @@
-use Rattle.std.proofs.Common.{refl}
-use Rattle.sessions.proofs.RequestSteps.{survives_front, aborts_left}
 use Rattle.sessions.proofs.requests.serve_request.Goals as goal
+use Rattle.std.proofs.Common.{refl, ap}
+use Rattle.commit_log.specs.LogState.{device_of as log_device}
+use Rattle.sessions.proofs.RequestSteps.{survives_front, aborts_left}
 
 pub returns-in-Err-clause-step : goal.returns-in-Err-clause-step
 returns-in-Err-clause-step g c = (
@@ -20,7 +21,8 @@ returns-in-Ok-clause-crash g c =
 
 pub returns-in-Err-clause-crash : goal.returns-in-Err-clause-crash
 returns-in-Err-clause-crash g c =
-    survives_front c.args.engine.now c.execute_request.new.engine c.abort_transaction.new.engine c.args.s c.args.inbox.now c.abort_transaction.ensures.device c.in-Whole.request c.in-Whole.used
+    survives_front c.args.engine.now c.execute_request.new.engine c.abort_transaction.new.engine c.args.s c.args.inbox.now
+    (ap log_device c.abort_transaction.ensures.log) c.in-Whole.request c.in-Whole.used
     ((c.in-Whole.ensures.whole c.in-Whole.request c.in-Whole.used).0 (refl, refl)) c.execute_request.ensures.crash
 
 pub returns-in-Ok-clause-step : goal.returns-in-Ok-clause-step

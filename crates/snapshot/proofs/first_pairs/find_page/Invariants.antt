@@ -1,5 +1,9 @@
-use Rattle.snapshot.proofs.Words.{◌≡◌, ◌≤◌, length, take, drop, end_bytes, IsInBounds, last_key, merged_pairs}
 use Rattle.snapshot.proofs.first_pairs.find_page.Given as goal
+use Rattle.std.proofs.Common.{◌≡◌, ◌≤◌, length, take, drop}
+use Rattle.model.specs.KeyBytes.{end_bytes}
+use Rattle.model.specs.Map.{IsInBounds}
+use Rattle.model.specs.PrivateCopy.{last_key}
+use Rattle.snapshot.specs.Ahead.{merged_pairs}
 
 -- as many pairs as were counted have gone, and the last of them is known
 abbrev pub invariant-loop-k : goal.invariant-loop-k

@@ -1,7 +1,8 @@
-use Rattle.snapshot.proofs.Words.{rules, Ok, Err, key_cmp}
+use Rattle.snapshot.proofs.spans.split_place.Goals as goal
+use Rattle.std.proofs.Common.{rules, Ok, Err}
 use Rattle.std.proofs.lemmas.Fn.{always_returns_same}
 use Rattle.model.proofs.Entries.{split_at}
-use Rattle.snapshot.proofs.spans.split_place.Goals as goal
+use Rattle.model.specs.Map.{key_cmp}
 
 pub returns-in-Ok : goal.returns-in-Ok
 returns-in-Ok c =

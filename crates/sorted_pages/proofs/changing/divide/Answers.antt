@@ -1,12 +1,27 @@
-use Rattle.sorted_pages.proofs.Words.{common_steps, ◌+◌, arith, on_ok_weaker}
-use Rattle.sorted_pages.proofs.Placings.{tight-then}
 use Rattle.sorted_pages.proofs.changing.divide.Goals as goal
+use Rattle.std.proofs.Common.{◌+◌, ◌∙◌, arith}
+use Rattle.std.proofs.lemmas.Result.{on_ok_weaker}
+use Rattle.sorted_pages.proofs.Placings.{tight-then}
 
-pub returns-clause-more : goal.returns-clause-more
-returns-clause-more g c = on_ok_weaker c.grow.result (λ made h. let a = c.in_ok-split.ensures.more h in let b = c.grow.ensures.pages in omega arith) c.grow.ensures.made
+pub returns-clause-room : goal.returns-clause-room
+returns-clause-room g c =
+    let one = c.split.ensures.room in
+    let two = c.grow.ensures.room in
+    record {
+      order = two.order;
+      roomier = record {
+        entries = two.roomier.entries ∙ one.roomier.entries;
+        rooms = λ q. (let a = one.roomier.rooms q in let b = two.roomier.rooms q in omega arith);
+      };
+      tight = tight-then (c.args.n + 191) c.args.pages.now.items c.split.new.pages.items c.grow.new.pages.items one.tight two.tight;
+    }
 
-pub returns-clause-halved : goal.returns-clause-halved
-returns-clause-halved g c = grind (arith, common_steps, on_ok_weaker)
-
-pub returns-clause-tight : goal.returns-clause-tight
-returns-clause-tight g c = tight-then (c.args.n + 191) c.args.pages.now.items c.split.new.pages.items c.grow.new.pages.items c.split.ensures.tight c.grow.ensures.tight
+pub returns-clause-split : goal.returns-clause-split
+returns-clause-split g c =
+    on_ok_weaker c.grow.result (λ made h. let a = c.in_ok-split.ensures.split h in record {
+      more = (let more = a.more in let b = c.grow.ensures.pages in omega arith);
+      halved = record {
+        low = λ f. (let low = a.halved.low f in let same = c.grow.ensures.count in omega arith);
+        high = λ f. (let high = a.halved.high f in let same = c.grow.ensures.count in omega arith);
+      };
+    }) c.grow.ensures.made

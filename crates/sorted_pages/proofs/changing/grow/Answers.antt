@@ -1,6 +1,8 @@
-use Rattle.sorted_pages.proofs.Words.{common_steps, arith, on_ok_weaker}
-use Rattle.sorted_pages.proofs.Placings.{count_grown, grown, room_grown, tight-set}
 use Rattle.sorted_pages.proofs.changing.grow.Goals as goal
+use Rattle.std.proofs.Common.{arith}
+use Rattle.std.proofs.lemmas.Grind.{common_steps}
+use Rattle.std.proofs.lemmas.Result.{on_ok_weaker}
+use Rattle.sorted_pages.proofs.Placings.{count_grown, grown, room_grown, tight-set}
 
 pub returns : goal.returns
 returns g c =

@@ -1,5 +1,6 @@
-use Rattle.sorted_pages.proofs.Words.{length, ◌-◌, IsBlankTo}
 use Rattle.sorted_pages.proofs.page.blank_from.Given as goal
+use Rattle.std.proofs.Common.{length, ◌-◌}
+use Rattle.sorted_pages.specs.Blanks.{IsBlankTo}
 
 abbrev pub invariant-loop-count : goal.invariant-loop-count
 invariant-loop-count g l = IsBlankTo g.V.Aging.hides l.entries l.count

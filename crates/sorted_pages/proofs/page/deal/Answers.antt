@@ -1,6 +1,7 @@
-use Rattle.sorted_pages.proofs.Words.{common_steps, arith}
-use Rattle.sorted_pages.proofs.Deals.{dealt-lower, dealt-upper}
 use Rattle.sorted_pages.proofs.page.deal.Goals as goal
+use Rattle.std.proofs.Common.{arith}
+use Rattle.std.proofs.lemmas.Grind.{common_steps}
+use Rattle.sorted_pages.proofs.Deals.{dealt-lower, dealt-upper}
 
 pub loop-entry-preserved-then-len-at : goal.loop-entry-preserved-then-len-at
 loop-entry-preserved-then-len-at g c = grind (arith, common_steps, dealt-lower)

@@ -1,7 +1,8 @@
-use Rattle.std.proofs.Common.{◌≡◌}
-use Rattle.std.specs.{Vec.vec_capacity, Vec.Iter.into_iter_items}
-use Rattle.sorted_pages.proofs.Deals.{Dealt}
 use Rattle.sorted_pages.proofs.page.deal.Given as goal
+use Rattle.std.proofs.Common.{◌≡◌}
+use Rattle.std.specs.Vec.{vec_capacity}
+use Rattle.std.specs.Vec.Iter.{into_iter_items}
+use Rattle.sorted_pages.proofs.Deals.{Dealt}
 
 abbrev pub invariant-loop-entry : goal.invariant-loop-entry
 invariant-loop-entry g l =

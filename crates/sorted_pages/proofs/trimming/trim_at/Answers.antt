@@ -1,6 +1,12 @@
-use Rattle.sorted_pages.proofs.Words.{get_or, sym, ap, ◌∙◌, find, option_map, key_cmp, entries, passes}
-use Rattle.sorted_pages.proofs.{Placings.page_sorted, Placings.find_at, Values.trimmed, Values.find-changed}
 use Rattle.sorted_pages.proofs.trimming.trim_at.Goals as goal
+use Rattle.std.proofs.Common.{get_or, sym, ap, ◌∙◌}
+use Rattle.std.specs.FinMap.Entries.{find}
+use Rattle.std.specs.Prelude.{option_map}
+use Rattle.model.specs.Map.{key_cmp}
+use Rattle.sorted_pages.proofs.Placings.{page_sorted, find_at}
+use Rattle.sorted_pages.proofs.Values.{trimmed, find-changed}
+use Rattle.sorted_pages.specs.Pages.{entries}
+use Rattle.sorted_pages.specs.Trims.{passes}
 
 pub trim_at-requires : goal.trim_at-requires
 trim_at-requires g c =
@@ -23,6 +29,7 @@ returns g c =
       entries = all.entries;
       -- both are f of the key's value before
       left = is.left
-          ∙ ap (passes (g.V.Aging.has c.args.number)) (ap (find key_cmp k) is.entries ∙ find-changed f k page.0 ∙ ap (option_map f) (sym (find_at ps k i page c.place-i.ensures here))
+          ∙ ap (passes (g.V.Aging.has c.args.number)) (ap (find key_cmp k) is.entries ∙ find-changed f k page.0
+          ∙ ap (option_map f) (sym (find_at ps k i page c.place-i.ensures here))
           ∙ sym (ap (find key_cmp k) all.entries ∙ find-changed f k (entries ps)));
     }

@@ -1,12 +1,15 @@
-use Rattle.versions.proofs.Words.{arith, sym, common_steps, entries}
-use Rattle.versions.proofs.Stores.{roomier-refl, roomier-put, find-put_itself, on_ok}
 use Rattle.versions.proofs.installing.make_room.Goals as goal
+use Rattle.std.proofs.Common.{arith, sym}
+use Rattle.std.proofs.lemmas.Grind.{common_steps}
+use Rattle.sorted_pages.specs.Pages.{entries}
+use Rattle.versions.proofs.Stores.{roomier-refl, roomier-put, find-put_itself, on_ok}
 
 pub returns-in-Some-clause-chains : goal.returns-in-Some-clause-chains
 returns-in-Some-clause-chains c =
     let is = c.reserve.ensures in
     rw (c.in-Some.ensures.put c.reserve.new.self)
-    (roomier-put c.args.key.bytes.now c.in-Some.chain.now c.reserve.new.self (entries c.args.chains.now) c.requires (sym c.in-Some.ensures.value) (record { older = is.older; newest = is.newest; room = is.room }))
+    (roomier-put c.args.key.bytes.now c.in-Some.chain.now c.reserve.new.self (entries c.args.chains.now) c.requires (sym c.in-Some.ensures.value)
+    (record { older = is.older; newest = is.newest; room = is.room }))
 
 pub returns-in-Some-clause-room : goal.returns-in-Some-clause-room
 returns-in-Some-clause-room c = rw (c.in-Some.ensures.put c.reserve.new.self, find-put_itself) c.reserve.ensures.made

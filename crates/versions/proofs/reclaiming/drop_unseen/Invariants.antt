@@ -1,6 +1,6 @@
+use Rattle.versions.proofs.reclaiming.drop_unseen.Given as goal
 use Rattle.sorted_pages.specs.Pages.{entries}
 use Rattle.versions.proofs.Groups.{Dropping}
-use Rattle.versions.proofs.reclaiming.drop_unseen.Given as goal
 
 -- those from `left` on were looked after
 abbrev pub invariant-loop-left : goal.invariant-loop-left

@@ -1,13 +1,22 @@
-use Rattle.versions.proofs.Words.{◌≡◌, ◌<◌, List, length, take, get_or, rules, sym, ap, subst, ◌∙◌, arith, ◌==◌, AllByRecursion, position, GroupValue, AreAmong, IsSettled, IsTrulyMixed, witnesses, is_among}
-use Rattle.versions.proofs.Groups.{all-joined, due-joined, join-found, under-joined}
-use Rattle.versions.proofs.UnderWitnesses.{IsUnder}
-use Rattle.versions.proofs.Witnesses.{found-before, join-fits, lists-joined, witnesses-set, take-remove, among-remove, none-before, take-get}
 use Rattle.versions.proofs.reclaiming.join.Goals as goal
+use Rattle.std.proofs.Common.{◌≡◌, ◌<◌, List, length, take, get_or, rules, refl, sym, ap, subst, ◌∙◌, arith}
+use Rattle.std.specs.List.{AllByRecursion, position}
+use Rattle.std.specs.Prelude.{◌==◌}
+use Rattle.versions.proofs.Groups.{all-joined, due-joined, join-found, keeps-itself, under-joined}
+use Rattle.versions.proofs.UnderWitnesses.{IsUnder}
+use Rattle.versions.proofs.Witnesses.{found-before, join-fits, lists-joined, witnesses-set, take-remove, among-remove}
+use Rattle.versions.proofs.Witnesses.{none-before, take-get}
+use Rattle.versions.specs.Groups.{GroupValue}
+use Rattle.versions.specs.Listings.{AreAmong, IsSettled, IsTrulyMixed, witnesses}
+use Rattle.versions.specs.Meaning.{is_among}
 
 pub absorb-requires : goal.absorb-requires
-absorb-requires c = join-fits c.args.groups.now.items c.remove-group.new.self.items c.args.i c.in-Some.place c.behind-groups.inside.witness c.index.result.now c.index_mut.result.now c.remove-group.result
-    (omega (arith, c.requires.within)) c.index.ensures (ap (λ (g : GroupValue). g.witness) c.behind-groups.view_is) c.remove-group.ensures.value c.remove-group.ensures.items c.index_mut.ensures.value
-    (sym (ap (λ (gs : List GroupValue). position (λ g. g.witness == c.behind-groups.inside.witness) (take c.args.i gs)) c.deref.ensures.value) ∙ sym c.place_of.ensures ∙ c.in-Some.is) c.requires.few
+absorb-requires c = join-fits c.args.groups.now.items c.remove-group.new.self.items c.args.i c.in-Some.place c.behind-groups.inside.witness c.index.result.now
+    c.index_mut.result.now c.remove-group.result
+    (omega (arith, c.requires.within)) c.index.ensures (ap (λ (g : GroupValue). g.witness) c.behind-groups.view_is) c.remove-group.ensures.value
+    c.remove-group.ensures.items c.index_mut.ensures.value
+    (sym (ap (λ (gs : List GroupValue). position (λ g. g.witness == c.behind-groups.inside.witness) (take c.args.i gs)) c.deref.ensures.value)
+    ∙ sym c.place_of.ensures ∙ c.in-Some.is) c.requires.few
 
 pub returns-in-Some : goal.returns-in-Some
 returns-in-Some c =
@@ -29,27 +38,36 @@ returns-in-Some c =
     let joins = join-fits gs hs i m w c.index.result.now a g lt c.index.ensures own second less first met c.requires.few in
     let short = found-before gs hs i m w a lt less met in
     let same = witnesses-set hs m a j first c.absorb.ensures.witness in
+    let both = c.absorb.ensures.joined in
     record {
-      found = join-found gs hs i m a g j lt second less short first c.absorb.ensures.found;
-      due = λ bs. due-joined bs gs hs i m a g j lt second less first short (c.absorb.ensures.due bs);
-      joined = search rules;
-      same = search rules;
-      first = ap (take i) (same ∙ ap witnesses less) ∙ take-remove (λ (g : GroupValue). g.witness) gs i;
-      other = search rules;
-      held = λ bs h. subst (AreAmong bs) (sym (same ∙ ap witnesses less)) (among-remove bs gs i h);
+      keeps = record {
+        found = join-found gs hs i m a g j lt second less short first both.found;
+        due = λ bs. due-joined bs gs hs i m a g j lt second less first short (both.due bs);
+        held = λ bs h. subst (AreAmong bs) (sym (same ∙ ap witnesses less)) (among-remove bs gs i h);
+        truly = λ bs. all-joined (IsTrulyMixed bs) gs hs i m a g j lt second less short first (both.truly bs);
+        mixed = λ bs es. (
+            let P = λ (x : GroupValue). AllByRecursion (IsSettled bs es) x.mixed in
+            all-joined P gs hs i m a g j lt second less short first (both.mixed bs es));
+        each = λ held v. all-joined (IsUnder held v) gs hs i m a g j lt second less short first
+            (under-joined held v a g j joins.0 c.absorb.ensures.witness both.each);
+      };
       lists = lists-joined gs hs i m a g j lt second less short first c.absorb.ensures.lists;
-      truly = λ bs. all-joined (IsTrulyMixed bs) gs hs i m a g j lt second less short first (c.absorb.ensures.truly bs);
-      each = λ held v. all-joined (IsUnder held v) gs hs i m a g j lt second less short first
-          (under-joined held v a g j joins.0 c.absorb.ensures.witness c.absorb.ensures.each);
-      mixed = λ bs es. (
-          let P = λ (x : GroupValue). AllByRecursion (IsSettled bs es) x.mixed in
-          all-joined P gs hs i m a g j lt second less short first (c.absorb.ensures.mixed bs es));
+      first = ap (take i) (same ∙ ap witnesses less) ∙ take-remove (λ (g : GroupValue). g.witness) gs i;
+      joined = search rules;
+      apart = search rules;
     }
 
-pub returns-in-None-clause-other : goal.returns-in-None-clause-other
-returns-in-None-clause-other c = λ t.
+pub returns-in-None-clause-keeps : goal.returns-in-None-clause-keeps
+returns-in-None-clause-keeps c = keeps-itself c.args.groups.now.items
+
+pub returns-in-None-clause-apart : goal.returns-in-None-clause-apart
+returns-in-None-clause-apart c = λ t.
     let gs = c.args.groups.now.items in
     let w = c.behind-groups.inside.witness in
-    let own : w ≡ get_or (witnesses gs) c.args.i 0 = ap (λ (g : GroupValue). g.witness) c.behind-groups.view_is ∙ take-get (λ (g : GroupValue). g.witness) gs c.args.i c.index.result.now 0 (omega (arith, c.requires.within)) c.index.ensures in
-    ap (is_among (take c.args.i (witnesses gs))) (sym own)
-    ∙ none-before gs c.args.i w (sym (ap (λ (l : List GroupValue). position (λ g. g.witness == w) (take c.args.i l)) c.deref.ensures.value) ∙ sym c.place_of.ensures ∙ c.in-None.is)
+    let own : w ≡ get_or (witnesses gs) c.args.i 0 =
+    ap (λ (g : GroupValue). g.witness) c.behind-groups.view_is
+    ∙ take-get (λ (g : GroupValue). g.witness) gs c.args.i c.index.result.now 0 (omega (arith, c.requires.within)) c.index.ensures in
+    let other = ap (is_among (take c.args.i (witnesses gs))) (sym own)
+    ∙ none-before gs c.args.i w (sym (ap (λ (l : List GroupValue). position (λ g. g.witness == w) (take c.args.i l)) c.deref.ensures.value)
+    ∙ sym c.place_of.ensures ∙ c.in-None.is) in
+    record { same = refl; other = other }

@@ -1,6 +1,6 @@
+use Rattle.versions.proofs.reclaiming.reclaim_groups.Given as goal
 use Rattle.sorted_pages.specs.Pages.{entries}
 use Rattle.versions.proofs.Groups.{Settling}
-use Rattle.versions.proofs.reclaiming.reclaim_groups.Given as goal
 
 -- the groups from `left` on were looked at
 abbrev pub invariant-loop-left : goal.invariant-loop-left

@@ -1,6 +1,8 @@
-use Rattle.versions.proofs.Words.{◌≡◌, ◌≤◌, ◌+◌, length, entries, AreFilled, versions_in}
-use Rattle.versions.proofs.Lists.{Settled}
 use Rattle.versions.proofs.reclaiming.settle_lists.Given as goal
+use Rattle.std.proofs.Common.{◌≡◌, ◌≤◌, ◌+◌, length}
+use Rattle.sorted_pages.specs.Pages.{entries}
+use Rattle.versions.proofs.Lists.{Settled}
+use Rattle.versions.specs.Listings.{AreFilled, versions_in}
 
 -- the lists that were put back were looked after, and the others are left
 abbrev pub invariant-loop : goal.invariant-loop

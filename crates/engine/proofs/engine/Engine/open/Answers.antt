@@ -1,12 +1,26 @@
-use Rattle.engine.proofs.Words.{common_steps, ◌≡◌, ◌+◌, ℕ, true, false, [], sym, ap, refl, ◌∙◌, length, arith, both_ways, nil_from_length, KeyMap, IsMap, opened, IsReached, IsEmpty, Ghosts, is_stopped, used_sectors, sector_count, HistoryStandsFor, Engine, StandsFor, IsStored}
-use Rattle.std.proofs.lemmas.Slice.Zip.{AllZip-long}
-use Rattle.commit_log.specs.{LogImage.span, Recovery.map_after}
 use Rattle.engine.proofs.engine.Engine.open.Goals as goal
+use Rattle.std.proofs.Common.{◌≡◌, ◌+◌, ℕ, true, false, [], sym, ap, refl, ◌∙◌, length, arith}
+use Rattle.std.proofs.lemmas.Bool.{both_ways}
+use Rattle.std.proofs.lemmas.Grind.{common_steps}
+use Rattle.std.proofs.lemmas.List.{nil_from_length}
+use Rattle.std.proofs.lemmas.Slice.Zip.{AllZip-long}
+use Rattle.model.specs.Machine.{opened, IsReached}
+use Rattle.model.specs.Map.{KeyMap, IsMap}
+use Rattle.sector.specs.declared.device.Sectors.{Ghosts}
+use Rattle.commit_log.specs.LogImage.{span}
+use Rattle.commit_log.specs.LogState.{is_stopped, used_sectors, sector_count}
+use Rattle.commit_log.specs.Recovery.{map_after}
+use Rattle.pivot_check.specs.Kept.{IsEmpty}
+use Rattle.engine.specs.HistoryValue.{HistoryStandsFor}
+use Rattle.engine.specs.Recovery.{IsStored}
+use Rattle.engine.specs.StandsFor.{StandsFor}
+use Rattle.engine.specs.declared.engine.Engine.{Engine}
 
 reached_opened : (map : KeyMap) (used count : ℕ) → IsMap map → IsReached (opened map used count)
 reached_opened map used count h = record { contents = map; sectors_used = used; sectors = count; inputs = []; is_map = h; is = refl }
 
-opened_stands : {D : Type 0} {g : Ghosts D} (e : Engine D g) (map : KeyMap) (used count : ℕ) → is_stopped e.log ≡ false → used ≡ used_sectors e.log → sector_count e.log ≡ count → HistoryStandsFor e.history (λ _. true) map [] → IsEmpty e.history.committed.facts
+opened_stands : {D : Type 0} {g : Ghosts D} (e : Engine D g) (map : KeyMap) (used count : ℕ) → is_stopped e.log ≡ false → used ≡ used_sectors e.log
+    → sector_count e.log ≡ count → HistoryStandsFor e.history (λ _. true) map [] → IsEmpty e.history.committed.facts
     → e.running.entries ≡ [] → (g.keeps_model → IsStored e.log map) → StandsFor e (opened map used count)
 opened_stands e map used count running taken size h facts none stored = grind (arith, common_steps, reached_opened, both_ways)
 
@@ -14,15 +28,24 @@ pub returns-in-Ok-over-clause-opens : goal.returns-in-Ok-over-clause-opens
 returns-in-Ok-over-clause-opens g c = (
   c.in-Ok.opened.1,
   used_sectors c.in-Ok.opened.0,
-  opened_stands _ c.in-Ok.opened.1 _ _ c.in-Ok.ensures.running refl c.in-Ok.ensures.size c.in-Ok-over.ensures.stands c.in-Ok-over.ensures.empty c.new.ensures.empty
+  opened_stands _ c.in-Ok.opened.1 _ _ c.in-Ok.ensures.runs.running refl c.in-Ok.ensures.runs.size c.in-Ok-over.ensures.stands c.in-Ok-over.ensures.empty
+      c.new.ensures.empty
       (λ keeps. let s = c.in-Ok.ensures.stands keeps in record { lists = s.0; stands = s.1; makes = sym s.2 }),
 )
 
-pub returns-in-Ok-over-clause-found : goal.returns-in-Ok-over-clause-found
-returns-in-Ok-over-clause-found g c keeps disk lists long reads image =
-    let s = c.in-Ok.ensures.found keeps disk lists long reads image in
-    opened_stands _ (map_after [] lists) (2 + span lists) _ c.in-Ok.ensures.running (omega (arith, s.0.gate)) c.in-Ok.ensures.size (rw (← s.1) c.in-Ok-over.ensures.stands) c.in-Ok-over.ensures.empty c.new.ensures.empty
-    (λ k. record { lists = lists; stands = s.0; makes = refl })
+pub returns-in-Ok-over-clause-finds : goal.returns-in-Ok-over-clause-finds
+returns-in-Ok-over-clause-finds g c keeps =
+    let finds = c.in-Ok.ensures.finds keeps in
+    record {
+      found = λ disk lists long reads image.
+          let s = finds.found disk lists long reads image in
+          opened_stands _ (map_after [] lists) (2 + span lists) _ c.in-Ok.ensures.runs.running (omega (arith, s.0.gate)) c.in-Ok.ensures.runs.size
+          (rw (← s.1) c.in-Ok-over.ensures.stands) c.in-Ok-over.ensures.empty c.new.ensures.empty (λ k. record { lists = lists; stands = s.0; makes = refl });
+      damaged = finds.damaged;
+      no_log = finds.no_log;
+      older = finds.older;
+      undamaged = finds.undamaged;
+    }
 
 pub returns-in-Ok-over-clause-idle : goal.returns-in-Ok-over-clause-idle
 returns-in-Ok-over-clause-idle g c m h = nil_from_length m.running (AllZip-long _ _ m.running h.running ∙ ap length c.new.ensures.empty)

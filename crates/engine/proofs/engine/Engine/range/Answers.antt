@@ -1,8 +1,13 @@
-use Rattle.engine.proofs.Words.{refl, sym, ap, Some, NotOpen, Pairs, View, range_read}
-use Rattle.snapshot.specs.RowPairs.{row_pairs}
-use Rattle.engine.proofs.Calls.{own_call, refused_outside}
-use Rattle.engine.proofs.Requests.{read_answered, read_refused, begin-after_range, never_range, known_range, known_nowhere}
 use Rattle.engine.proofs.engine.Engine.range.Goals as goal
+use Rattle.std.proofs.Common.{refl, sym, ap, Some}
+use Rattle.model.specs.Operations.Response.{Pairs}
+use Rattle.model.specs.declared.refusals.Refusal.TheVariants.{NotOpen}
+use Rattle.snapshot.specs.Made.{range_read}
+use Rattle.snapshot.specs.RowPairs.{row_pairs}
+use Rattle.snapshot.specs.View.{View}
+use Rattle.engine.proofs.Calls.{own_call, refused_outside}
+use Rattle.engine.proofs.Requests.{read_answered, read_refused, begin-after_range, never_range, known_range}
+use Rattle.engine.proofs.Requests.{known_nowhere}
 
 pub returns-in-Ok : goal.returns-in-Ok
 returns-in-Ok g c =
@@ -12,8 +17,17 @@ returns-in-Ok g c =
     let held = c.get_mut.follows.holds _ in
     let is = rw c.in-Ok.is at c.range.follows.holds-at-none in
     let begin = begin-after_range t _ _ c.args.range c.args.limit is.0 in
-    let answered = read_answered e t _ c.versions-versions.result.now q (Pairs (row_pairs c.in-Ok.rows)) c.versions-versions.ensures c.in-Ok.ensures.reply is.1 in (
-      (refl, λ _. tt, (own_call e _ c.args.s q _ t _ (Some (Pairs (row_pairs c.in-Ok.rows))) (λ b m r. refl) (record { log = refl; history = refl }) (sym c.in-Some.ensures.value) held.0 held.2 begin answered, refl)),
+    let answered = read_answered e t _ c.versions-versions.result.now q (Pairs (row_pairs c.in-Ok.rows)) c.versions-versions.ensures c.in-Ok.ensures.reply is.1
+    in (
+      (
+        refl,
+        λ _. tt,
+        (
+          own_call e _ c.args.s q _ t _ (Some (Pairs (row_pairs c.in-Ok.rows))) (λ b m r. refl) (record { log = refl; history = refl })
+              (sym c.in-Some.ensures.value) held.0 held.2 begin answered,
+          refl,
+        ),
+      ),
       record { known = λ m h t r k. refl; few = c.in-Ok.ensures.few; in_bounds = c.in-Ok.ensures.in_bounds; after = tt },
     )
 
@@ -25,13 +39,36 @@ returns-in-Err g c =
     let held = c.get_mut.follows.holds _ in
     let is = rw c.in-Err.is at c.range.follows.holds-at-none in
     let never = never_range c.args.range c.args.limit in
-    let answered = read_refused e t _ c.versions-versions.result.now q (λ rows. Pairs (row_pairs rows)) c.in-Err.fault c.from.result never c.from.ensures c.versions-versions.ensures c.in-Err.ensures.reply is in (
-      (refl, λ _. tt, (own_call e _ c.args.s q _ t _ _ (λ b m r. refl) (record { log = refl; history = refl }) (sym c.in-Some.ensures.value) held.0 held.2 (ap (λ (u : View). u.begin) is) answered, refl)),
-      record { known = known_range e c.args.s t (sym c.in-Some.ensures.value) c.versions-versions.result.now c.args.range c.args.limit c.versions-versions.ensures c.in-Err.ensures.known; few = tt; in_bounds = tt; after = tt },
+    let answered = read_refused e t _ c.versions-versions.result.now q (λ rows. Pairs (row_pairs rows)) c.in-Err.fault c.from.result never c.from.ensures
+    c.versions-versions.ensures c.in-Err.ensures.reply is in (
+      (
+        refl,
+        λ _. tt,
+        (
+          own_call e _ c.args.s q _ t _ _ (λ b m r. refl) (record { log = refl; history = refl }) (sym c.in-Some.ensures.value) held.0 held.2
+              (ap (λ (u : View). u.begin) is) answered,
+          refl,
+        ),
+      ),
+      record {
+        known = known_range e c.args.s t (sym c.in-Some.ensures.value) c.versions-versions.result.now c.args.range c.args.limit
+            c.versions-versions.ensures c.in-Err.ensures.known;
+        few = tt;
+        in_bounds = tt;
+        after = tt;
+      },
     )
 
 pub returns-in-None : goal.returns-in-None
 returns-in-None g c = (
-  (refl, λ _. tt, (refused_outside c.args.self.now _ c.args.s (range_read c.args.range c.args.limit) _ NotOpen (record { log = refl; history = refl }) (ap (λ n. n.entries) c.get_mut.follows.holds-at-none) (sym c.in-None.ensures.value) (λ m h. refl), refl)),
+  (
+    refl,
+    λ _. tt,
+    (
+      refused_outside c.args.self.now _ c.args.s (range_read c.args.range c.args.limit) _ NotOpen (record { log = refl; history = refl })
+          (ap (λ n. n.entries) c.get_mut.follows.holds-at-none) (sym c.in-None.ensures.value) (λ m h. refl),
+      refl,
+    ),
+  ),
   record { known = λ m h t r k. known_nowhere c.args.self.now c.args.s (sym c.in-None.ensures.value) m h t r; few = tt; in_bounds = tt; after = tt },
 )

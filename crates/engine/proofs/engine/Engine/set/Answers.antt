@@ -1,6 +1,11 @@
-use Rattle.engine.proofs.Words.{refl, sym, ap, Some, View, NotOpen, Set, Done}
-use Rattle.engine.proofs.{Calls.own_call, Calls.refused_outside, Requests.write_refused}
 use Rattle.engine.proofs.engine.Engine.set.Goals as goal
+use Rattle.std.proofs.Common.{refl, sym, ap, Some}
+use Rattle.model.specs.Operations.Operation.{Set}
+use Rattle.model.specs.Operations.Response.{Done}
+use Rattle.model.specs.declared.refusals.Refusal.TheVariants.{NotOpen}
+use Rattle.snapshot.specs.View.{View}
+use Rattle.engine.proofs.Calls.{own_call, refused_outside}
+use Rattle.engine.proofs.Requests.{write_refused}
 
 pub returns-in-Ok-clause-step : goal.returns-in-Ok-clause-step
 returns-in-Ok-clause-step g c =
@@ -13,9 +18,11 @@ returns-in-Err-clause-step g c =
     own_call c.args.self.now _ c.args.s (Set c.args.key.bytes.now c.args.value.now) _ c.in-Some.transaction.now c.put.new.self _
     (λ b m r. refl) (record { log = refl; history = refl }) (sym c.in-Some.ensures.value) (c.get_mut.follows.holds _).0 (c.get_mut.follows.holds _).2
     (ap (λ (u : View). u.begin) c.in-Err.ensures.err)
-    (write_refused c.args.self.now c.in-Some.transaction.now c.put.new.self (Set c.args.key.bytes.now c.args.value.now) (λ (x : Unit {0}). Done) c.in-Err.fault c.from.result c.from.ensures
+    (write_refused c.args.self.now c.in-Some.transaction.now c.put.new.self (Set c.args.key.bytes.now c.args.value.now) (λ (x : Unit {0}). Done) c.in-Err.fault
+    c.from.result c.from.ensures
     (λ m qs seen made. c.in-Err.ensures.reply m qs made) c.in-Err.ensures.err)
 
 pub returns-in-None-clause-step : goal.returns-in-None-clause-step
 returns-in-None-clause-step g c =
-    refused_outside c.args.self.now _ c.args.s (Set c.args.key.bytes.now c.args.value.now) _ NotOpen (record { log = refl; history = refl }) (ap (λ n. n.entries) c.get_mut.follows.holds-at-none) (sym c.in-None.ensures.value) (λ m h. refl)
+    refused_outside c.args.self.now _ c.args.s (Set c.args.key.bytes.now c.args.value.now) _ NotOpen (record { log = refl; history = refl })
+    (ap (λ n. n.entries) c.get_mut.follows.holds-at-none) (sym c.in-None.ensures.value) (λ m h. refl)

@@ -1,5 +1,6 @@
-use Rattle.engine.proofs.Words.{refl, subst, HistoryValue, IsSameHistory}
 use Rattle.engine.proofs.history.History.prepare.Goals as goal
+use Rattle.std.proofs.Common.{refl, subst}
+use Rattle.engine.specs.HistoryValue.{HistoryValue, IsSameHistory}
 
 pub returns-in_err-prepare-clause-same : goal.returns-in_err-prepare-clause-same
 returns-in_err-prepare-clause-same c =

@@ -1,12 +1,20 @@
-use Rattle.engine.proofs.Words.{subst, sym, HistoryValue, HistoryStandsFor}
 use Rattle.engine.proofs.history.History.reclaim.Goals as goal
+use Rattle.std.proofs.Common.{ℕ, Bool, List, subst, sym, rules}
+use Rattle.model.specs.History.{Record}
+use Rattle.model.specs.Map.{KeyMap}
+use Rattle.engine.specs.HistoryValue.{HistoryValue, HistoryStandsFor}
 
-pub returns-clause-stands : goal.returns-clause-stands
-returns-clause-stands c held base history h =
-    let before = subst (λ (v : HistoryValue). HistoryStandsFor v held base history) (sym c.self.view_is) h in
-    record { versions = c.reclaim.ensures.stands held base history before.versions; committed = c.forget.ensures.stands_for history before.committed }
-
-pub returns-clause-unmixed : goal.returns-clause-unmixed
-returns-clause-unmixed c held base history h among =
-    let before = subst (λ (v : HistoryValue). HistoryStandsFor v held base history) (sym c.self.view_is) h in
-    c.reclaim.ensures.unmixed held base history before.versions among
+pub returns-clause-reclaims : goal.returns-clause-reclaims
+returns-clause-reclaims c =
+    let before = λ (held : ℕ → Bool) (base : KeyMap) (history : List Record) (h : HistoryStandsFor c.args.self.now held base history).
+    subst (λ (v : HistoryValue). HistoryStandsFor v held base history) (sym c.self.view_is) h in
+    record {
+      stands = λ held base history h. record {
+        versions = c.reclaim.ensures.stands held base history (before held base history h).versions;
+        committed = c.forget.ensures.stands_for history (before held base history h).committed;
+      };
+      last = search rules;
+      oldest = search rules;
+      forgotten = c.forget.ensures.forgotten;
+      unmixed = λ held base history h among. c.reclaim.ensures.unmixed held base history (before held base history h).versions among;
+    }

@@ -1,7 +1,9 @@
-use Rattle.last_readers.proofs.Words.{◌≡◌, ◌+◌, true}
-use Rattle.std.proofs.lemmas.List.Elements.{All-map}
-use Rattle.last_readers.specs.{Inside.run_of, Steps.RunValue, Steps.is_run_from}
 use Rattle.last_readers.proofs.last_readers.LastReaders.forget.Goals as goal
+use Rattle.std.proofs.Common.{◌≡◌, ◌+◌, true}
+use Rattle.std.proofs.lemmas.List.Elements.{All-map}
+use Rattle.last_readers.specs.Inside.{run_of}
+use Rattle.last_readers.specs.Steps.{RunValue, is_run_from}
 
 pub returns-clause-named : goal.returns-clause-named
-returns-clause-named c = All-map (λ (run : RunValue). is_run_from (c.max-self-inside.result + 1) run ≡ true) run_of c.forget.new.self.runs c.forget.ensures.above
+returns-clause-named c =
+    All-map (λ (run : RunValue). is_run_from (c.max-self-inside.result + 1) run ≡ true) run_of c.forget.new.self.runs c.forget.ensures.above

@@ -1,5 +1,5 @@
-use Rattle.last_readers.proofs.StepLaws.{rises_left, rises_right}
 use Rattle.last_readers.proofs.run.ReadRun.number.Goals as goal
+use Rattle.last_readers.proofs.StepLaws.{rises_left, rises_right}
 
 pub number_from-requires : goal.number_from-requires
 number_from-requires c = let r = c.args.self.now in rises_left r.first.items r.made.items r.first_rises

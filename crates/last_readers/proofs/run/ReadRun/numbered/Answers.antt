@@ -1,7 +1,8 @@
-use Rattle.last_readers.proofs.Words.{◌≡◌, ap, ◌∙◌, ◌++◌, true, arith, are_from, steps_rise, number_at}
+use Rattle.last_readers.proofs.run.ReadRun.numbered.Goals as goal
+use Rattle.std.proofs.Common.{◌≡◌, ap, ◌∙◌, ◌++◌, true, arith}
 use Rattle.last_readers.proofs.StepLaws.{renumbered_rises, renumbered_run, in_place_low}
 use Rattle.last_readers.proofs.Sweeps.{renumbered_are_from}
-use Rattle.last_readers.proofs.run.ReadRun.numbered.Goals as goal
+use Rattle.last_readers.specs.Steps.{are_from, steps_rise, number_at}
 
 pub invariant_of-result : goal.invariant_of-result
 invariant_of-result c =
@@ -20,4 +21,6 @@ invariant_of-result c =
     }
 
 pub returns-clause-numbers : goal.returns-clause-numbers
-returns-clause-numbers c = λ k. renumbered_run c.args.number c.new.result.items c.new-2.result.items c.renumber.new.steps.items c.args.ready.steps.items k c.new.ensures.items c.new-2.ensures.items c.renumber.ensures
+returns-clause-numbers c =
+    λ k. renumbered_run c.args.number c.new.result.items c.new-2.result.items c.renumber.new.steps.items c.args.ready.steps.items k c.new.ensures.items
+    c.new-2.ensures.items c.renumber.ensures

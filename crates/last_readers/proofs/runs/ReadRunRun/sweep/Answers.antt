@@ -1,9 +1,10 @@
-use Rattle.last_readers.proofs.Words.{◌≡◌, ◌+◌, ◌++◌, ap, ◌∙◌, arith, Bytes, are_from, cut, merged_at, steps_rise, swept}
-use Rattle.std.proofs.Common.{Some}
+use Rattle.last_readers.proofs.runs.ReadRunRun.sweep.Goals as goal
+use Rattle.std.proofs.Common.{◌≡◌, ◌+◌, ◌++◌, ap, ◌∙◌, arith, Some}
 use Rattle.std.proofs.lemmas.Bool.{and_from}
+use Rattle.model.specs.Map.{Bytes}
 use Rattle.last_readers.proofs.Cuts.{cut_either}
 use Rattle.last_readers.proofs.Sweeps.{cut_again, cut_low, from_swept, merged_swept, rises_swept}
-use Rattle.last_readers.proofs.runs.ReadRunRun.sweep.Goals as goal
+use Rattle.last_readers.specs.Steps.{are_from, cut, merged_at, steps_rise}
 
 pub invariant_of-self : goal.invariant_of-self
 invariant_of-self c =
@@ -13,15 +14,27 @@ invariant_of-self c =
     let first = c.give_room_back.ensures.first ∙ c.sweep.ensures.swept in
     let second = c.give_room_back.ensures.second ∙ c.sweep-2.ensures.swept in
     let made = c.sweep-3.ensures.swept in
-    let merged : (k : Bytes) → merged_at c.give_room_back.new.first.items c.give_room_back.new.second.items c.sweep-3.new.steps.items k ≡ cut o (merged_at was.first.items was.second.items was.made.items k)
+    let merged : (k : Bytes)
+    → merged_at c.give_room_back.new.first.items c.give_room_back.new.second.items c.sweep-3.new.steps.items k
+    ≡ cut o (merged_at was.first.items was.second.items was.made.items k)
     = λ k. (λ i. merged_at (c.give_room_back.ensures.first i) (c.give_room_back.ensures.second i) c.sweep-3.new.steps.items k)
-    ∙ merged_swept o told was.first.items was.second.items was.made.items c.sweep.new.steps.items c.sweep-2.new.steps.items c.sweep-3.new.steps.items k was.first_rises was.second_rises c.sweep.ensures.swept c.sweep-2.ensures.swept made c.told_of-told.ensures in
+    ∙ merged_swept o told was.first.items was.second.items was.made.items c.sweep.new.steps.items c.sweep-2.new.steps.items c.sweep-3.new.steps.items k
+    was.first_rises was.second_rises c.sweep.ensures.swept c.sweep-2.ensures.swept made c.told_of-told.ensures in
     record {
       first_rises = (λ i. steps_rise (first i ++ made i)) ∙ rises_swept o (Some 0) told was.first.items was.made.items was.first_rises;
       second_rises = (λ i. steps_rise (second i ++ made i)) ∙ rises_swept o (Some 0) told was.second.items was.made.items was.second_rises;
-      room = omega (arith, was.room, c.give_room_back.ensures.lens, c.sweep.ensures.len, c.sweep-2.ensures.len, c.sweep-3.ensures.len, c.sweep-3.ensures.capacity);
+      room = omega (
+        arith,
+        was.room,
+        c.give_room_back.ensures.lens,
+        c.sweep.ensures.len,
+        c.sweep-2.ensures.len,
+        c.sweep-3.ensures.len,
+        c.sweep-3.ensures.capacity,
+      );
       upto = λ k. omega (arith, merged k, cut_low o (merged_at was.first.items was.second.items was.made.items k), was.upto k);
-      numbers = (λ i. are_from (o + 1) (first i) (second i) (made i)) ∙ and_from _ _ (from_swept o (Some 0) was.first.items) (and_from _ _ (from_swept o (Some 0) was.second.items) (from_swept o told was.made.items));
+      numbers = (λ i. are_from (o + 1) (first i) (second i) (made i))
+          ∙ and_from _ _ (from_swept o (Some 0) was.first.items) (and_from _ _ (from_swept o (Some 0) was.second.items) (from_swept o told was.made.items));
     }
 
 pub returns-clause-agree : goal.returns-clause-agree
@@ -31,5 +44,6 @@ returns-clause-agree c = λ k.
     cut_either o _ _ 0 (
     ap (cut o)
     ((λ i. merged_at (c.give_room_back.ensures.first i) (c.give_room_back.ensures.second i) c.sweep-3.new.steps.items k)
-    ∙ merged_swept o c.told_of-told.result was.first.items was.second.items was.made.items c.sweep.new.steps.items c.sweep-2.new.steps.items c.sweep-3.new.steps.items k was.first_rises was.second_rises c.sweep.ensures.swept c.sweep-2.ensures.swept c.sweep-3.ensures.swept c.told_of-told.ensures)
+    ∙ merged_swept o c.told_of-told.result was.first.items was.second.items was.made.items c.sweep.new.steps.items c.sweep-2.new.steps.items
+    c.sweep-3.new.steps.items k was.first_rises was.second_rises c.sweep.ensures.swept c.sweep-2.ensures.swept c.sweep-3.ensures.swept c.told_of-told.ensures)
     ∙ cut_again o (merged_at was.first.items was.second.items was.made.items k))

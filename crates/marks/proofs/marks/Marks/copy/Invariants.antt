@@ -1,6 +1,6 @@
+use Rattle.marks.proofs.marks.Marks.copy.Given as goal
 use Rattle.std.proofs.Common.{◌≡◌, take, length}
 use Rattle.marks.specs.Marked.{marks_of}
-use Rattle.marks.proofs.marks.Marks.copy.Given as goal
 
 -- the marks so far are copied
 abbrev pub invariant-loop-mark : goal.invariant-loop-mark

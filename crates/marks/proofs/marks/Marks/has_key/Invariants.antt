@@ -1,7 +1,7 @@
+use Rattle.marks.proofs.marks.Marks.has_key.Given as goal
 use Rattle.std.proofs.Common.{◌≡◌, drop}
 use Rattle.model.specs.PrivateCopy.Mark.{OfKey}
 use Rattle.marks.specs.Marked.{marks_of, has_mark}
-use Rattle.marks.proofs.marks.Marks.has_key.Given as goal
 
 -- what is left of the marks decides
 abbrev pub invariant-loop-mark : goal.invariant-loop-mark

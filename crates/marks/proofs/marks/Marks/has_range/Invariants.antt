@@ -1,6 +1,6 @@
+use Rattle.marks.proofs.marks.Marks.has_range.Given as goal
 use Rattle.std.proofs.Common.{◌≡◌, drop}
 use Rattle.marks.specs.Marked.{marks_of, has_mark, range_mark}
-use Rattle.marks.proofs.marks.Marks.has_range.Given as goal
 
 -- what is left of the marks decides
 abbrev pub invariant-loop-mark : goal.invariant-loop-mark

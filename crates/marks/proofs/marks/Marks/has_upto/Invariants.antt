@@ -1,8 +1,9 @@
+use Rattle.marks.proofs.marks.Marks.has_upto.Given as goal
 use Rattle.std.proofs.Common.{◌≡◌, drop}
 use Rattle.model.specs.PrivateCopy.Mark.{OfClosedRange}
 use Rattle.marks.specs.Marked.{marks_of, has_mark}
-use Rattle.marks.proofs.marks.Marks.has_upto.Given as goal
 
 -- what is left of the marks decides
 abbrev pub invariant-loop-mark : goal.invariant-loop-mark
-invariant-loop-mark l = has_mark (marks_of (drop l.mark-index l.mark-items)) (OfClosedRange l.lo.bytes.now l.last.bytes.now) ≡ has_mark l.self (OfClosedRange l.lo.bytes.now l.last.bytes.now)
+invariant-loop-mark l = has_mark (marks_of (drop l.mark-index l.mark-items)) (OfClosedRange l.lo.bytes.now l.last.bytes.now)
+    ≡ has_mark l.self (OfClosedRange l.lo.bytes.now l.last.bytes.now)

@@ -1,5 +1,7 @@
-use Rattle.merging_runs.proofs.Words.{◌≡◌, left_above, whole_upto}
 use Rattle.merging_runs.proofs.runs.Runs.forget.Given as goal
+use Rattle.std.proofs.Common.{◌≡◌}
+use Rattle.merging_runs.specs.Held.{whole_upto}
+use Rattle.merging_runs.specs.RunSizes.{left_above}
 
 abbrev pub invariant-old : goal.invariant-old
 invariant-old g l = record {

@@ -1,5 +1,7 @@
-use Rattle.merging_runs.proofs.Words.{◌≡◌, ◌≤◌, ◌<◌, ◌+◌, mixed_upto, whole_upto, left_above}
 use Rattle.merging_runs.proofs.runs.Runs.give_back_old.Given as goal
+use Rattle.std.proofs.Common.{◌≡◌, ◌≤◌, ◌<◌, ◌+◌}
+use Rattle.merging_runs.specs.Held.{mixed_upto, whole_upto}
+use Rattle.merging_runs.specs.RunSizes.{left_above}
 
 abbrev pub invariant-runs : goal.invariant-runs
 invariant-runs g l = record {

@@ -1,5 +1,5 @@
-use Rattle.model.proofs.Lookups.{removed_at, removed_none, removal_kept}
 use Rattle.model.proofs.maps.Map.remove.Goals as goal
+use Rattle.model.proofs.Lookups.{removed_at, removed_none, removal_kept}
 
 pub returns-in-Ok : goal.returns-in-Ok
 returns-in-Ok c = removed_at _ _ _ _ _ _ c.self.invariant.0 c.self.view_is c.bytes.ensures.bytes c.in-Ok.ensures.found c.remove.ensures.items

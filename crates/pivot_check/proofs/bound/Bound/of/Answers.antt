@@ -1,6 +1,8 @@
-use Rattle.pivot_check.proofs.Words.{arith, take, list_all_more, is_from_bound}
-use Rattle.pivot_check.proofs.Passing.{more_from}
 use Rattle.pivot_check.proofs.bound.Bound.of.Goals as goal
+use Rattle.std.proofs.Common.{arith, take}
+use Rattle.std.proofs.lemmas.List.Folds.{list_all_more}
+use Rattle.pivot_check.proofs.Passing.{more_from}
+use Rattle.pivot_check.specs.Bounds.{is_from_bound}
 
 pub loop-posting-preserved : goal.loop-posting-preserved
 loop-posting-preserved c =

@@ -1,13 +1,20 @@
-use Rattle.pivot_check.proofs.Words.{◌∙◌, nil_from_length, ◌≡◌, ◌+◌, Bool, sym, ap, subst, arith, last_reader, IsNoted, HasRoom as HasReadersRoom, ReadersRoom, CommittedValue, keys_of, Posting, postings_by, least, lesser, postings_in}
-use Rattle.pivot_check.proofs.{Judging.notes, Judging.upto_own, LastSources.noted_upto, LastSources.noted_above}
 use Rattle.pivot_check.proofs.committed.Committed.add_record.Goals as goal
+use Rattle.std.proofs.Common.{◌∙◌, ◌≡◌, ◌+◌, Bool, sym, ap, subst, arith}
+use Rattle.std.proofs.lemmas.List.{nil_from_length}
+use Rattle.last_readers.specs.Readers.{last_reader, IsNoted, HasRoom as HasReadersRoom, ReadersRoom}
+use Rattle.pivot_check.proofs.Judging.{notes, upto_own}
+use Rattle.pivot_check.proofs.LastSources.{noted_upto, noted_above}
+use Rattle.pivot_check.specs.Inside.{postings_in}
+use Rattle.pivot_check.specs.Kept.{CommittedValue, keys_of}
+use Rattle.pivot_check.specs.Postings.{Posting, postings_by, least, lesser}
 
 -- what was made ready has the keys of the transaction
 keys : (c : goal.After-self-1) → c.in-Some.ready.keys.items ≡ keys_of c.args.tx.now.writes
 keys c = grind (arith, c.requires.room.2)
 
 noted : (c : goal.After-self-1) → IsNoted c.args.tx.now.marks c.args.n c.self.inside.readers.readers c.note.new.self.readers
-noted c = c.note.ensures.noted c.args.tx.now.marks (subst (λ (r : ReadersRoom). HasReadersRoom c.args.tx.now.marks r) (ap (λ (v : CommittedValue). v.room.readers) (sym c.self.view_is)) c.requires.room.0)
+noted c = c.note.ensures.noted c.args.tx.now.marks
+    (subst (λ (r : ReadersRoom). HasReadersRoom c.args.tx.now.marks r) (ap (λ (v : CommittedValue). v.room.readers) (sym c.self.view_is)) c.requires.room.0)
 
 read : (c : goal.After-self-1) → IsNoted c.args.tx.now.marks c.args.n c.args.self.now.facts.readers c.note.new.self.readers
 read c = λ k. grind (arith, noted c k)
@@ -15,10 +22,18 @@ read c = λ k. grind (arith, noted c k)
 added : (c : goal.After-self-1) (t : Posting → Bool) → least t (postings_in c.add_run.new.runs.runs)
     ≡ lesser (least t c.args.self.now.facts.postings) (least t (postings_by c.args.n c.args.cleared.has_earlier_target c.in-Some.ready.keys.items))
 added c t =
-    grind (arith, c.has_earlier_target.ensures, c.add_run.ensures.same t, c.add_all.ensures.added t, nil_from_length c.in-Some.ready.places.items c.in-Some.ready.none)
+    grind (
+      arith,
+      c.has_earlier_target.ensures,
+      c.add_run.ensures.same t,
+      c.add_all.ensures.added t,
+      nil_from_length c.in-Some.ready.places.items c.in-Some.ready.none,
+    )
 
 pub add_run-requires-clause-upto : goal.add_run-requires-clause-upto
-add_run-requires-clause-upto c = upto_own c.args.n c.has_earlier_target.result c.in-Some.ready.keys.items c.in-Some.ready.places.items c.add_all.new.postings.items c.in-Some.ready.none c.add_all.ensures.added
+add_run-requires-clause-upto c =
+    upto_own c.args.n c.has_earlier_target.result c.in-Some.ready.keys.items c.in-Some.ready.places.items c.add_all.new.postings.items c.in-Some.ready.none
+    c.add_all.ensures.added
 
 pub returns-clause-stands_for : goal.returns-clause-stands_for
 returns-clause-stands_for c = λ reach h s r own.
@@ -35,6 +50,8 @@ invariant_of-self c =
       order = omega (arith, n_is, c.self.invariant.order);
       forgotten = omega (arith, n_is, c.self.invariant.forgotten, c.note.ensures.oldest);
       together = c.note.ensures.oldest ∙ c.self.invariant.together;
-      upto = noted_upto (last_reader c.self.inside.readers.readers) (last_reader c.note.new.self.readers) c.args.tx.now.marks c.self.inside.last c.args.n n_is c.self.invariant.upto (noted c);
-      above = noted_above (last_reader c.self.inside.readers.readers) (last_reader c.note.new.self.readers) c.args.tx.now.marks c.self.inside.oldest c.args.n (omega (arith, n_is, c.self.invariant.order)) c.self.invariant.above (noted c);
+      upto = noted_upto (last_reader c.self.inside.readers.readers) (last_reader c.note.new.self.readers) c.args.tx.now.marks c.self.inside.last c.args.n n_is
+          c.self.invariant.upto (noted c);
+      above = noted_above (last_reader c.self.inside.readers.readers) (last_reader c.note.new.self.readers) c.args.tx.now.marks c.self.inside.oldest c.args.n
+          (omega (arith, n_is, c.self.invariant.order)) c.self.invariant.above (noted c);
     }

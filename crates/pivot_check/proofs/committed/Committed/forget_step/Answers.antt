@@ -1,24 +1,40 @@
-use Rattle.pivot_check.proofs.Words.{◌≡◌, ◌∙◌, sym, subst, arith, Bytes, last_reader, Facts, CommittedValue, postings_in, StandsFor}
-use Rattle.last_readers.specs.Readers.{NameNoneUpto}
-use Rattle.pivot_check.proofs.{Judging.forgotten, LastSources.cut_later, Sweeps.later_in_runs}
 use Rattle.pivot_check.proofs.committed.Committed.forget_step.Goals as goal
+use Rattle.std.proofs.Common.{◌≡◌, ◌∙◌, sym, subst, arith}
+use Rattle.model.specs.Map.{Bytes}
+use Rattle.last_readers.specs.Readers.{last_reader, NameNoneUpto}
+use Rattle.pivot_check.proofs.Judging.{forgotten}
+use Rattle.pivot_check.proofs.LastSources.{cut_later}
+use Rattle.pivot_check.proofs.Sweeps.{later_in_runs}
 use Rattle.pivot_check.proofs.committed.Committed.forget_step.Goals.{then-are_readers_due, else-are_readers_due}
+use Rattle.pivot_check.specs.Inside.{postings_in}
+use Rattle.pivot_check.specs.Kept.{Facts, CommittedValue}
+use Rattle.pivot_check.specs.StandsFor.{StandsFor}
 
 pub returns-clause-stands_for : goal.returns-clause-stands_for
 returns-clause-stands_for c = λ h s.
-    let f : Facts = record { readers = c.self.inside.readers.readers; postings = postings_in c.self.inside.runs.runs; oldest = c.self.inside.oldest; last = c.self.inside.last } in
+    let f : Facts = record {
+      readers = c.self.inside.readers.readers;
+      postings = postings_in c.self.inside.runs.runs;
+      oldest = c.self.inside.oldest;
+      last = c.self.inside.last;
+    } in
     let was : StandsFor f h = subst (λ (v : CommittedValue). StandsFor v.facts h) (sym c.self.view_is) s in
     let after = c.forget_step-are_readers_due.new.self.readers in
-    let cut_to = λ (k : Bytes). cut_later c.self.inside.oldest c.args.oldest (last_reader f.readers k) (last_reader after k) (c.self.invariant.above k) (c.forget_step-are_readers_due.ensures.forgotten k) in
-    forgotten f h was c.max-self-inside.result (omega (arith, c.max-self-inside.ensures)) after (λ k. grind (arith, cut_to k)) (postings_in c.forget_step-are_runs_due.new.self.runs) c.forget_step-are_runs_due.ensures.agree
+    let cut_to = λ (k : Bytes). cut_later c.self.inside.oldest c.args.oldest (last_reader f.readers k) (last_reader after k) (c.self.invariant.above k)
+    (c.forget_step-are_readers_due.ensures.forgotten k) in
+    forgotten f h was c.max-self-inside.result (omega (arith, c.max-self-inside.ensures)) after (λ k. grind (arith, cut_to k))
+    (postings_in c.forget_step-are_runs_due.new.self.runs) c.forget_step-are_runs_due.ensures.agree
 
 pub returns-clause-kept : goal.returns-clause-kept
 returns-clause-kept c = λ none. elim c.if-are_readers_due.branch [
   | then-are_readers_due w ↦ let is = w.result-is in absurd cc
   | else-are_readers_due w ↦
-      let same : c.forget_step-are_readers_due.new.self.readers.oldest ≡ c.max-self-inside.result = omega (arith, c.forget_step-are_readers_due.ensures.oldest, c.max-self-inside.ensures, c.self.invariant.together) in
+      let same : c.forget_step-are_readers_due.new.self.readers.oldest ≡ c.max-self-inside.result =
+      omega (arith, c.forget_step-are_readers_due.ensures.oldest, c.max-self-inside.ensures, c.self.invariant.together) in
       record {
-        written = later_in_runs c.max-self-inside.result c.forget_step-are_runs_due.new.self.runs (c.forget_step-are_runs_due.ensures.above (sym w.result-is ∙ none));
-        readers = subst (λ n. NameNoneUpto n c.forget_step-are_readers_due.new.self.readers) same (c.forget_step-are_readers_due.ensures.named w.if-are_readers_due.false);
+        written = later_in_runs c.max-self-inside.result c.forget_step-are_runs_due.new.self.runs
+            (c.forget_step-are_runs_due.ensures.above (sym w.result-is ∙ none));
+        readers = subst (λ n. NameNoneUpto n c.forget_step-are_readers_due.new.self.readers) same
+            (c.forget_step-are_readers_due.ensures.named w.if-are_readers_due.false);
       }
 ]

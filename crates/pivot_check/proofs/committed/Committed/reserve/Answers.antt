@@ -1,6 +1,7 @@
-use Rattle.pivot_check.proofs.Words.{refl, ap, CommittedValue}
-use Rattle.pivot_check.proofs.SameHistories.{same_from}
 use Rattle.pivot_check.proofs.committed.Committed.reserve.Goals as goal
+use Rattle.std.proofs.Common.{refl, ap}
+use Rattle.pivot_check.proofs.SameHistories.{same_from}
+use Rattle.pivot_check.specs.Kept.{CommittedValue}
 
 pub returns-in_err-reserve-2-clause-same : goal.returns-in_err-reserve-2-clause-same
 returns-in_err-reserve-2-clause-same c =

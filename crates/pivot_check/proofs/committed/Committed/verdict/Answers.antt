@@ -1,7 +1,11 @@
-use Rattle.pivot_check.proofs.Words.{ap, ◌∙◌, position, CommittedValue, IsInReach, postings_in}
-use Rattle.pivot_check.specs.{Index.is_written_since, StandsFor.IsVerdict}
-use Rattle.pivot_check.proofs.Judging.{clears, says_overwritten, says_found}
 use Rattle.pivot_check.proofs.committed.Committed.verdict.Goals as goal
+use Rattle.std.proofs.Common.{ap, ◌∙◌}
+use Rattle.std.specs.List.{position}
+use Rattle.pivot_check.proofs.Judging.{clears, says_overwritten, says_found}
+use Rattle.pivot_check.specs.Index.{is_written_since}
+use Rattle.pivot_check.specs.Inside.{postings_in}
+use Rattle.pivot_check.specs.Kept.{CommittedValue, IsInReach}
+use Rattle.pivot_check.specs.StandsFor.{IsVerdict}
 
 pub returns-in-Some-clause-verdict : goal.returns-in-Some-clause-verdict
 returns-in-Some-clause-verdict c = λ reach h s r own.

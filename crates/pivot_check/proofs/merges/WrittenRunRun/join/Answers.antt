@@ -1,9 +1,12 @@
-use Rattle.pivot_check.proofs.Words.{◌≡◌, ◌++◌, ℕ, true, length, subst, sym, ap, ◌∙◌, arith, nat_lt, Posting, keys_rise, are_upto, live, left, live_in, in_run}
-use Rattle.std.specs.Prelude.{◌&&◌}
+use Rattle.pivot_check.proofs.merges.WrittenRunRun.join.Goals as goal
+use Rattle.std.proofs.Common.{◌≡◌, ◌++◌, ℕ, true, length, subst, sym, ap, ◌∙◌, arith}
+use Rattle.std.specs.Prelude.{nat_lt, ◌&&◌}
 use Rattle.std.specs.Vec.{vec_capacity}
 use Rattle.pivot_check.proofs.Joined.{both_agree, joined, both_upto, none_left}
+use Rattle.pivot_check.specs.Inside.{in_run}
+use Rattle.pivot_check.specs.Parts.{live, left, live_in}
+use Rattle.pivot_check.specs.Postings.{Posting, keys_rise, are_upto}
 use Rattle.pivot_check.specs.declared.part.Part.{Part}
-use Rattle.pivot_check.proofs.merges.WrittenRunRun.join.Goals as goal
 
 pub invariant_of-self : goal.invariant_of-self
 invariant_of-self c =
@@ -21,7 +24,8 @@ invariant_of-self c =
       second_rises = (λ i. keys_rise (nothing i ++ live more.made)) ∙ more.made.rising;
       room = omega (arith, empty, ap left value, ap (λ (p : Part). vec_capacity p.written) after, c.requires.room.1);
       upto = subst (λ (n : ℕ). are_upto n (live_in made first more.made) ≡ true) (sym c.max-self.ensures)
-          (both_upto was.last more.last (in_run was) (in_run more) (live_in made first more.made) was.upto more.upto (λ t. joined t was more made first c.requires.first c.requires.second none value));
+          (both_upto was.last more.last (in_run was) (in_run more) (live_in made first more.made) was.upto more.upto
+          (λ t. joined t was more made first c.requires.first c.requires.second none value));
     }
 
 pub returns-clause-agree : goal.returns-clause-agree
@@ -30,4 +34,5 @@ returns-clause-agree c = λ o t.
     let was = c.args.self.now in
     let more = c.args.second in
     let none : left c.replace.new.dest ≡ 0 = ap left c.replace.ensures.after ∙ omega (arith, c.requires.room.0) in
-    both_agree above was more (live_in c.replace.new.dest c.replace.result more.made) (joined above was more c.replace.new.dest c.replace.result c.requires.first c.requires.second none c.replace.ensures.value)
+    both_agree above was more (live_in c.replace.new.dest c.replace.result more.made)
+    (joined above was more c.replace.new.dest c.replace.result c.requires.first c.requires.second none c.replace.ensures.value)

@@ -1,7 +1,8 @@
-use Rattle.std.specs.Prelude.{nat_lt, ◌&&◌}
-use Rattle.pivot_check.proofs.Words.{◌∙◌, Posting}
-use Rattle.pivot_check.proofs.Joined.{same_agrees}
 use Rattle.pivot_check.proofs.merges.WrittenRunRun.move_one.Goals as goal
+use Rattle.std.proofs.Common.{◌∙◌}
+use Rattle.std.specs.Prelude.{nat_lt, ◌&&◌}
+use Rattle.pivot_check.proofs.Joined.{same_agrees}
+use Rattle.pivot_check.specs.Postings.{Posting}
 
 pub returns-clause-agree : goal.returns-clause-agree
 returns-clause-agree c = λ t.

@@ -1,7 +1,12 @@
-use Rattle.pivot_check.proofs.Words.{◌≡◌, ◌≤◌, ◌++◌, [], ◌&&◌, List, length, ap, sym, ◌∙◌, arith, nat_lt, Posting, keys_rise, least, least-append, lesser_none, are_upto, in_run, live, left, live_in}
+use Rattle.pivot_check.proofs.merges.WrittenRunRun.sweep.Goals as goal
+use Rattle.std.proofs.Common.{◌≡◌, ◌≤◌, ◌++◌, [], ◌&&◌, List, length, ap, sym, ◌∙◌, arith}
+use Rattle.std.specs.Prelude.{nat_lt}
 use Rattle.merging_runs.specs.RunSizes.{RunSize}
 use Rattle.pivot_check.proofs.Sweeps.{all_parts, asked_later, both_rise, fewer_in, fewer_left, upto_later}
-use Rattle.pivot_check.proofs.merges.WrittenRunRun.sweep.Goals as goal
+use Rattle.pivot_check.specs.Agreeing.{least-append, lesser_none}
+use Rattle.pivot_check.specs.Inside.{in_run}
+use Rattle.pivot_check.specs.Parts.{live, left, live_in}
+use Rattle.pivot_check.specs.Postings.{Posting, keys_rise, least, are_upto}
 
 pub invariant_of-self : goal.invariant_of-self
 invariant_of-self c =
@@ -13,12 +18,22 @@ invariant_of-self c =
     record {
       first_rises = (λ i. keys_rise (made i ++ first i)) ∙ both_rise o (live was.made) (live was.first) was.first_rises;
       second_rises = (λ i. keys_rise (made i ++ second i)) ∙ both_rise o (live was.made) (live was.second) was.second_rises;
-      room = omega (arith, was.room, fewer_left o was.first c.sweep.new.self first, fewer_left o was.second c.sweep-2.new.self second, fewer_in o was.made c.sweep-3.new.self c.sweep-3.ensures.written, c.sweep-3.ensures.capacity);
-      upto = ap (are_upto was.last) (all_parts o (live was.made) (live was.first) (live was.second) (live c.sweep-3.new.self) (live c.sweep.new.self) (live c.sweep-2.new.self) made first second) ∙ upto_later was.last o (in_run was) was.upto;
+      room = omega (
+        arith,
+        was.room,
+        fewer_left o was.first c.sweep.new.self first,
+        fewer_left o was.second c.sweep-2.new.self second,
+        fewer_in o was.made c.sweep-3.new.self c.sweep-3.ensures.written,
+        c.sweep-3.ensures.capacity,
+      );
+      upto = ap (are_upto was.last)
+          (all_parts o (live was.made) (live was.first) (live was.second) (live c.sweep-3.new.self) (live c.sweep.new.self) (live c.sweep-2.new.self) made first
+          second) ∙ upto_later was.last o (in_run was) was.upto;
     }
 
 pub returns-clause-from : goal.returns-clause-from
-returns-clause-from c = c.give_room_back.ensures.from c.args.oldest (omega arith) (omega (arith, c.sweep.ensures.number, c.sweep-2.ensures.number, c.sweep-3.ensures.number))
+returns-clause-from c = c.give_room_back.ensures.from c.args.oldest (omega arith)
+    (omega (arith, c.sweep.ensures.number, c.sweep-2.ensures.number, c.sweep-3.ensures.number))
 
 pub returns-clause-agree : goal.returns-clause-agree
 returns-clause-agree c = λ t.
@@ -27,7 +42,8 @@ returns-clause-agree c = λ t.
     let above = λ (p : Posting). nat_lt o p.number && t p in
     let one = λ (ps : List Posting). least-append above ps [] ∙ lesser_none (least above ps) in
     one (in_run c.give_room_back.new.run) ∙ c.give_room_back.ensures.same above
-    ∙ ap (least above) (all_parts o (live was.made) (live was.first) (live was.second) (live c.sweep-3.new.self) (live c.sweep.new.self) (live c.sweep-2.new.self) c.sweep-3.ensures.left c.sweep.ensures.left c.sweep-2.ensures.left)
+    ∙ ap (least above) (all_parts o (live was.made) (live was.first) (live was.second) (live c.sweep-3.new.self) (live c.sweep.new.self)
+    (live c.sweep-2.new.self) c.sweep-3.ensures.left c.sweep.ensures.left c.sweep-2.ensures.left)
     ∙ asked_later o t (in_run was) ∙ sym (one (in_run was))
 
 pub returns-clause-swept : goal.returns-clause-swept
@@ -37,7 +53,12 @@ returns-clause-swept c =
     let sizes = c.give_room_back.ensures.sizes in
     record {
       last = ap (λ (s : RunSize). s.last) sizes;
-      left = omega (arith, ap (λ (s : RunSize). s.left) sizes, fewer_left o was.first c.sweep.new.self c.sweep.ensures.left, fewer_left o was.second c.sweep-2.new.self c.sweep-2.ensures.left);
+      left = omega (
+        arith,
+        ap (λ (s : RunSize). s.left) sizes,
+        fewer_left o was.first c.sweep.new.self c.sweep.ensures.left,
+        fewer_left o was.second c.sweep-2.new.self c.sweep-2.ensures.left,
+      );
       made = omega (arith, ap (λ (s : RunSize). s.made) sizes, fewer_left o was.made c.sweep-3.new.self c.sweep-3.ensures.left);
     }
 

@@ -1,6 +1,7 @@
-use Rattle.pivot_check.proofs.Words.{◌≡◌, ◌+◌, ◌-◌, ◌*◌, take, drop, sym, ◌∙◌, arith, are_from_bound}
-use Rattle.pivot_check.proofs.Passing.{next_bound}
 use Rattle.pivot_check.proofs.part.Part.add_bound.Goals as goal
+use Rattle.std.proofs.Common.{◌≡◌, ◌+◌, ◌-◌, ◌*◌, take, drop, sym, ◌∙◌, arith}
+use Rattle.pivot_check.proofs.Passing.{next_bound}
+use Rattle.pivot_check.specs.Bounds.{are_from_bound}
 
 pub invariant_of-self : goal.invariant_of-self
 invariant_of-self c =
@@ -14,6 +15,15 @@ invariant_of-self c =
       within = part.within;
       rising = part.rising;
       bounded = part.bounded;
-      blocks = next_bound part.bounds.items c.push_reserved.new.self.items ps n c.of.result c.push_reserved.ensures.items (omega (arith, part.bounds.ok.0, c.len-first.ensures)) own part.blocks;
-      whole = omega (arith, part.written.ok.0, part.bounds.ok.0, c.len-first.ensures, c.len.ensures, c.push_reserved.ensures.len, c.push_reserved.new.self.ok.0);
+      blocks = next_bound part.bounds.items c.push_reserved.new.self.items ps n c.of.result c.push_reserved.ensures.items
+          (omega (arith, part.bounds.ok.0, c.len-first.ensures)) own part.blocks;
+      whole = omega (
+        arith,
+        part.written.ok.0,
+        part.bounds.ok.0,
+        c.len-first.ensures,
+        c.len.ensures,
+        c.push_reserved.ensures.len,
+        c.push_reserved.new.self.ok.0,
+      );
     }

@@ -1,9 +1,9 @@
-use Rattle.pivot_check.proofs.Words.{◌≡◌, ◌<◌, ◌∙◌, length, arith}
+use Rattle.pivot_check.proofs.part.Part.add_bounds.Goals as goal
+use Rattle.std.proofs.Common.{◌≡◌, ◌<◌, ◌∙◌, length, arith}
 use Rattle.std.specs.Prelude.{◌/◌}
 use Rattle.std.specs.Vec.{vec_capacity}
-use Rattle.pivot_check.specs.Bounds.{bound_count}
 use Rattle.pivot_check.proofs.Sweeps.{counted_more}
-use Rattle.pivot_check.proofs.part.Part.add_bounds.Goals as goal
+use Rattle.pivot_check.specs.Bounds.{bound_count}
 
 pub loop-block-preserved : goal.loop-block-preserved
 loop-block-preserved c =

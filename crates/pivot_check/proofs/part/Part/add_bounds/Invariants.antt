@@ -1,6 +1,7 @@
-use Rattle.pivot_check.proofs.Words.{◌≡◌, length, min}
-use Rattle.std.specs.Vec.{vec_capacity}
 use Rattle.pivot_check.proofs.part.Part.add_bounds.Given as goal
+use Rattle.std.proofs.Common.{◌≡◌, length}
+use Rattle.std.specs.Prelude.{min}
+use Rattle.std.specs.Vec.{vec_capacity}
 
 abbrev pub invariant-loop-block : goal.invariant-loop-block
 invariant-loop-block l = record {

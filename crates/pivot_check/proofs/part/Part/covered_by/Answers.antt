@@ -1,5 +1,6 @@
-use Rattle.pivot_check.proofs.Words.{arith, drop-drop, take_rest}
 use Rattle.pivot_check.proofs.part.Part.covered_by.Goals as goal
+use Rattle.std.proofs.Common.{arith}
+use Rattle.std.proofs.lemmas.List.{drop-drop, take_rest}
 
 pub returns-clause-covered : goal.returns-clause-covered
 returns-clause-covered c = λ t.

@@ -1,6 +1,9 @@
-use Rattle.pivot_check.proofs.Words.{◌≡◌, ◌*◌, ◌+◌, arith, max, min, is_asked, between, lesser_assoc, least-append}
-use Rattle.pivot_check.proofs.Passing.{split_at}
 use Rattle.pivot_check.proofs.part.Part.least_between.Goals as goal
+use Rattle.std.proofs.Common.{◌≡◌, ◌*◌, ◌+◌, arith}
+use Rattle.std.specs.Prelude.{max, min}
+use Rattle.pivot_check.proofs.Passing.{split_at}
+use Rattle.pivot_check.specs.Agreeing.{lesser_assoc, least-append}
+use Rattle.pivot_check.specs.Postings.{is_asked, between}
 
 pub loop-block-preserved : goal.loop-block-preserved
 loop-block-preserved c =

@@ -1,10 +1,12 @@
-use Rattle.pivot_check.proofs.Words.{◌≡◌, ◌-◌, ◌≤◌, length, take, drop, ap, sym, ◌∙◌, arith, rules, keys_rise, are_from_bound, min}
-use Rattle.std.proofs.lemmas.Fn.{filter_same}
-use Rattle.std.specs.Prelude.{◌/◌, count_by, nat_lt}
-use Rattle.std.specs.Vec.{vec_capacity}
-use Rattle.pivot_check.specs.{declared.bound.Bound.Bound, Postings.Posting, Postings.later_than}
-use Rattle.pivot_check.proofs.Sweeps.{bound_later, later_from, later_within, rises_later}
 use Rattle.pivot_check.proofs.part.Part.sweep.Goals as goal
+use Rattle.std.proofs.Common.{◌≡◌, ◌-◌, ◌≤◌, length, take, drop, ap, sym, ◌∙◌, arith, rules}
+use Rattle.std.proofs.lemmas.Fn.{filter_same}
+use Rattle.std.specs.Prelude.{min, ◌/◌, count_by, nat_lt}
+use Rattle.std.specs.Vec.{vec_capacity}
+use Rattle.pivot_check.proofs.Sweeps.{bound_later, later_from, later_within, rises_later}
+use Rattle.pivot_check.specs.Bounds.{are_from_bound}
+use Rattle.pivot_check.specs.Postings.{keys_rise, Posting, later_than}
+use Rattle.pivot_check.specs.declared.bound.Bound.{Bound}
 
 pub invariant_of-self : goal.invariant_of-self
 invariant_of-self c =
@@ -12,7 +14,8 @@ invariant_of-self c =
     let o = c.args.oldest in
     let ps = part.written.items in
     let n = c.count_later-start.result in
-    let counted : n ≡ count_by (λ (p : Posting). nat_lt o p.number) (take part.start ps) = c.count_later-start.ensures ∙ (λ i. count_by (λ (p : Posting). nat_lt o p.number) (take part.start (c.deref.ensures.value i))) in
+    let counted : n ≡ count_by (λ (p : Posting). nat_lt o p.number) (take part.start ps) =
+    c.count_later-start.ensures ∙ (λ i. count_by (λ (p : Posting). nat_lt o p.number) (take part.start (c.deref.ensures.value i))) in
     let kept : c.retain.new.self.items ≡ later_than o ps = filter_same _ _ _ (λ x b f' k. search rules) _ _ c.retain.ensures.filtered in
     record {
       within = omega (arith, later_within o part.start n ps counted, ap length kept);
@@ -32,7 +35,8 @@ returns-clause-left c =
     let o = c.args.oldest in
     let ps = part.written.items in
     let n = c.count_later-start.result in
-    let counted : n ≡ count_by (λ (p : Posting). nat_lt o p.number) (take part.start ps) = c.count_later-start.ensures ∙ (λ i. count_by (λ (p : Posting). nat_lt o p.number) (take part.start (c.deref.ensures.value i))) in
+    let counted : n ≡ count_by (λ (p : Posting). nat_lt o p.number) (take part.start ps) =
+    c.count_later-start.ensures ∙ (λ i. count_by (λ (p : Posting). nat_lt o p.number) (take part.start (c.deref.ensures.value i))) in
     let kept : c.retain.new.self.items ≡ later_than o ps = filter_same _ _ _ (λ x b f' k. search rules) _ _ c.retain.ensures.filtered in
     (λ i. drop (c.add_bounds.ensures.start i) (c.add_bounds.ensures.written i).items) ∙ ap (drop n) kept ∙ later_from o part.start n ps counted
 

@@ -1,6 +1,9 @@
-use Rattle.pivot_check.proofs.Words.{◌+◌, ◌*◌, drop, ap, sym, ◌∙◌, arith, drop-drop, drop-set-lt, length-set, Posting, keys_rise}
-use Rattle.pivot_check.proofs.{Walks.rest_rises, Passing.set_from, Passing.set_all}
 use Rattle.pivot_check.proofs.part.Part.take_first.Goals as goal
+use Rattle.std.proofs.Common.{◌+◌, ◌*◌, drop, ap, sym, ◌∙◌, arith}
+use Rattle.std.proofs.lemmas.List.{drop-drop, drop-set-lt, length-set}
+use Rattle.pivot_check.proofs.Passing.{set_from, set_all}
+use Rattle.pivot_check.proofs.Walks.{rest_rises}
+use Rattle.pivot_check.specs.Postings.{Posting, keys_rise}
 
 pub invariant_of-self : goal.invariant_of-self
 invariant_of-self c =

@@ -1,5 +1,6 @@
-use Rattle.pivot_check.proofs.Words.{arith, lesser_assoc, least-append}
 use Rattle.pivot_check.proofs.run.WrittenRun.least.Goals as goal
+use Rattle.std.proofs.Common.{arith}
+use Rattle.pivot_check.specs.Agreeing.{lesser_assoc, least-append}
 
 pub returns : goal.returns
 returns c = grind (arith, lesser_assoc, least-append)

@@ -1,6 +1,6 @@
+use Rattle.sector.proofs.device.Sectors.write_sectors.Goals as goal
 use Rattle.std.proofs.Common.{◌≡◌, ◌≢◌, ◌∙◌, ◌-◌, ◌+◌, ◌*◌, ℕ, take, drop, ap, arith}
 use Rattle.sector.proofs.Runs.{elapses_on, writes_on, written_more}
-use Rattle.sector.proofs.device.Sectors.write_sectors.Goals as goal
 
 pub returns-in_err-write-clause-others : goal.returns-in_err-write-clause-others
 returns-in_err-write-clause-others g c keeps i s outside read =
@@ -23,7 +23,8 @@ loop-k-preserved g c = record {
   written = λ keeps.
       let len : (512 * c.loop-k.k + 512) - 512 * c.loop-k.k ≡ 512 = omega arith in
       written_more c.args.at c.loop-k.k _ _ _ (c.loop-k.invariant.written keeps) (c.write.ensures.others keeps)
-      (λ s read. c.in_ok-write.ensures.written keeps s read ∙ c.copy_from_slice.ensures.after ∙ ap (λ (n : ℕ). take n (drop (512 * c.loop-k.k) c.args.from.now)) len);
+      (λ s read. c.in_ok-write.ensures.written keeps s read ∙ c.copy_from_slice.ensures.after
+      ∙ ap (λ (n : ℕ). take n (drop (512 * c.loop-k.k) c.args.from.now)) len);
   others = λ keeps i s outside read.
       let other : i ≢ c.args.at + c.loop-k.k = omega (arith, outside) in
       c.loop-k.invariant.others keeps i s outside (c.write.ensures.others keeps i s other read);

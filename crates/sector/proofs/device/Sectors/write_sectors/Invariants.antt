@@ -1,13 +1,18 @@
-use Rattle.sector.proofs.Words.{◌≡◌, ◌<◌, ◌+◌, ◌/◌, ℕ, List, length, Elapses, FollowsWrites, IsOutside, sector_in}
-use Rattle.sector.specs.Failures.{StayedOver}
 use Rattle.sector.proofs.device.Sectors.write_sectors.Given as goal
+use Rattle.std.proofs.Common.{◌≡◌, ◌<◌, ◌+◌, ◌/◌, ℕ, List, length}
+use Rattle.sector.specs.Failures.{StayedOver}
+use Rattle.sector.specs.SectorModel.{Elapses, FollowsWrites, IsOutside, sector_in}
 
 abbrev pub invariant-loop-k : goal.invariant-loop-k
 invariant-loop-k g l = record {
   size : g.Self.Sectors.size l.self ≡ g.Self.Sectors.size l.fn.self;
   failures : StayedOver l.k (g.Self.Sectors.failures l.fn.self) (g.Self.Sectors.failures l.self);
   written : g.Self.Sectors.keeps_model → (j : ℕ) (s : List ℕ) → j < l.k → g.Self.Sectors.may_read l.self (l.at + j) s → s ≡ sector_in l.from j;
-  others : g.Self.Sectors.keeps_model → (i : ℕ) (s : List ℕ) → IsOutside l.at (length l.from / 512) i → g.Self.Sectors.may_read l.self i s → g.Self.Sectors.may_read l.fn.self i s;
-  crash : g.Self.Sectors.keeps_model → (c : List (List ℕ)) → g.Self.Sectors.may_leave l.self c → FollowsWrites l.at (length l.from / 512) (g.Self.Sectors.may_leave l.fn.self) c;
-  time : g.Self.Sectors.keeps_model → Elapses (g.Self.Sectors.moment l.fn.self) (g.Self.Sectors.moment l.self) (g.Self.Sectors.left_since l.fn.self) (g.Self.Sectors.left_since l.self) (FollowsWrites l.at (length l.from / 512) (g.Self.Sectors.may_leave l.fn.self));
+  others : g.Self.Sectors.keeps_model → (i : ℕ) (s : List ℕ) → IsOutside l.at (length l.from / 512) i → g.Self.Sectors.may_read l.self i s
+      → g.Self.Sectors.may_read l.fn.self i s;
+  crash : g.Self.Sectors.keeps_model → (c : List (List ℕ)) → g.Self.Sectors.may_leave l.self c
+      → FollowsWrites l.at (length l.from / 512) (g.Self.Sectors.may_leave l.fn.self) c;
+  time : g.Self.Sectors.keeps_model
+      → Elapses (g.Self.Sectors.moment l.fn.self) (g.Self.Sectors.moment l.self) (g.Self.Sectors.left_since l.fn.self) (g.Self.Sectors.left_since l.self)
+      (FollowsWrites l.at (length l.from / 512) (g.Self.Sectors.may_leave l.fn.self));
 }

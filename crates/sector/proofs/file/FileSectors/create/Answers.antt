@@ -1,7 +1,7 @@
-use Rattle.std.proofs.Common.{rules}
-use Rattle.sector.specs.FileOpening.{WasMadeOfZeros}
-use Rattle.sector.proofs.MadeOfZeros.{made_of_zeros}
 use Rattle.sector.proofs.file.FileSectors.create.Goals as goal
+use Rattle.std.proofs.Common.{rules}
+use Rattle.sector.proofs.MadeOfZeros.{made_of_zeros}
+use Rattle.sector.specs.FileOpening.{WasMadeOfZeros}
 
 pub returns-in-Ok-clause-zeros : goal.returns-in-Ok-clause-zeros
 returns-in-Ok-clause-zeros g c keeps =

@@ -1,17 +1,22 @@
-use Rattle.sector.proofs.Words.{rules, arith, ℕ, List, ◌≡◌, true, length, Bool, add-zero, subst, sym, ◌∙◌, common_steps, FollowsWrite}
-use Rattle.file_calls.specs.{OpenFacts.may_read, OpenFacts.may_leave, OpenFacts.next, declared.counted.CountedFile.CountedFile}
-use Rattle.sector.specs.FileModel.{FileKeepsModel, ReadKeeps, WriteKeeps}
-use Rattle.sector.proofs.OneSector.{sole_sector, one_write}
 use Rattle.sector.proofs.file.FileSectorsSectors.TheImpl.Goals as goal
+use Rattle.std.proofs.Common.{rules, arith, ℕ, List, ◌≡◌, true, length, Bool, add-zero, subst, sym, ◌∙◌}
+use Rattle.std.proofs.lemmas.Grind.{common_steps}
+use Rattle.file_calls.specs.OpenFacts.{may_read, may_leave, next}
+use Rattle.file_calls.specs.declared.counted.CountedFile.{CountedFile}
+use Rattle.sector.proofs.OneSector.{sole_sector, one_write}
+use Rattle.sector.specs.FileModel.{FileKeepsModel, ReadKeeps, WriteKeeps}
+use Rattle.sector.specs.SectorModel.{FollowsWrite}
 
 read_one : (f : CountedFile) (at : ℕ) (bytes : List ℕ) (ok : Bool) → length bytes ≡ 512 → ReadKeeps f at bytes ok → ok ≡ true → may_read f at bytes
 read_one f at bytes ok long keeps was = rw (sole_sector bytes long) at (rw add-zero at (keeps.gives was 0 (omega arith)))
 
-written_one : (f : CountedFile) (at : ℕ) (bytes : List ℕ) (ok : Bool) → length bytes ≡ 512 → WriteKeeps f at bytes ok → ok ≡ true → (s : List ℕ) → may_read (next f) at s → s ≡ bytes
+written_one : (f : CountedFile) (at : ℕ) (bytes : List ℕ) (ok : Bool) → length bytes ≡ 512 → WriteKeeps f at bytes ok → ok ≡ true → (s : List ℕ)
+    → may_read (next f) at s → s ≡ bytes
 written_one f at bytes ok long keeps was s read =
     keeps.written was 0 s (omega arith) (subst (λ (i : ℕ). may_read (next f) i s) (sym (add-zero at)) read) ∙ sole_sector bytes long
 
-follows_one : (f : CountedFile) (at : ℕ) (bytes : List ℕ) (ok : Bool) → length bytes ≡ 512 → WriteKeeps f at bytes ok → FollowsWrite at (may_leave f) (may_leave (next f))
+follows_one : (f : CountedFile) (at : ℕ) (bytes : List ℕ) (ok : Bool) → length bytes ≡ 512 → WriteKeeps f at bytes ok
+    → FollowsWrite at (may_leave f) (may_leave (next f))
 follows_one f at bytes ok long keeps = one_write at _ (may_leave f) (may_leave (next f)) (omega arith) keeps.crash
 
 pub read-tells : goal.read-tells
@@ -19,7 +24,8 @@ read-tells x c = search (rules, read_one)
 
 pub write-tells : goal.write-tells
 write-tells x c =
-    let keep : FileKeepsModel → WriteKeeps c.args.self.now.file c.args.at c.args.from.now c.ensures.happened.0 = λ keeps. keeps.writes _ _ _ _ c.ensures.happened.1 in
+    let keep : FileKeepsModel → WriteKeeps c.args.self.now.file c.args.at c.args.from.now c.ensures.happened.0 =
+    λ keeps. keeps.writes _ _ _ _ c.ensures.happened.1 in
     record {
       size = search rules;
       ok = c.ensures.ok;

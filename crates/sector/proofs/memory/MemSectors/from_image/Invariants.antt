@@ -1,6 +1,7 @@
-use Rattle.sector.proofs.Words.{◌≡◌, ◌++◌, ◌%◌, length, All, written, IsSettledSlot}
-use Rattle.std.specs.List.{concat}
 use Rattle.sector.proofs.memory.MemSectors.from_image.Given as goal
+use Rattle.std.proofs.Common.{◌≡◌, ◌++◌, ◌%◌, length, All}
+use Rattle.std.specs.List.{concat}
+use Rattle.sector.specs.Slots.{written, IsSettledSlot}
 
 abbrev pub invariant-loop-rest : goal.invariant-loop-rest
 invariant-loop-rest l = record {

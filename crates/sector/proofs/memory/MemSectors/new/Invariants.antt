@@ -1,5 +1,6 @@
-use Rattle.sector.proofs.Words.{◌≡◌, replicate, All, written, IsSettledSlot}
 use Rattle.sector.proofs.memory.MemSectors.new.Given as goal
+use Rattle.std.proofs.Common.{◌≡◌, replicate, All}
+use Rattle.sector.specs.Slots.{written, IsSettledSlot}
 
 abbrev pub invariant-loop-i : goal.invariant-loop-i
 invariant-loop-i l = record {

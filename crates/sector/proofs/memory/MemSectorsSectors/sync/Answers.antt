@@ -1,6 +1,7 @@
-use Rattle.sector.proofs.Words.{◌≡◌, ◌∙◌, All, ap, arith, map, written, settled_slot, IsSettledSlot}
-use Rattle.sector.proofs.Slots.{settles, fewer, written-settled, all_settled}
 use Rattle.sector.proofs.memory.MemSectorsSectors.sync.Goals as goal
+use Rattle.std.proofs.Common.{◌≡◌, ◌∙◌, All, ap, arith, map}
+use Rattle.sector.proofs.Slots.{settles, fewer, written-settled, all_settled}
+use Rattle.sector.specs.Slots.{written, settled_slot, IsSettledSlot}
 
 pub returns-else-fails-clause-settles : goal.returns-else-fails-clause-settles
 returns-else-fails-clause-settles c keeps =

@@ -1,7 +1,8 @@
-use Rattle.sector.proofs.Words.{◌≡◌, ◌∙◌, sym, arith, settled_slot}
+use Rattle.sector.proofs.memory.Slot.settle_all.Goals as goal
+use Rattle.std.proofs.Common.{◌≡◌, ◌∙◌, sym, arith}
 use Rattle.std.proofs.lemmas.List.Edits.{map_over_more}
 use Rattle.sector.proofs.Slots.{settled-front, settled-back}
-use Rattle.sector.proofs.memory.Slot.settle_all.Goals as goal
+use Rattle.sector.specs.Slots.{settled_slot}
 
 pub loop-i-init : goal.loop-i-init
 loop-i-init c = sym (settled-front _ _ c.requires.before)

@@ -1,5 +1,6 @@
-use Rattle.sessions.proofs.{Runs.lawful_at, StreamLaws.machine_reached}
 use Rattle.sessions.proofs.hub.Hub.is_lawful.Goals as goal
+use Rattle.sessions.proofs.Runs.{lawful_at}
+use Rattle.sessions.proofs.StreamLaws.{machine_reached}
 
 pub returns-clause-lawful : goal.returns-clause-lawful
 returns-clause-lawful g c h stands = lawful_at c.machine_is_serializable.ensures.serializable h stands.reached

@@ -1,6 +1,8 @@
-use Rattle.sessions.proofs.Words.{common_steps, arith, hub_step, More, new_stream}
-use Rattle.sessions.proofs.EventSteps.{leads, how_many, insert-at_hand}
 use Rattle.sessions.proofs.hub.Hub.join.Goals as goal
+use Rattle.std.proofs.Common.{arith}
+use Rattle.std.proofs.lemmas.Grind.{common_steps}
+use Rattle.sessions.proofs.EventSteps.{leads, how_many, insert-at_hand}
+use Rattle.sessions.specs.SessionStreams.{hub_step, More, new_stream}
 
 pub returns-then-not-is_above-clause-step : goal.returns-then-not-is_above-clause-step
 unfolding hub_step

@@ -1,5 +1,7 @@
-use Rattle.sessions.proofs.Words.{◌≤◌, map, take, event_of, failures, Runs}
 use Rattle.sessions.proofs.hub.Hub.run.Given as goal
+use Rattle.std.proofs.Common.{◌≤◌, map, take}
+use Rattle.sessions.specs.Laws.{Runs}
+use Rattle.sessions.specs.StandsFor.{event_of, failures}
 
 -- the events so far were a run
 abbrev pub invariant-loop-event : goal.invariant-loop-event

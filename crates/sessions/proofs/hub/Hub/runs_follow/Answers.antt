@@ -1,5 +1,5 @@
-use Rattle.sessions.proofs.Runs.{leads_to, no_event, ran_parts, ran_then, sound}
 use Rattle.sessions.proofs.hub.Hub.runs_follow.Goals as goal
+use Rattle.sessions.proofs.Runs.{leads_to, no_event, ran_parts, ran_then, sound}
 
 pub returns-clause-none : goal.returns-clause-none
 returns-clause-none g c =

@@ -1,7 +1,9 @@
-use Rattle.sessions.proofs.Words.{common_steps, sym, ◌∙◌, arith, hub_step, More}
+use Rattle.sessions.proofs.hub.Hub.sent.Goals as goal
+use Rattle.std.proofs.Common.{sym, ◌∙◌, arith}
+use Rattle.std.proofs.lemmas.Grind.{common_steps}
 use Rattle.std.proofs.lemmas.Map.Steps.{set_value_same}
 use Rattle.sessions.proofs.EventSteps.{leads, stream-some, stream-none, set_is}
-use Rattle.sessions.proofs.hub.Hub.sent.Goals as goal
+use Rattle.sessions.specs.SessionStreams.{hub_step, More}
 
 pub returns-in-None-clause-step : goal.returns-in-None-clause-step
 unfolding hub_step

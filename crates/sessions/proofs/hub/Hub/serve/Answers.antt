@@ -1,6 +1,8 @@
-use Rattle.sessions.proofs.Words.{common_steps, arith, refl, hub_step, More}
-use Rattle.sessions.proofs.EventSteps.{leads, serves, stream-none}
 use Rattle.sessions.proofs.hub.Hub.serve.Goals as goal
+use Rattle.std.proofs.Common.{arith, refl}
+use Rattle.std.proofs.lemmas.Grind.{common_steps}
+use Rattle.sessions.proofs.EventSteps.{leads, serves, stream-none}
+use Rattle.sessions.specs.SessionStreams.{hub_step, More}
 
 pub returns-in-Some-clause-step : goal.returns-in-Some-clause-step
 returns-in-Some-clause-step g c =

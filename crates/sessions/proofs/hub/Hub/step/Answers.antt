@@ -1,9 +1,11 @@
-use Rattle.sessions.specs.StandsFor.{event_of}
-use Rattle.sessions.proofs.Runs.{survives, alone, sound}
 use Rattle.sessions.proofs.hub.Hub.step.Goals as goal
+use Rattle.sessions.proofs.Records.{counts}
+use Rattle.sessions.proofs.Runs.{survives, alone, sound}
+use Rattle.sessions.specs.StandsFor.{event_of}
 
 pub returns-clause-crash : goal.returns-clause-crash
-returns-clause-crash g c = survives c.args.self.now c.apply-outcome.new.self (event_of c.args.event.now) g.met.D.Sectors.only_now c.is_stored.ensures c.apply-outcome.ensures.crash
+returns-clause-crash g c =
+    survives c.args.self.now c.apply-outcome.new.self (event_of c.args.event.now) g.met.D.Sectors.only_now c.is_stored.ensures c.apply-outcome.ensures.crash
 
 pub returns-clause-ran : goal.returns-clause-ran
 returns-clause-ran g c =
@@ -11,4 +13,10 @@ returns-clause-ran g c =
     alone c.args.self.now c.apply-outcome.new.self (event_of c.args.event.now)
     (sound c.args.self.now law.serializable law.places c.is_stored.ensures)
     (sound c.apply-outcome.new.self law.serializable law.places c.is_stored-2.ensures) c.apply-outcome.ensures.device
-    (survives c.args.self.now c.apply-outcome.new.self (event_of c.args.event.now) g.met.D.Sectors.only_now c.is_stored.ensures c.apply-outcome.ensures.crash) c.apply-outcome.ensures.still
+    (survives c.args.self.now c.apply-outcome.new.self (event_of c.args.event.now) g.met.D.Sectors.only_now c.is_stored.ensures c.apply-outcome.ensures.crash)
+    c.apply-outcome.ensures.still
+
+pub returns-clause-records : goal.returns-clause-records
+returns-clause-records g c =
+    counts c.args.self.now c.apply-outcome.new.self (event_of c.args.event.now) c.apply-outcome.result c.apply-outcome.ensures.step
+    c.apply-outcome.ensures.records

@@ -1,6 +1,7 @@
-use Rattle.sessions.proofs.Words.{ℕ, List, ap, remove, sym, subst, ◌∙◌, SessionState}
-use Rattle.sessions.proofs.Places.{IsRising, removed_rising}
 use Rattle.sessions.proofs.present.Present.remove.Goals as goal
+use Rattle.std.proofs.Common.{ℕ, List, ap, remove, sym, subst, ◌∙◌}
+use Rattle.sessions.proofs.Places.{IsRising, removed_rising}
+use Rattle.sessions.specs.SessionStreams.{SessionState}
 
 pub invariant_of-self : goal.invariant_of-self
 invariant_of-self c =

@@ -1,6 +1,7 @@
-use Rattle.sessions.proofs.Words.{arith, response_of}
-use Rattle.sessions.proofs.ReplyLengths.{brief_short}
 use Rattle.sessions.proofs.reply_buffer.ReplyBuffer.write_brief.Goals as goal
+use Rattle.std.proofs.Common.{arith}
+use Rattle.model.specs.Operations.{response_of}
+use Rattle.sessions.proofs.ReplyLengths.{brief_short}
 
 pub invariant_of-self : goal.invariant_of-self
 invariant_of-self c = (

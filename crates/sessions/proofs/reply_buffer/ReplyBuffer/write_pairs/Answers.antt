@@ -1,7 +1,10 @@
-use Rattle.sessions.proofs.Words.{arith, range_reply_max, Pairs, reply_text}
+use Rattle.sessions.proofs.reply_buffer.ReplyBuffer.write_pairs.Goals as goal
+use Rattle.std.proofs.Common.{arith}
+use Rattle.model.specs.Bounds.{range_reply_max}
+use Rattle.model.specs.Operations.{Pairs}
+use Rattle.model.specs.ReplyText.{reply_text}
 use Rattle.snapshot.specs.RowPairs.{row_pairs}
 use Rattle.sessions.proofs.ReplyLengths.{written_short, pairs_short}
-use Rattle.sessions.proofs.reply_buffer.ReplyBuffer.write_pairs.Goals as goal
 
 pub invariant_of-self : goal.invariant_of-self
 invariant_of-self c = (

@@ -1,6 +1,9 @@
-use Rattle.sessions.proofs.Words.{arith, option_copied, range_reply_max, Value, reply_text}
-use Rattle.sessions.proofs.ReplyLengths.{written_short, value_short}
 use Rattle.sessions.proofs.reply_buffer.ReplyBuffer.write_value.Goals as goal
+use Rattle.std.proofs.Common.{arith, option_copied}
+use Rattle.model.specs.Bounds.{range_reply_max}
+use Rattle.model.specs.Operations.{Value}
+use Rattle.model.specs.ReplyText.{reply_text}
+use Rattle.sessions.proofs.ReplyLengths.{written_short, value_short}
 
 pub invariant_of-self : goal.invariant_of-self
 invariant_of-self c = (

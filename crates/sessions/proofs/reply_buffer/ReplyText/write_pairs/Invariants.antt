@@ -1,8 +1,9 @@
+use Rattle.sessions.proofs.reply_buffer.ReplyText.write_pairs.Given as goal
 use Rattle.std.proofs.Common.{◌≡◌, ◌++◌, length, map}
-use Rattle.model.specs.{KeyBytes.pair_bytes, Map.IsInBounds}
+use Rattle.model.specs.KeyBytes.{pair_bytes}
+use Rattle.model.specs.Map.{IsInBounds}
 use Rattle.resp.proofs.GivenPairs.{pairs_text}
 use Rattle.snapshot.specs.RowPairs.{row_pairs}
-use Rattle.sessions.proofs.reply_buffer.ReplyText.write_pairs.Given as goal
 
 abbrev pub invariant-loop-key : goal.invariant-loop-key
 invariant-loop-key l = record {

@@ -1,5 +1,6 @@
-use Rattle.snapshot.proofs.Words.{◌≡◌, length, merged_pairs}
 use Rattle.snapshot.proofs.merge.MergedPairsIterator.next.Given as goal
+use Rattle.std.proofs.Common.{◌≡◌, length}
+use Rattle.snapshot.specs.Ahead.{merged_pairs}
 
 -- the writes left out so far are deletions
 abbrev pub invariant-loop-first : goal.invariant-loop-first

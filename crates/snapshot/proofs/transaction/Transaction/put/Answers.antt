@@ -1,9 +1,15 @@
-use Rattle.snapshot.proofs.Words.{◌≡◌, arith, Option, Some, Err, sym, ap, subst, ◌∙◌, IsTrue, OnOk, common_steps, Bytes, answer, is_full_for, FullWrites, View, HasMade, MakesOneMore, IsDoneReply}
-use Rattle.std.proofs.Common.{◌↔◌}
+use Rattle.snapshot.proofs.transaction.Transaction.put.Goals as goal
+use Rattle.std.proofs.Common.{◌≡◌, arith, Option, Some, Err, sym, ap, subst, ◌∙◌, IsTrue, OnOk, ◌↔◌}
+use Rattle.std.proofs.lemmas.Grind.{common_steps}
+use Rattle.model.specs.Map.{Bytes}
+use Rattle.model.specs.PrivateCopy.{answer}
+use Rattle.write_buffer.specs.Buffered.{is_full_for}
 use Rattle.write_buffer.specs.declared.faults.WritesFault.{WritesFault}
 use Rattle.snapshot.proofs.Copies.{Answered, write-reply, write-made, write-full, write_of, as_fault}
-use Rattle.snapshot.proofs.transaction.Transaction.put.Goals as goal
 use Rattle.snapshot.proofs.transaction.Transaction.put.Goals.{in-Ok, in-Err-FullWrites, in-Err-Memory}
+use Rattle.snapshot.specs.Made.{HasMade, MakesOneMore, IsDoneReply}
+use Rattle.snapshot.specs.View.{View}
+use Rattle.snapshot.specs.declared.faults.SnapshotFault.TheVariants.{FullWrites}
 
 pub invariant_of-self : goal.invariant_of-self
 invariant_of-self c = c.put.ensures.entries

@@ -1,5 +1,9 @@
-use Rattle.sorted_pages.proofs.Words.{ap, ◌∙◌, rules, always_returns_same, key_cmp, searched, Page}
 use Rattle.sorted_pages.proofs.page.Page.search.Goals as goal
+use Rattle.std.proofs.Common.{ap, ◌∙◌, rules}
+use Rattle.std.proofs.lemmas.Fn.{always_returns_same}
+use Rattle.model.proofs.Entries.{searched}
+use Rattle.model.specs.Map.{key_cmp}
+use Rattle.sorted_pages.specs.Pages.{Page}
 
 -- the closure compares an entry's key with the key
 pub returns : goal.returns

@@ -1,5 +1,9 @@
-use Rattle.sorted_pages.proofs.Words.{Ok, Err, ap, ◌∙◌, rules, always_returns_same, key_cmp, split_at, Page}
 use Rattle.sorted_pages.proofs.page.Page.split_place.Goals as goal
+use Rattle.std.proofs.Common.{Ok, Err, ap, ◌∙◌, rules}
+use Rattle.std.proofs.lemmas.Fn.{always_returns_same}
+use Rattle.model.proofs.Entries.{split_at}
+use Rattle.model.specs.Map.{key_cmp}
+use Rattle.sorted_pages.specs.Pages.{Page}
 
 pub returns-in-Ok : goal.returns-in-Ok
 returns-in-Ok g c =

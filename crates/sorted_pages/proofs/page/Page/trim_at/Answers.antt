@@ -1,16 +1,22 @@
-use Rattle.sorted_pages.proofs.Words.{rules, ap, sym, ◌∙◌, arith, Page, changed_at, passes}
-use Rattle.sorted_pages.proofs.{Seen.blank-set, Seen.rest-set, Values.find-written, Values.written_changed}
 use Rattle.sorted_pages.proofs.page.Page.trim_at.Goals as goal
+use Rattle.std.proofs.Common.{rules, ap, sym, ◌∙◌, arith}
+use Rattle.sorted_pages.proofs.Seen.{blank-set, rest-set}
+use Rattle.sorted_pages.proofs.Values.{find-written, written_changed}
+use Rattle.sorted_pages.specs.Pages.{Page}
+use Rattle.sorted_pages.specs.Trims.{changed_at, passes}
 
 pub blank_from-self-inside-requires : goal.blank_from-self-inside-requires
 blank_from-self-inside-requires g c =
-    rw c.deref-in-Ok.ensures.value (blank-set g.V.Aging.hides c.self.inside.entries.items c.self.inside.blank c.min.result c.in-Ok.i _ (omega arith) (omega arith) c.self.invariant.0)
+    rw c.deref-in-Ok.ensures.value
+    (blank-set g.V.Aging.hides c.self.inside.entries.items c.self.inside.blank c.min.result c.in-Ok.i _ (omega arith) (omega arith) c.self.invariant.0)
 
 pub take_in-self-inside-requires : goal.take_in-self-inside-requires
 take_in-self-inside-requires g c =
     let es = c.self.inside.entries.items in
     let s = c.leave_out-self-inside.result in
-    rw c.deref-in-Ok-2.ensures.value (rest-set g.V.Aging.hides g.V.Aging.shows es s c.in-Ok.i _ c.leave_out-self-inside.ensures.left_out (rw c.deref.ensures.value at c.leave_out-self-inside.ensures.summary))
+    rw c.deref-in-Ok-2.ensures.value
+    (rest-set g.V.Aging.hides g.V.Aging.shows es s c.in-Ok.i _ c.leave_out-self-inside.ensures.left_out
+    (rw c.deref.ensures.value at c.leave_out-self-inside.ensures.summary))
 
 pub returns-in-Ok : goal.returns-in-Ok
 returns-in-Ok g c =

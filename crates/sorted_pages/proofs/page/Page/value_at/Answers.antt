@@ -1,6 +1,11 @@
-use Rattle.sorted_pages.proofs.Words.{arith, Bytes}
-use Rattle.sorted_pages.proofs.Seen.{blank-set, rest-set}
 use Rattle.sorted_pages.proofs.page.Page.value_at.Goals as goal
+use Rattle.std.proofs.Common.{arith, ap, ◌∙◌, ◌≡◌, ◌-◌, List, get_or, refl, set, sym, Some}
+use Rattle.std.specs.FinMap.Entries.{find, put}
+use Rattle.std.specs.Vec.{vec_len, vec_capacity}
+use Rattle.model.specs.Map.{Bytes, key_cmp}
+use Rattle.sorted_pages.proofs.Seen.{blank-set, rest-set}
+use Rattle.sorted_pages.specs.Lent.{with_value_in}
+use Rattle.sorted_pages.specs.Pages.{Page}
 
 -- whatever is written, the summary says nothing of it
 pub invariant_of-self-lent : goal.invariant_of-self-lent
@@ -9,5 +14,29 @@ invariant_of-self-lent g c = λ w.
     let s = c.leave_out-self-inside.result in
     let e : Bytes × g.row.V.Denot = (c.index_mut-entry.result.now.0, w) in (
       blank-set g.V.Aging.hides es c.self.inside.blank c.min-self-inside.result c.args.i e (omega arith) (omega arith) c.self.invariant.0,
-      rest-set g.V.Aging.hides g.V.Aging.shows es s c.args.i e c.leave_out-self-inside.ensures.left_out (rw c.deref.ensures.value at c.leave_out-self-inside.ensures.summary),
+      rest-set g.V.Aging.hides g.V.Aging.shows es s c.args.i e c.leave_out-self-inside.ensures.left_out
+          (rw c.deref.ensures.value at c.leave_out-self-inside.ensures.summary),
+    )
+
+pub returns : goal.returns
+returns g c =
+    let es = c.self.inside.entries.items in
+    let k = c.args.key.now in
+    let i = c.args.i in
+    let e = c.index_mut-entry.result.now in
+    let at = rw (← c.self.view_is) at c.requires in
+    let is : e ≡ get_or es i e = c.index_mut-entry.ensures.value in
+    let key : e.0 ≡ k = ap (λ (d : Bytes × g.row.V.Denot). d.0) is ∙ at.key e in
+    let room = vec_capacity c.self.inside.entries - vec_len c.self.inside.entries in (
+      (
+        refl,
+        λ w.
+            let same : set es i (e.0, w) ≡ put key_cmp k w es = ap (λ (q : Bytes). set es i (q, w)) key ∙ at.written w in
+            ap (λ (l : List (Bytes × g.row.V.Denot)). (l, room)) same ∙ ap (λ (p : Page g.row.V.Denot). with_value_in p k w) c.self.view_is,
+      ),
+      record {
+        writes_back = tt;
+        value = ap (λ (p : Page g.row.V.Denot). find key_cmp k p.0) (sym c.self.view_is) ∙ at.found e
+            ∙ ap (λ (d : Bytes × g.row.V.Denot). Some d.1) (sym is);
+      },
     )

@@ -1,6 +1,9 @@
-use Rattle.sorted_pages.proofs.Words.{List, ap, sym, ◌∙◌, find, Bytes, key_cmp, Page, entries}
-use Rattle.sorted_pages.proofs.Placings.{page_sorted, find_at}
 use Rattle.sorted_pages.proofs.pages.SortedPages.get.Goals as goal
+use Rattle.std.proofs.Common.{List, ap, sym, ◌∙◌}
+use Rattle.std.specs.FinMap.Entries.{find}
+use Rattle.model.specs.Map.{Bytes, key_cmp}
+use Rattle.sorted_pages.proofs.Placings.{page_sorted, find_at}
+use Rattle.sorted_pages.specs.Pages.{Page, entries}
 
 pub get-requires : goal.get-requires
 get-requires g c =

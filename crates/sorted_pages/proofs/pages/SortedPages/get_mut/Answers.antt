@@ -1,6 +1,8 @@
-use Rattle.sorted_pages.proofs.Words.{refl, sym, ap, ◌∙◌, is_some}
-use Rattle.sorted_pages.proofs.{Placings.page_sorted, Placings.find_at, Values.entries-with_value, Values.room-with_value}
 use Rattle.sorted_pages.proofs.pages.SortedPages.get_mut.Goals as goal
+use Rattle.std.proofs.Common.{refl, sym, ap, ◌∙◌}
+use Rattle.std.specs.Prelude.{is_some}
+use Rattle.sorted_pages.proofs.Placings.{page_sorted, find_at}
+use Rattle.sorted_pages.proofs.Values.{entries-with_value, room-with_value}
 
 pub search-requires : goal.search-requires
 search-requires g c =

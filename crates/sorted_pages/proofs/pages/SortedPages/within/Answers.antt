@@ -1,6 +1,11 @@
-use Rattle.sorted_pages.proofs.Words.{List, ◌+◌, ap, ◌∙◌, take_rest, end_bytes, Page, entries, shown}
-use Rattle.sorted_pages.proofs.{Placings.page_sorted, Tails.In, Tails.range_from, Tails.after_is}
 use Rattle.sorted_pages.proofs.pages.SortedPages.within.Goals as goal
+use Rattle.std.proofs.Common.{List, ◌+◌, ap, ◌∙◌}
+use Rattle.std.proofs.lemmas.List.{take_rest}
+use Rattle.model.specs.KeyBytes.{end_bytes}
+use Rattle.sorted_pages.proofs.Placings.{page_sorted}
+use Rattle.sorted_pages.proofs.Tails.{In, range_from, after_is}
+use Rattle.sorted_pages.specs.Blanks.{shown}
+use Rattle.sorted_pages.specs.Pages.{Page, entries}
 
 pub entries_from-requires : goal.entries_from-requires
 entries_from-requires g c =
@@ -17,5 +22,7 @@ returns g c =
     let at = rw c.bytes.ensures.bytes at c.place-i.ensures in
     let order = rw (← c.as_slice-pages.ensures.value) at c.self.invariant in
     let tail = rw c.bytes-2.ensures.bytes at c.entries_from.ensures in
-    range_from (g.V.Aging.hides c.args.number) ps lo (end_bytes c.args.hi) i page front _ at c.index-pages-i.is order tail (take_rest ps (i + 1) ∙ after_is ps lo i at)
-    ∙ ap (λ (l : List (Page g.row.V.Denot)). In lo (end_bytes c.args.hi) (shown (g.V.Aging.hides c.args.number) (entries l))) (c.as_slice-pages.ensures.value ∙ c.self.view_is)
+    range_from (g.V.Aging.hides c.args.number) ps lo (end_bytes c.args.hi) i page front _ at c.index-pages-i.is order tail (take_rest ps (i + 1)
+    ∙ after_is ps lo i at)
+    ∙ ap (λ (l : List (Page g.row.V.Denot)). In lo (end_bytes c.args.hi) (shown (g.V.Aging.hides c.args.number) (entries l))) (c.as_slice-pages.ensures.value
+    ∙ c.self.view_is)

@@ -1,5 +1,6 @@
-use Rattle.sorted_pages.proofs.Words.{◌≡◌, length, entries_left}
 use Rattle.sorted_pages.proofs.range.Entries.pass_hidden.Given as goal
+use Rattle.std.proofs.Common.{◌≡◌, length}
+use Rattle.sorted_pages.specs.Ranges.{entries_left}
 
 abbrev pub invariant-loop-entry : goal.invariant-loop-entry
 invariant-loop-entry g l = record {

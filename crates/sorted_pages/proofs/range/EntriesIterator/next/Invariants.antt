@@ -1,5 +1,6 @@
-use Rattle.sorted_pages.proofs.Words.{◌≡◌, length, IsFirstShown, entries_left}
 use Rattle.sorted_pages.proofs.range.EntriesIterator.next.Given as goal
+use Rattle.std.proofs.Common.{◌≡◌, length}
+use Rattle.sorted_pages.specs.Ranges.{IsFirstShown, entries_left}
 
 -- pages are taken, and no entry that isn't hidden
 abbrev pub invariant-loop-page : goal.invariant-loop-page

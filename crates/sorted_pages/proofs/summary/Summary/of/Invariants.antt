@@ -1,6 +1,6 @@
+use Rattle.sorted_pages.proofs.summary.Summary.of.Given as goal
 use Rattle.std.proofs.Common.{◌≡◌, None, take}
 use Rattle.sorted_pages.specs.Summaries.{IsSummary}
-use Rattle.sorted_pages.proofs.summary.Summary.of.Given as goal
 
 -- the first i are summed up
 abbrev pub invariant-loop-i : goal.invariant-loop-i

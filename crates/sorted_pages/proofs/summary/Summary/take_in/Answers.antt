@@ -1,16 +1,29 @@
-use Rattle.std.proofs.Common.{◌≡◌, ◌+◌, cond, get_or, sym, ap, ◌∙◌, arith}
-use Rattle.sorted_pages.proofs.{Seen.is_rest, Seen.taken_in, summary.Summary.take_in.Goals.then-shows, summary.Summary.take_in.Goals.else-shows}
 use Rattle.sorted_pages.proofs.summary.Summary.take_in.Goals as goal
+use Rattle.std.proofs.Common.{◌≡◌, ◌+◌, cond, get_or, sym, ap, ◌∙◌, arith}
+use Rattle.sorted_pages.proofs.Seen.{is_rest, kept_gap, taken_in}
+use Rattle.sorted_pages.proofs.summary.Summary.take_in.Goals.{then-shows, else-shows}
 
-pub returns-after-shows-clause-summary : goal.returns-after-shows-clause-summary
-returns-after-shows-clause-summary g c =
+pub with_open_gap-requires : goal.with_open_gap-requires
+with_open_gap-requires g c =
     let es = c.args.entries.now in
     let s = c.args.self in
     let i = c.in-Some.i in
     let e = get_or es i c.index-entries-i.result in
     let live : c.if-shows.live ≡ s.live + cond (g.V.Aging.shows e.1) 1 0 = elim c.if-shows.branch [
       | then-shows w ↦ let t = w.if-shows.true in w.live-is ∙ ap (λ b. s.live + cond b 1 0) (sym t ∙ c.shows.ensures)
-      | else-shows w ↦ let f = w.if-shows.false in w.live-is ∙ (let none : s.live ≡ s.live + 0 = omega arith in none) ∙ ap (λ b. s.live + cond b 1 0) (sym f ∙ c.shows.ensures)
+      | else-shows w ↦ let f =
+          w.if-shows.false in w.live-is ∙ (let none : s.live ≡ s.live + 0 = omega arith in none) ∙ ap (λ b. s.live + cond b 1 0) (sym f ∙ c.shows.ensures)
     ] in
-    taken_in g.V.Aging.hides g.V.Aging.shows es s _ i c.first.result c.last.result e (rw c.in-Some.is at c.requires.within) (ap (λ d. get_or es i d) c.index-entries-i.is)
+    taken_in g.V.Aging.hides g.V.Aging.shows g.V.Aging.last es s _ i c.first.result c.last.result e (rw c.in-Some.is at c.requires.within)
+    (ap (λ d. get_or es i d) c.index-entries-i.is)
     (is_rest g.V.Aging.hides g.V.Aging.shows es s i c.in-Some.is c.requires) c.min.ensures c.first.ensures.hidden c.max.ensures c.last.ensures.hidden live
+    c.beside.ensures c.beside-in-Some.ensures
+
+pub returns-after-shows-clause-kept : goal.returns-after-shows-clause-kept
+returns-after-shows-clause-kept g c =
+    let es = c.args.entries.now in
+    let s = c.args.self in
+    let i = c.in-Some.i in
+    kept_gap g.V.Aging.hides g.V.Aging.shows g.V.Aging.last es s c.with_open_gap.result (record s { gap = c.beside.result }) i
+    (get_or es i c.index-entries-i.result) c.in-Some.is (rw c.in-Some.is at c.requires.within)
+    (ap (λ d. get_or es i d) c.index-entries-i.is) c.beside.ensures c.with_open_gap.ensures.known

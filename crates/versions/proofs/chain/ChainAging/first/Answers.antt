@@ -1,6 +1,7 @@
-use Rattle.versions.proofs.Words.{◌≡◌, ℕ, ◌<◌, rules, subst, first_shown}
-use Rattle.versions.proofs.Visibles.{first_hides}
 use Rattle.versions.proofs.chain.ChainAging.first.Goals as goal
+use Rattle.std.proofs.Common.{◌≡◌, ℕ, ◌<◌, rules, subst}
+use Rattle.versions.proofs.Visibles.{first_hides}
+use Rattle.versions.specs.Chains.{first_shown}
 
 pub returns-in-More-clause-hidden : goal.returns-in-More-clause-hidden
 returns-in-More-clause-hidden c = λ n lt.

@@ -1,7 +1,19 @@
-use Rattle.versions.proofs.Words.{and_left, ◌≡◌, ◌&&◌, ◌++◌, true, false, inr, length, ap, sym, subst, ◌∙◌, arith, length-append, GroupValue, Listed, AllByRecursion, list_all, IsUnderWitness, AreSeenFrom, IsSettled, is_seen_from, versions_in, is_among, all-append}
-use Rattle.versions.proofs.{Lists.in-append, Lists.in-seen, Groups.unseen, Groups.unseen-put, Parts.all-seen_more}
-use Rattle.versions.proofs.listing.Group.keep.Goals.{else-is_among-via-then-is_among+else-are_seen_from, else-is_among-via-else-is_among}
 use Rattle.versions.proofs.listing.Group.keep.Goals as goal
+use Rattle.std.proofs.Common.{◌≡◌, ◌&&◌, ◌++◌, true, false, inr, length, ap, sym, subst, ◌∙◌, arith}
+use Rattle.std.proofs.lemmas.Bool.{and_left}
+use Rattle.std.proofs.lemmas.Grind.{common_steps}
+use Rattle.std.proofs.lemmas.List.{length-append}
+use Rattle.std.specs.List.{AllByRecursion, list_all}
+use Rattle.model.proofs.Elements.{all-append}
+use Rattle.versions.proofs.Groups.{unseen, unseen-put}
+use Rattle.versions.proofs.Lists.{in-append, in-seen}
+use Rattle.versions.proofs.Parts.{all-seen_more}
+use Rattle.versions.proofs.listing.Group.keep.Goals.{else-is_among-via-then-is_among+else-are_seen_from}
+use Rattle.versions.proofs.listing.Group.keep.Goals.{else-is_among-via-else-is_among}
+use Rattle.versions.specs.Groups.{GroupValue, Listed}
+use Rattle.versions.specs.Listings.{AreSeenFrom, IsSettled, is_seen_from, versions_in}
+use Rattle.versions.specs.Meaning.{is_among}
+use Rattle.versions.specs.Witnesses.{IsUnderWitness}
 
 pub invariant_of-self : goal.invariant_of-self
 invariant_of-self c =
@@ -11,17 +23,37 @@ invariant_of-self c =
     let more = ap length c.append.ensures ∙ length-append lists c.args.lists in
     let fits = c.requires.fits in (
       subst (AreSeenFrom n) (sym (ap versions_in c.append.ensures ∙ in-append lists c.args.lists))
-          (all-append (λ (v : Listed). is_seen_from n v ≡ true) (versions_in lists) (versions_in c.args.lists) c.self.invariant.0 (in-seen n c.args.lists (sym c.if-are_seen_from.ensures))),
+          (all-append (λ (v : Listed). is_seen_from n v
+          ≡ true) (versions_in lists) (versions_in c.args.lists) c.self.invariant.0 (in-seen n c.args.lists (sym c.if-are_seen_from.ensures))),
       omega (arith, all, more, fits),
       c.self.invariant.2,
     )
 
-pub returns-then-are_seen_from-clause-settled : goal.returns-then-are_seen_from-clause-settled
-returns-then-are_seen_from-clause-settled c = λ chains h g.
-    let P = IsSettled c.args.begins.now chains in
-    let lists = c.self.inside.lists in
-    all-seen_more P (versions_in lists) (versions_in c.self.inside.due ++ versions_in c.self.inside.mixed) (versions_in c.args.lists) (versions_in c.append.new.lists) (ap versions_in c.append.ensures ∙ in-append lists c.args.lists)
-    (subst (λ (x : GroupValue). AllByRecursion P x.versions) (sym c.self.view_is) h) g
+pub returns-then-are_seen_from-clause-versions : goal.returns-then-are_seen_from-clause-versions
+returns-then-are_seen_from-clause-versions c =
+    let g = c.self.inside in
+    let put = ap versions_in c.append.ensures ∙ in-append g.lists c.args.lists in
+    let all = λ (P : Listed → Type 0) (h : AllByRecursion P c.args.self.now.versions). (
+    all-seen_more P (versions_in g.lists) (versions_in g.due ++ versions_in g.mixed) (versions_in c.args.lists) (versions_in c.append.new.lists) put
+    (subst (λ (x : GroupValue). AllByRecursion P x.versions) (sym c.self.view_is) h)) in
+    let mixed = λ (P : Listed → Type 0) (h : AllByRecursion P c.args.self.now.mixed). (
+    subst (λ (x : GroupValue). AllByRecursion P x.mixed) (sym c.self.view_is) h) in
+    record {
+      found = grind (arith, common_steps);
+      kept = grind (arith, common_steps);
+      settled = λ chains. all (IsSettled c.args.begins.now chains);
+      mixed = λ chains h more. mixed (IsSettled c.args.begins.now chains) h;
+      each = λ held v w h hm more. (all (IsUnderWitness held v w) h more, mixed (IsUnderWitness held v w) hm);
+    }
+
+pub returns-else-is_among-clause-versions : goal.returns-else-is_among-clause-versions
+returns-else-is_among-clause-versions c = record {
+  found = grind (arith, common_steps);
+  kept = grind (arith, common_steps);
+  settled = grind (arith, common_steps);
+  mixed = grind (arith, common_steps);
+  each = grind (arith, common_steps);
+}
 
 pub returns-else-is_among-clause-truly : goal.returns-else-is_among-clause-truly
 returns-else-is_among-clause-truly c = λ none.
@@ -34,14 +66,9 @@ returns-else-is_among-clause-truly c = λ none.
     ] in
     let put = c.append-else-is_among.ensures in
     let lists = ap length put ∙ length-append mixed c.args.lists in
-    let listed = ap (λ l. length (versions_in l)) put ∙ ap length (in-append mixed c.args.lists) ∙ length-append (versions_in mixed) (versions_in c.args.lists) in
-    (omega (arith, lists, listed, c.self.invariant.2, c.requires.filled), inr (unseen-put bs w (versions_in mixed) (versions_in c.args.lists) (versions_in c.append-else-is_among.new.lists) (ap versions_in put ∙ in-append mixed c.args.lists) (ap (λ (x : GroupValue). x.mixed) c.self.view_is ∙ none) unfit))
-
-pub returns-then-are_seen_from-clause-each : goal.returns-then-are_seen_from-clause-each
-returns-then-are_seen_from-clause-each c = λ held v w h hm g.
-    let P = IsUnderWitness held v w in
-    let lists = c.self.inside.lists in (
-      all-seen_more P (versions_in lists) (versions_in c.self.inside.due ++ versions_in c.self.inside.mixed) (versions_in c.args.lists) (versions_in c.append.new.lists) (ap versions_in c.append.ensures ∙ in-append lists c.args.lists)
-          (subst (λ (x : GroupValue). AllByRecursion P x.versions) (sym c.self.view_is) h) g,
-      subst (λ (x : GroupValue). AllByRecursion P x.mixed) (sym c.self.view_is) hm,
+    let listed = ap (λ l. length (versions_in l)) put ∙ ap length (in-append mixed c.args.lists)
+    ∙ length-append (versions_in mixed) (versions_in c.args.lists) in (
+      omega (arith, lists, listed, c.self.invariant.2, c.requires.filled),
+      inr (unseen-put bs w (versions_in mixed) (versions_in c.args.lists) (versions_in c.append-else-is_among.new.lists) (ap versions_in put
+          ∙ in-append mixed c.args.lists) (ap (λ (x : GroupValue). x.mixed) c.self.view_is ∙ none) unfit),
     )

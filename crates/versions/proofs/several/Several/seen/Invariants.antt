@@ -1,5 +1,6 @@
-use Rattle.versions.proofs.Words.{◌≡◌, None, last_at, version_at}
 use Rattle.versions.proofs.several.Several.seen.Given as goal
+use Rattle.std.proofs.Common.{◌≡◌, None}
+use Rattle.versions.specs.Chains.{last_at, version_at}
 
 -- the versions that were passed by are too new
 abbrev pub invariant-loop-version : goal.invariant-loop-version

@@ -1,22 +1,39 @@
-use Rattle.versions.proofs.Words.{ℕ, ◌≡◌, KeyWrite, AreInstalled, List, [], ◌∷◌, ◌++◌, length, sym, subst, ap, ◌∙◌, refl, arith, Bytes, entries, ChainsValue, find_chain, IsListed, lists_in, unwitnessed, versions_in, GroupValue, IsInstalled, IsAddedTo, length-set}
-use Rattle.versions.proofs.{Lists.in-first, Lists.in-filled, Listings.groups-found, Listings.found-last, Witnesses.lists-push, Histories.stands-installed}
-use Rattle.versions.proofs.UnderWitnesses.{groups-installed}
 use Rattle.versions.proofs.versions.Versions.install.Goals as goal
+use Rattle.std.proofs.Common.{ℕ, ◌≡◌, List, [], ◌∷◌, ◌++◌, length, sym, subst, ap, ◌∙◌, refl, arith}
+use Rattle.std.proofs.lemmas.List.{length-set}
+use Rattle.model.specs.Map.{KeyWrite, Bytes}
+use Rattle.sorted_pages.specs.Pages.{entries}
+use Rattle.versions.proofs.Histories.{stands-installed}
+use Rattle.versions.proofs.Listings.{groups-found, found-last}
+use Rattle.versions.proofs.Lists.{in-first, in-filled}
+use Rattle.versions.proofs.UnderWitnesses.{groups-installed}
+use Rattle.versions.proofs.Witnesses.{lists-push}
+use Rattle.versions.specs.Chains.{ChainsValue, find_chain}
+use Rattle.versions.specs.Groups.{GroupValue}
+use Rattle.versions.specs.Listings.{IsListed, lists_in, unwitnessed, versions_in}
+use Rattle.versions.specs.Meaning.{AreInstalled, IsInstalled}
+use Rattle.versions.specs.Witnesses.{IsAddedTo}
 
-whole : (old inside new : ChainsValue) (n : ℕ) (ws : List KeyWrite) → inside ≡ old → AreInstalled inside.chains new.chains n ws → new.last ≡ n → IsInstalled old new n ws
-whole old inside new n ws same h last = subst (λ (v : ChainsValue). IsInstalled v new n ws) same (record { maps = h.maps; newest = h.newest; kept = h.kept; last = last })
+whole : (old inside new : ChainsValue) (n : ℕ) (ws : List KeyWrite) → inside ≡ old → AreInstalled inside.chains new.chains n ws → new.last ≡ n
+    → IsInstalled old new n ws
+whole old inside new n ws same h last =
+    subst (λ (v : ChainsValue). IsInstalled v new n ws) same (record { maps = h.maps; newest = h.newest; kept = h.kept; last = last })
 
 pub add_all-requires-clause-none : goal.add_all-requires-clause-none
-add_all-requires-clause-none c = in-first c.replace-listed.result c.in-Some.list.now (ap versions_in c.replace-listed.ensures.value ∙ c.self.invariant.2) (c.in-Some.ensures.variant.0 refl) c.in-Some.ensures.value
+add_all-requires-clause-none c =
+    in-first c.replace-listed.result c.in-Some.list.now (ap versions_in c.replace-listed.ensures.value
+    ∙ c.self.invariant.2) (c.in-Some.ensures.variant.0 refl) c.in-Some.ensures.value
 
 pub invariant_of-self : goal.invariant_of-self
 invariant_of-self c =
     let gs = c.self.inside.groups.items in
     let ls = c.add_all.new.listed.items in
-    let filled = in-filled c.replace-listed.result c.add_all.new.listed (ap versions_in c.replace-listed.ensures.value ∙ c.self.invariant.2) (c.in-Some.ensures.variant.0 refl) in (
-      c.add_all.ensures.kept,
+    let filled = in-filled c.replace-listed.result c.add_all.new.listed (ap versions_in c.replace-listed.ensures.value
+    ∙ c.self.invariant.2) (c.in-Some.ensures.variant.0 refl) in (
+      c.add_all.ensures.chains.kept,
       subst (λ (l : List GroupValue). IsListed (entries c.add_all.new.chains) l) (sym c.in-Ok.ensures.items)
-          (groups-found (entries c.add_all.new.chains) (unwitnessed ls ∷ gs) (gs ++ c.new-2.result ∷ []) (found-last gs ls c.new-2.result (c.new-2.ensures.versions ∙ filled)) (c.add_all.ensures.listed gs c.self.invariant.1)),
+          (groups-found (entries c.add_all.new.chains) (unwitnessed ls ∷ gs) (gs ++ c.new-2.result
+          ∷ []) (found-last gs ls c.new-2.result (c.new-2.ensures.versions ∙ filled)) (c.add_all.ensures.listed.listed gs c.self.invariant.1)),
       ap versions_in (c.replace-listed.ensures.after ∙ c.new.ensures),
       record {
         lists = omega (
@@ -37,13 +54,16 @@ invariant_of-self c =
     )
 
 pub returns-clause-installed : goal.returns-clause-installed
-returns-clause-installed c = whole c.args.self.now _ _ c.args.n c.args.writes.items c.self.view_is c.add_all.ensures.installed refl
+returns-clause-installed c = whole c.args.self.now _ _ c.args.n c.args.writes.items c.self.view_is c.add_all.ensures.chains.installed refl
 
 pub returns-clause-stands : goal.returns-clause-stands
 returns-clause-stands c = λ held base history r s long commit is.
-    let filled = in-filled c.replace-listed.result c.add_all.new.listed (ap versions_in c.replace-listed.ensures.value ∙ c.self.invariant.2) (c.in-Some.ensures.variant.0 refl) in
+    let filled = in-filled c.replace-listed.result c.add_all.new.listed (ap versions_in c.replace-listed.ensures.value
+    ∙ c.self.invariant.2) (c.in-Some.ensures.variant.0 refl) in
     stands-installed c.args.self.now held base history _ c.args.n c.args.writes.items r (returns-clause-installed c)
     (groups-installed held c.args.self.now _ c.args.n c.new-2.result c.add_all.new.listed.items c.requires.above refl
-    (subst (λ (v : ChainsValue). (k : Bytes) → IsAddedTo c.args.n (find_chain k v.chains) (find_chain k (entries c.add_all.new.chains))) c.self.view_is c.add_all.ensures.added)
-    (c.in-Ok.ensures.items ∙ ap (λ (v : ChainsValue). v.groups ++ c.new-2.result ∷ []) c.self.view_is) c.new-2.ensures.witness c.new-2.ensures.mixed (c.new-2.ensures.versions ∙ filled) c.add_all.ensures.followed)
+    (subst (λ (v : ChainsValue). (k : Bytes)
+    → IsAddedTo c.args.n (find_chain k v.chains) (find_chain k (entries c.add_all.new.chains))) c.self.view_is c.add_all.ensures.chains.added)
+    (c.in-Ok.ensures.items ∙ ap (λ (v : ChainsValue). v.groups ++ c.new-2.result ∷ []) c.self.view_is) c.new-2.ensures.witness c.new-2.ensures.mixed
+    (c.new-2.ensures.versions ∙ filled) c.add_all.ensures.listed.followed)
     c.requires.above long commit is s

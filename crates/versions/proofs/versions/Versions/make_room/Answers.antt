@@ -1,9 +1,14 @@
-use Rattle.sorted_pages.specs.Pages.{entries}
-use Rattle.versions.proofs.{Stores.kept-roomier, Listings.listed-roomier}
 use Rattle.versions.proofs.versions.Versions.make_room.Goals as goal
+use Rattle.sorted_pages.specs.Pages.{entries}
+use Rattle.versions.proofs.Listings.{listed-roomier}
+use Rattle.versions.proofs.Stores.{kept-roomier}
 
 pub invariant_of-self : goal.invariant_of-self
 invariant_of-self c =
     let es = entries c.self.inside.chains in
-    let fs = entries c.make_room.new.chains in
-    (kept-roomier es fs c.self.inside.last c.make_room.ensures.chains c.self.invariant.0, listed-roomier es fs c.self.inside.groups.items c.make_room.ensures.chains c.self.invariant.1, c.self.invariant.2, c.self.invariant.3)
+    let fs = entries c.make_room.new.chains in (
+      kept-roomier es fs c.self.inside.last c.make_room.ensures.chains c.self.invariant.0,
+      listed-roomier es fs c.self.inside.groups.items c.make_room.ensures.chains c.self.invariant.1,
+      c.self.invariant.2,
+      c.self.invariant.3,
+    )

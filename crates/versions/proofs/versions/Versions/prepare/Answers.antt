@@ -1,7 +1,15 @@
-use Rattle.versions.proofs.Words.{rules, find_chain, HasRoom, HasPlaceAt, AllByRecursion, all-each, StandForSame, ◌≡◌, length, sym, ap, subst, ◌∙◌, refl, false, arith, both_ways, ChainsValue, IsRoomier, IsSameMeaning, take_all}
-use Rattle.versions.proofs.{Stores.roomier-refl, Stores.roomier-trans, Stores.same-roomier, Stores.IsPlaced, Histories.stands-same}
-use Rattle.versions.proofs.Calls.{preparing, placed-at}
 use Rattle.versions.proofs.versions.Versions.prepare.Goals as goal
+use Rattle.std.proofs.Common.{rules, ◌≡◌, length, sym, ap, subst, ◌∙◌, refl, false, arith}
+use Rattle.std.proofs.lemmas.Bool.{both_ways}
+use Rattle.std.proofs.lemmas.List.{take_all}
+use Rattle.std.specs.List.{AllByRecursion}
+use Rattle.model.proofs.Elements.{all-each}
+use Rattle.versions.proofs.Calls.{preparing, placed-at}
+use Rattle.versions.proofs.Histories.{stands-same}
+use Rattle.versions.proofs.Stores.{roomier-refl, roomier-trans, same-roomier, IsPlaced}
+use Rattle.versions.specs.Chains.{find_chain, HasRoom, HasPlaceAt, ChainsValue, IsRoomier}
+use Rattle.versions.specs.Meaning.{IsSameMeaning}
+use Rattle.versions.specs.StandsFor.{StandForSame}
 
 -- room for the list and for the groups changes no chain, and the histories stay
 reserved : (old now inside new : ChainsValue) → IsRoomier old.chains now.chains → now.last ≡ old.last → now.groups ≡ old.groups → inside ≡ now
@@ -16,25 +24,45 @@ loop-write-init c = search (rules, roomier-refl)
 
 pub loop-write-preserved : goal.loop-write-preserved
 loop-write-preserved c =
-    let e = c.make_room.ensures in
+    let e = c.make_room.ensures.roomier in
     let inv = c.loop-write.invariant in
     let roomier = roomier-trans c.args.self.now.chains c.loop-write.self.chains c.make_room.new.self.chains inv.roomier e.chains in
     let prepared = preparing (length c.args.writes.now) c.args.writes.now c.loop-write.write-index c.write-item.result c.lend_key.result.bytes.now
     c.loop-write.self.chains c.make_room.new.self.chains c.loop-write.self.pages c.make_room.new.self.pages
-    (omega arith) c.write-item.is c.lend_key.ensures c.make_room.ensures.chains c.make_room.ensures.rooms c.loop-write.invariant.prepared c.in_ok-make_room.ensures.room c.in_ok-make_room.ensures.place in
-    search (arith, roomier, prepared, ◌∙◌, e.rooms, e.last, e.groups, e.listed_spare, e.groups_spare, inv.pages, inv.last, inv.groups, inv.listed_spare, inv.groups_spare)
+    (omega arith) c.write-item.is c.lend_key.ensures e.chains e.rooms c.loop-write.invariant.prepared
+    c.in_ok-make_room.ensures.room c.in_ok-make_room.ensures.place in
+    search (
+      arith,
+      roomier,
+      prepared,
+      ◌∙◌,
+      e.rooms,
+      e.last,
+      e.groups,
+      e.listed_spare,
+      e.groups_spare,
+      inv.pages,
+      inv.last,
+      inv.groups,
+      inv.listed_spare,
+      inv.groups_spare,
+    )
 
 -- ---- a chain was refused its room
 
 pub returns-in_err-make_room-clause-same : goal.returns-in_err-make_room-clause-same
-returns-in_err-make_room-clause-same c = same-roomier c.args.self.now c.make_room.new.self
-    (roomier-trans c.args.self.now.chains c.loop-write.self.chains c.make_room.new.self.chains c.loop-write.invariant.roomier c.make_room.ensures.chains)
-    (c.make_room.ensures.last ∙ c.loop-write.invariant.last)
+returns-in_err-make_room-clause-same c =
+    let more = c.make_room.ensures.roomier in
+    same-roomier c.args.self.now c.make_room.new.self
+    (roomier-trans c.args.self.now.chains c.loop-write.self.chains c.make_room.new.self.chains c.loop-write.invariant.roomier more.chains)
+    (more.last ∙ c.loop-write.invariant.last)
 
 pub returns-in_err-make_room-clause-stands : goal.returns-in_err-make_room-clause-stands
-returns-in_err-make_room-clause-stands c = λ held base history. stands-same c.args.self.now held base history _ (returns-in_err-make_room-clause-same c)
-    (roomier-trans c.args.self.now.chains c.loop-write.self.chains c.make_room.new.self.chains c.loop-write.invariant.roomier c.make_room.ensures.chains)
-    (c.make_room.ensures.groups ∙ c.loop-write.invariant.groups)
+returns-in_err-make_room-clause-stands c = λ held base history.
+    let more = c.make_room.ensures.roomier in
+    stands-same c.args.self.now held base history _ (returns-in_err-make_room-clause-same c)
+    (roomier-trans c.args.self.now.chains c.loop-write.self.chains c.make_room.new.self.chains c.loop-write.invariant.roomier more.chains)
+    (more.groups ∙ c.loop-write.invariant.groups)
 
 pub returns-in_err-make_room-clause-known : goal.returns-in_err-make_room-clause-known
 returns-in_err-make_room-clause-known c = λ p.
@@ -50,26 +78,35 @@ returns-in_err-make_room-clause-known c = λ p.
 -- ---- the list, or the groups, were refused theirs
 
 pub returns-in_err-reserve_list-clause-same : goal.returns-in_err-reserve_list-clause-same
-returns-in_err-reserve_list-clause-same c = (reserved c.args.self.now c.loop-write.self _ _ c.loop-write.invariant.roomier c.loop-write.invariant.last c.loop-write.invariant.groups c.self.view_is refl refl refl).0
+returns-in_err-reserve_list-clause-same c =
+    (reserved c.args.self.now c.loop-write.self _ _ c.loop-write.invariant.roomier c.loop-write.invariant.last c.loop-write.invariant.groups c.self.view_is refl
+    refl refl).0
 
 pub returns-in_err-reserve_list-clause-stands : goal.returns-in_err-reserve_list-clause-stands
-returns-in_err-reserve_list-clause-stands c = (reserved c.args.self.now c.loop-write.self _ _ c.loop-write.invariant.roomier c.loop-write.invariant.last c.loop-write.invariant.groups c.self.view_is refl refl refl).1
+returns-in_err-reserve_list-clause-stands c =
+    (reserved c.args.self.now c.loop-write.self _ _ c.loop-write.invariant.roomier c.loop-write.invariant.last c.loop-write.invariant.groups c.self.view_is refl
+    refl refl).1
 
 pub returns-in_err-reserve-clause-same : goal.returns-in_err-reserve-clause-same
 returns-in_err-reserve-clause-same c =
-    (reserved c.args.self.now c.loop-write.self _ _ c.loop-write.invariant.roomier c.loop-write.invariant.last c.loop-write.invariant.groups c.self.view_is refl refl c.reserve.ensures.items).0
+    (reserved c.args.self.now c.loop-write.self _ _ c.loop-write.invariant.roomier c.loop-write.invariant.last c.loop-write.invariant.groups c.self.view_is refl
+    refl c.reserve.ensures.items).0
 
 pub returns-in_err-reserve-clause-stands : goal.returns-in_err-reserve-clause-stands
 returns-in_err-reserve-clause-stands c =
-    (reserved c.args.self.now c.loop-write.self _ _ c.loop-write.invariant.roomier c.loop-write.invariant.last c.loop-write.invariant.groups c.self.view_is refl refl c.reserve.ensures.items).1
+    (reserved c.args.self.now c.loop-write.self _ _ c.loop-write.invariant.roomier c.loop-write.invariant.last c.loop-write.invariant.groups c.self.view_is refl
+    refl c.reserve.ensures.items).1
 
 -- ---- all room is there
 
 pub returns-clause-same : goal.returns-clause-same
-returns-clause-same c = (reserved c.args.self.now c.loop-write.self _ _ c.loop-write.invariant.roomier c.loop-write.invariant.last c.loop-write.invariant.groups c.self.view_is refl refl c.reserve.ensures.items).0
+returns-clause-same c = (reserved c.args.self.now c.loop-write.self _ _ c.loop-write.invariant.roomier c.loop-write.invariant.last c.loop-write.invariant.groups
+    c.self.view_is refl refl c.reserve.ensures.items).0
 
 pub returns-clause-stands : goal.returns-clause-stands
-returns-clause-stands c = (reserved c.args.self.now c.loop-write.self _ _ c.loop-write.invariant.roomier c.loop-write.invariant.last c.loop-write.invariant.groups c.self.view_is refl refl c.reserve.ensures.items).1
+returns-clause-stands c =
+    (reserved c.args.self.now c.loop-write.self _ _ c.loop-write.invariant.roomier c.loop-write.invariant.last c.loop-write.invariant.groups c.self.view_is refl
+    refl c.reserve.ensures.items).1
 
 pub returns-clause-prepared : goal.returns-clause-prepared
 returns-clause-prepared c =

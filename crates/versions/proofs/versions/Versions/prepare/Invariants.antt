@@ -1,6 +1,10 @@
-use Rattle.versions.proofs.Words.{AllByRecursion, ◌≡◌, ◌≤◌, length, take, Bytes, room_at, IsRoomier}
-use Rattle.versions.proofs.Stores.{IsPlaced}
 use Rattle.versions.proofs.versions.Versions.prepare.Given as goal
+use Rattle.std.proofs.Common.{◌≡◌, ◌≤◌, length, take}
+use Rattle.std.specs.List.{AllByRecursion}
+use Rattle.model.specs.Map.{Bytes}
+use Rattle.sorted_pages.specs.Pages.{room_at}
+use Rattle.versions.proofs.Stores.{IsPlaced}
+use Rattle.versions.specs.Chains.{IsRoomier}
 
 -- the writes so far have room
 abbrev pub invariant-loop-write : goal.invariant-loop-write

@@ -1,8 +1,11 @@
-use Rattle.versions.proofs.Words.{ap, ◌∙◌, is_in_range, pairs_in_range, entries, ChainsValue, hides, visible}
-use Rattle.model.specs.KeyBytes.{end_bytes}
-use Rattle.sorted_pages.specs.Blanks.{shown}
-use Rattle.versions.proofs.Visibles.{visible-where, visible-shown}
 use Rattle.versions.proofs.versions.Versions.range.Goals as goal
+use Rattle.std.proofs.Common.{ap, ◌∙◌}
+use Rattle.model.specs.KeyBytes.{end_bytes}
+use Rattle.model.specs.Map.{is_in_range, pairs_in_range}
+use Rattle.sorted_pages.specs.Blanks.{shown}
+use Rattle.sorted_pages.specs.Pages.{entries}
+use Rattle.versions.proofs.Visibles.{visible-where, visible-shown}
+use Rattle.versions.specs.Chains.{ChainsValue, hides, visible}
 
 pub returns : goal.returns
 returns c =

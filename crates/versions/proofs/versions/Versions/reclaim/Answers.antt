@@ -1,5 +1,7 @@
-use Rattle.versions.proofs.{Words.rules, Stores.seen-itself, Stores.seen-on, Stores.reclaimed-on, Histories.stands-itself, Histories.stands-on, Histories.unmixed-on}
 use Rattle.versions.proofs.versions.Versions.reclaim.Goals as goal
+use Rattle.std.proofs.Common.{rules}
+use Rattle.versions.proofs.Histories.{stands-itself, stands-on, unmixed-on}
+use Rattle.versions.proofs.Stores.{seen-itself, seen-on, reclaimed-on}
 
 pub steps-init : goal.steps-init
 steps-init c = record { seen = seen-itself c.args.self.now c.args.begins.now; stands = stands-itself c.args.begins.now c.args.self.now }
@@ -14,10 +16,13 @@ steps-preserved c =
     }
 
 pub returns-clause-reclaimed : goal.returns-clause-reclaimed
-returns-clause-reclaimed c = reclaimed-on c.args.self.now c.steps.self c.reclaim_step.new.self c.args.begins.now c.steps.invariant.seen (c.reclaim_step.ensures.all (search rules))
+returns-clause-reclaimed c =
+    reclaimed-on c.args.self.now c.steps.self c.reclaim_step.new.self c.args.begins.now c.steps.invariant.seen (c.reclaim_step.ensures.all (search rules))
 
 pub returns-clause-unmixed : goal.returns-clause-unmixed
-returns-clause-unmixed c = unmixed-on c.args.begins.now c.args.self.now c.steps.self c.reclaim_step.new.self c.steps.invariant.stands c.reclaim_step.ensures.unmixed
+returns-clause-unmixed c =
+    unmixed-on c.args.begins.now c.args.self.now c.steps.self c.reclaim_step.new.self c.steps.invariant.stands c.reclaim_step.ensures.unmixed
 
 pub returns-clause-stands : goal.returns-clause-stands
-returns-clause-stands c = stands-on c.args.begins.now c.args.self.now c.steps.self c.reclaim_step.new.self c.steps.invariant.stands c.reclaim_step.ensures.stands
+returns-clause-stands c =
+    stands-on c.args.begins.now c.args.self.now c.steps.self c.reclaim_step.new.self c.steps.invariant.stands c.reclaim_step.ensures.stands

@@ -1,5 +1,6 @@
-use Rattle.versions.proofs.Words.{ℕ, due_of, IsSeenSame, StandWhereAmong}
 use Rattle.versions.proofs.versions.Versions.reclaim.Given as goal
+use Rattle.versions.specs.Meaning.{due_of, IsSeenSame}
+use Rattle.versions.specs.StandsFor.{StandWhereAmong}
 
 abbrev pub invariant-steps : goal.invariant-steps
 invariant-steps l = record {

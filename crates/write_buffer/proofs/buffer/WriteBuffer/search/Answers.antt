@@ -1,8 +1,8 @@
+use Rattle.write_buffer.proofs.buffer.WriteBuffer.search.Goals as goal
 use Rattle.std.proofs.Common.{rules}
 use Rattle.std.proofs.lemmas.Fn.{always_returns_same}
-use Rattle.model.specs.Map.{key_cmp}
 use Rattle.model.proofs.Entries.{searched}
-use Rattle.write_buffer.proofs.buffer.WriteBuffer.search.Goals as goal
+use Rattle.model.specs.Map.{key_cmp}
 
 pub returns : goal.returns
 returns c =

@@ -1,0 +1,77 @@
+//! Numbers that see nothing of a page.
+ghost use Rattle.std.specs.Prelude.{◌≡◌};
+
+use crate::aging::Aging;
+
+// The numbers from the one on and below the other.
+#[derive(Clone, Copy)]
+pub(crate) struct Gap {
+    pub(crate) from: u64,
+    pub(crate) to: u64,
+}
+
+impl Gap {
+    ghost use Rattle.std.specs.List.{list_any};
+    ghost use Rattle.sorted_pages.specs.Gaps.{IsBeside, held_or_none, is_none, is_within, none};
+
+    // That of no number.
+    pub(crate) fn none() -> Gap
+        ensures { result ≡ none }
+    {
+        Gap { from: 0, to: 0 }
+    }
+
+    // Is there no number in it?
+    pub(crate) fn is_none(self) -> bool
+        ensures { result ≡ is_none self }
+    {
+        self.to <= self.from
+    }
+
+    // Is the number one of them?
+    pub(crate) fn has(self, number: u64) -> bool
+        ensures { result ≡ is_within number self }
+    {
+        self.from <= number && number < self.to
+    }
+
+    // Is one of these numbers among them?
+    fn has_any(self, numbers: &[u64]) -> bool
+        ensures { result ≡ list_any (λ n. is_within n self) numbers.now }
+    {
+        numbers.iter().any(|number| self.has(*number))
+    }
+
+    // Itself, where one of these numbers is among them, and else none.
+    pub(crate) fn held_or_none(self, numbers: &[u64]) -> Gap
+        ensures { result ≡ held_or_none numbers.now self }
+    {
+        if self.has_any(numbers) {
+            self
+        } else {
+            Gap::none()
+        }
+    }
+
+    // Those of the numbers that see nothing of the value: up to its last change where it shows, and from the end of the last value before
+    // that they see.
+    pub(crate) fn beside<V: Aging>(self, value: &V) -> Gap
+        ensures { IsBeside V.hides V.shows V.last value.now self result }
+    {
+        let to = if value.shows() {
+            self.to.min(value.last())
+        } else {
+            self.to
+        };
+        if to <= self.from {
+            return Gap {
+                from: self.from,
+                to,
+            };
+        }
+        Gap {
+            from: value.hidden_from(self.from, to),
+            to,
+        }
+    }
+}

@@ -1,0 +1,72 @@
+//! The gaps that a page keeps beside its last one.
+use crate::aging::Aging;
+use crate::gap::Gap;
+
+// Three gaps, of which some may have no number.
+#[derive(Clone, Copy)]
+pub(crate) struct Older {
+    pub(crate) first: Gap,
+    pub(crate) second: Gap,
+    pub(crate) third: Gap,
+}
+
+impl Older {
+    ghost use Rattle.std.specs.Prelude.{◌≡◌};
+    ghost use Rattle.sorted_pages.specs.Gaps.{AreBeside, are_held_or_none, is_in_some, with_gap};
+
+    // None.
+    pub(crate) fn none() -> Older {
+        Older {
+            first: Gap::none(),
+            second: Gap::none(),
+            third: Gap::none(),
+        }
+    }
+
+    // Is the number in one of them?
+    pub(crate) fn have(self, number: u64) -> bool
+        ensures { result ≡ is_in_some number self }
+    {
+        self.first.has(number) || self.second.has(number) || self.third.has(number)
+    }
+
+    // Of each the numbers that see nothing of the value.
+    pub(crate) fn beside<V: Aging>(self, value: &V) -> Older
+        ensures { AreBeside V.hides V.shows V.last value.now self result }
+    {
+        Older {
+            first: self.first.beside(value),
+            second: self.second.beside(value),
+            third: self.third.beside(value),
+        }
+    }
+
+    // Those that one of the numbers is in.
+    pub(crate) fn held(self, numbers: &[u64]) -> Older
+        ensures { result ≡ are_held_or_none numbers.now self }
+    {
+        Older {
+            first: self.first.held_or_none(numbers),
+            second: self.second.held_or_none(numbers),
+            third: self.third.held_or_none(numbers),
+        }
+    }
+
+    // With one more, if it has a number: in the first place that has none, and in the last where each has one.
+    pub(crate) fn with(self, gap: Gap) -> Older
+        ensures { result ≡ with_gap gap self }
+    {
+        if gap.is_none() {
+            self
+        } else if self.first.is_none() {
+            Older { first: gap, ..self }
+        } else if self.second.is_none() {
+            Older {
+                second: gap,
+                ..self
+            }
+        } else {
+            Older { third: gap, ..self }
+        }
+    }
+}

@@ -1,0 +1,43 @@
+-- What room there is for writes, and what installing them does to chains and to what is listed.
+use Rattle.std.specs.List.{AllByRecursion}
+use Rattle.std.specs.Prelude.{◌≡◌, ◌≤◌, ◌+◌, ◌-◌, ℕ, List, ◌++◌, length}
+use Rattle.std.specs.Vec.{vec_len, vec_capacity}
+use Rattle.std.specs.declared.vec.Vec.{Vec}
+use Rattle.model.specs.Map.{Bytes, KeyWrite}
+use Rattle.sorted_pages.specs.Pages.{Page, room_at}
+use Rattle.versions.specs.Chains.{ChainValue, Chains, ChainsValue, HasPlaceAt, HasRoom, IsKept, IsRoomier, find_chain}
+use Rattle.versions.specs.Groups.{Listed}
+use Rattle.versions.specs.Listings.{AreSeenFrom, IsFollowed, StayListed}
+use Rattle.versions.specs.Meaning.{AreInstalled}
+use Rattle.versions.specs.Witnesses.{IsAddedTo}
+
+-- nothing has changed but the room in chains and pages, and there is no less of it
+pub record HasMoreRoom (old new : ChainsValue) : Type 0 where
+  pub chains : IsRoomier old.chains new.chains
+  pub rooms : (q : Bytes) → room_at q old.pages ≤ room_at q new.pages
+  pub listed_spare : new.listed_spare ≡ old.listed_spare
+  pub groups_spare : new.groups_spare ≡ old.groups_spare
+  pub groups : new.groups ≡ old.groups
+  pub last : new.last ≡ old.last
+
+-- each of the writes can be added without memory, in the chain of its key or where that would stand
+pub record HaveRoom (pages : List (Page ChainValue)) (chains : Chains) (ws : List KeyWrite) : Type 0 where
+  pub rooms : AllByRecursion (λ w. HasRoom (find_chain w.0 chains)) ws
+  pub places : AllByRecursion (λ w. HasPlaceAt (length ws) w.0 pages chains) ws
+
+-- the list has these versions more, and room for at most one less
+pub record ListsMore {Z : Type 0} (old new : Vec Listed Z) (more : List Listed) : Type 0 where
+  pub items : new.items ≡ old.items ++ more
+  pub room : vec_capacity old - vec_len old ≤ vec_capacity new - vec_len new + 1
+
+-- the writes came into the chains with number n, behind what the numbers below n see
+pub record AddsWrites (old new : Chains) (n : ℕ) (ws : List KeyWrite) : Type 0 where
+  pub kept : IsKept new n
+  pub installed : AreInstalled old new n ws
+  pub added : (k : Bytes) → IsAddedTo n (find_chain k old) (find_chain k new)
+
+-- these are the versions that those of number n came behind: n - 1 sees each of them
+pub record ListsFollowed (old new : Chains) (n : ℕ) (vs : List Listed) : Type 0 where
+  pub listed : StayListed old new vs
+  pub seen : AreSeenFrom (n - 1) vs
+  pub followed : AllByRecursion (IsFollowed n new) vs
