@@ -7,7 +7,7 @@ use clap::{Arg, ArgAction, Command};
 use std::alloc::{AllocError, Global};
 
 /// The program's version, which `--version` prints behind its name.
-pub(crate) const VERSION: &str = "0.1.0";
+pub(crate) const VERSION: &str = "0.2.0";
 
 // An option that must be given, with one text.
 fn text_option<'a>(alloc: Global, name: &'a str, value: &'a str, help: &'a str) -> Arg<'a> {
@@ -78,7 +78,7 @@ fn compact<'a>(alloc: Global) -> Result<Command<'a>, AllocError> {
         .long("sectors")
         .value_name("N")
         .help(
-            "At least how many sectors of 512 bytes, 2 to 4194304 [default: as many as the map needs]",
+            "At least how many sectors of 512 bytes, 2 to 4194304 [default: as many as the old file, or as the map needs if that is more]",
         )
         .action(ArgAction::Set)
         .value_parser(clap::value_parser!(u64).range(2..=4_194_304));

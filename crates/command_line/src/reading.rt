@@ -74,8 +74,8 @@ fn asked<'a>(name: &str, found: &ArgMatches<'a>) -> Option<Asked<'a>>
 /// Reads the words of a command line, the program's name first.
 ///
 /// A number of sectors is one of its command's range: 2 to 4,194,304 for `create`, 2 to 65,536 for `play`, which takes 4,096 where
-/// none is given. A refusal is `Help` where help or the version was asked for, `Refused` where the words name no command or not all that it needs,
-/// and `Memory`.
+/// none is given. A refusal is `Help` where help or the version was asked for, `Refused` where the words name no command or not all that it
+/// needs, and `Memory`.
 ///
 /// It may grow what `clap` keeps of the commands, the words and the error, and the refusal's text.
 pub fn parse<'a>(alloc: Global, words: &'a [&'a str]) -> Result<Asked<'a>, Refusal>

@@ -1,8 +1,10 @@
 -- Which fault of the log is told as a full one.
+use Rattle.commit_log.specs.declared.faults.LogFault.TheVariants as logs
 use Rattle.std.proofs.Common.{◌≡◌, refl, subst}
 use Rattle.commit_log.specs.declared.faults.LogFault.{LogFault}
-use Rattle.commit_log.specs.declared.faults.LogFault.TheVariants as logs
-use Rattle.commands.specs.{declared.faults.Fault.Fault, declared.faults.Fault.TheVariants.LogFull, Faults.of_log, Faults.IsFromOutput}
+use Rattle.commands.specs.Faults.{of_log, IsFromOutput}
+use Rattle.commands.specs.declared.faults.Fault.{Fault}
+use Rattle.commands.specs.declared.faults.Fault.TheVariants.{LogFull}
 
 pub full_alone : (e : LogFault) → of_log e ≡ LogFull → e ≡ logs.Full
 full_alone logs.NotALog is = absurd (cc is)

@@ -1,3 +1,4 @@
 pub mod Opening
 pub mod Copied
 pub mod Rooms
+pub mod Printed

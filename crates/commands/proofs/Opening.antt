@@ -1,8 +1,10 @@
 -- Files that are opened one after the other.
-use Rattle.std.proofs.Common.{◌≡◌, List, [], ◌∷◌, ◌++◌, zero, suc, arith, Option, None, Some, ℤ, pos, refl, sym, subst, ap, ◌∙◌}
-use Rattle.std.proofs.{lemmas.List.map-append, lemmas.List.Elements.All-append, lemmas.List.Elements.All-nil}
-use Rattle.std.specs.Prelude.{◌≤ℤ◌, ◌<ℤ◌, IfSome}
+use Rattle.std.proofs.Common.{◌≡◌, List, [], ◌∷◌, ◌++◌, zero, suc, arith, Option, None, Some, ℤ, pos, refl, sym}
+use Rattle.std.proofs.Common.{subst, ap, ◌∙◌}
+use Rattle.std.proofs.lemmas.List.{map-append}
+use Rattle.std.proofs.lemmas.List.Elements.{All-append, All-nil}
 use Rattle.std.specs.List.{All}
+use Rattle.std.specs.Prelude.{◌≤ℤ◌, ◌<ℤ◌, IfSome}
 use Rattle.commands.specs.Openings.{OpensAll, KeepsSoFar}
 
 pub opens_more : {O F : Type 0} (opens : O → F → O → Type 0) (files : List F) (first now next : O) (file : F)
@@ -10,7 +12,8 @@ pub opens_more : {O F : Type 0} (opens : O → F → O → Type 0) (files : List
 opens_more opens [] first now next file same more = (next, (let P : _ → Type 0 = λ m. opens m file next in subst P (sym same) more), refl)
 opens_more opens (f ∷ files) first now next file (m, o, rest) more = (m, o, opens_more opens files m now next file rest more)
 
-pub keeps_none : {O F : Type 0} (opens : O → F → O → Type 0) (number : F → Option ℤ) (first : O) (kept : List (Option F)) → kept ≡ [] → KeepsSoFar opens number first kept first
+pub keeps_none : {O F : Type 0} (opens : O → F → O → Type 0) (number : F → Option ℤ) (first : O) (kept : List (Option F)) → kept ≡ []
+    → KeepsSoFar opens number first kept first
 keeps_none opens number first kept none = ([], none, refl, All-nil _)
 
 all_one : {F : Type 0} (P : F → Type 0) (x : F) → P x → All P (x ∷ [])

@@ -3,8 +3,9 @@ use Rattle.std.proofs.Common.{◌≡◌, ◌≤◌, ◌<◌, ◌^◌, ℕ, arith
 use Rattle.std.specs.Prelude.{◌≢◌, IfErr, IfSome, IfNone, IsErrOf}
 use Rattle.model.specs.Map.{KeyMap}
 use Rattle.commit_log.specs.Copying.{copy_size}
-use Rattle.commands.specs.{declared.faults.Fault.Fault, declared.faults.Fault.TheVariants.LogFull, declared.faults.Fault.TheVariants.Device}
 use Rattle.commands.specs.Compacting.{copy_count, HasTooFew, Needs}
+use Rattle.commands.specs.declared.faults.Fault.{Fault}
+use Rattle.commands.specs.declared.faults.Fault.TheVariants.{LogFull, Device}
 
 -- formatting a device of two sectors or more fails by the device alone
 pub alone : (r : Result (Unit {0}) Fault) (n : ℕ) → IfErr r (λ e. e ≢ LogFull → e ≡ Device) → (IsErrOf r LogFull → n < 2) → 2 ≤ n → IfErr r (λ e. e ≡ Device)
@@ -16,7 +17,8 @@ needs_of map None some none = none
 needs_of map (Some n) some none = some
 
 -- a copy that isn't refused has room
-pub has_room : (map : KeyMap) (old : ℕ) (asked needed : Option ℕ) → Needs map needed → (HasTooFew asked needed → ⊥) → copy_size map ≤ copy_count old asked needed
+pub has_room : (map : KeyMap) (old : ℕ) (asked needed : Option ℕ) → Needs map needed → (HasTooFew asked needed → ⊥)
+    → copy_size map ≤ copy_count old asked needed
 has_room map old asked None needs enough = absurd (enough tt)
 has_room map old None (Some n) needs enough = let is : n ≡ copy_size map = needs in omega (arith, is)
 has_room map old (Some a) (Some n) needs enough = let is : n ≡ copy_size map = needs in let here : n ≤ a = omega (arith, enough) in omega (arith, is, here)

@@ -1,13 +1,14 @@
 -- The faults of commands.
-use Rattle.std.specs.Prelude.{◌≡◌, ℕ, List, [], ◌∷◌, ◌++◌, Result, MatchResult, codes}
+use Rattle.commit_log.specs.declared.faults.LogFault.TheVariants as logs
+use Rattle.scripts.specs.declared.faults.ScriptFault.TheVariants as scripts
 use Rattle.std.specs.Fmt.{decimal}
+use Rattle.std.specs.Prelude.{◌≡◌, ℕ, List, [], ◌∷◌, ◌++◌, Result, MatchResult, codes}
 use Rattle.sector.specs.Failures.{Rose}
 use Rattle.commit_log.specs.declared.faults.LogFault.{LogFault}
-use Rattle.commit_log.specs.declared.faults.LogFault.TheVariants as logs
 use Rattle.scripts.specs.declared.faults.ScriptFault.{ScriptFault}
-use Rattle.scripts.specs.declared.faults.ScriptFault.TheVariants as scripts
 use Rattle.commands.specs.declared.faults.Fault.{Fault}
-use Rattle.commands.specs.declared.faults.Fault.TheVariants.{NotALog, OldFormat, NotEmpty, Damaged, LogFull, Device, File, Listen, Poll, Memory, BadLine, Crowded}
+use Rattle.commands.specs.declared.faults.Fault.TheVariants.{NotALog, OldFormat, NotEmpty, Damaged, LogFull, Device}
+use Rattle.commands.specs.declared.faults.Fault.TheVariants.{File, Listen, Poll, Memory, BadLine, Crowded}
 
 -- what a fault of the log is for a command
 abbrev pub of_log : LogFault → Fault
@@ -74,4 +75,5 @@ status_of other = 3
 
 -- `Device` is told exactly where a call of the device failed
 abbrev pub DeviceIs : {T : Type 0} → ℕ → ℕ → Result T Fault → Type 0
-DeviceIs before now result = MatchResult result (λ _. now ≡ before) (λ e. (e ≡ Device → Rose before now) × ((e ≡ Device → ⊥) → now ≡ before))
+DeviceIs before now result =
+    MatchResult result (λ _. now ≡ before) (λ e. (e ≡ Device → Rose before now) × ((e ≡ Device → ⊥) → now ≡ before))

@@ -1,14 +1,16 @@
 -- What is printed of a log.
-use Rattle.std.specs.Prelude.{ℕ, ◌+◌, List, [], ◌∷◌, ◌++◌, length, codes}
 use Rattle.std.specs.Fmt.{decimal}
+use Rattle.std.specs.Prelude.{ℕ, ◌+◌, List, [], ◌∷◌, ◌++◌, length, codes}
 use Rattle.model.specs.Map.{Bytes, KeyWrite}
-use Rattle.commit_log.specs.{LogImage.span, Recovery.map_after}
+use Rattle.commit_log.specs.LogImage.{span}
+use Rattle.commit_log.specs.Recovery.{map_after}
 use Rattle.commands.specs.declared.data.LogCounts.{LogCounts}
 
 -- the line of these counts
 abbrev pub line_of : LogCounts → Bytes
 line_of counts =
-    codes "records " ++ decimal counts.records ++ codes " keys " ++ decimal counts.keys ++ codes " sectors " ++ decimal counts.used ++ codes " of "
+    codes "records " ++ decimal counts.records ++ codes " keys " ++ decimal counts.keys ++ codes " sectors "
+    ++ decimal counts.used ++ codes " of "
     ++ decimal counts.count ++ 10 ∷ []
 
 -- the counts of a log of these write sets on a device of so many sectors

@@ -1,6 +1,7 @@
 -- The lines that commands print of what they do.
+use Rattle.std.specs.Net.Text.{socket_text}
 use Rattle.std.specs.Prelude.{ℕ, List, [], ◌∷◌, ◌++◌, codes}
-use Rattle.std.specs.{Net.Text.socket_text, declared.net.socket_addr.SocketAddr.SocketAddr}
+use Rattle.std.specs.declared.net.socket_addr.SocketAddr.{SocketAddr}
 
 -- the line of the address that is listened at
 abbrev pub listening_line : SocketAddr → List ℕ

@@ -1,16 +1,24 @@
--- What serving does, call by call, over whatever opens files, listens, takes turns and takes lines. Each relation given is of one call:
--- what was called before it, what it was given, how it came out, and what was called afterwards.
-use Rattle.std.specs.Prelude.{◌≡◌, ℕ, List, Bool, true, false, Result, Ok, Err, IfErr, MatchResult}
-use Rattle.std.specs.{Net.Grammar.IsSocketText, declared.io.Error.Error, declared.net.socket_addr.SocketAddr.SocketAddr}
+-- What serving does, call by call, over whatever opens files, listens, takes turns and takes lines. Each relation given
+-- is of one call: what was called before it, what it was given, how it came out, and what was called afterwards.
+use Rattle.std.specs.Net.Grammar.{IsSocketText}
+use Rattle.std.specs.Prelude.{◌≡◌, ◌+◌, ◌-◌, ◌^◌, ℕ, List, Bool, true, false, Result, Ok, Err, MatchResult}
+use Rattle.std.specs.declared.io.Error.{Error}
+use Rattle.std.specs.declared.net.socket_addr.SocketAddr.{SocketAddr}
 use Rattle.model.specs.Map.{KeyMap}
 use Rattle.sector.specs.declared.device.Sectors.{Ghosts}
 use Rattle.commit_log.specs.declared.faults.Unopened.{Unopened}
 use Rattle.sessions.specs.Lives.{Begins, IsOpened, Opens, TellsWhy}
 use Rattle.sessions.specs.declared.hub.Hub.{Hub}
-use Rattle.commands.specs.{Faults.of_log, Notices.listening_line, Notices.stopped_line, Printing.IsToldAs, Printing.Prints, declared.faults.Fault.Fault}
+use Rattle.commands.specs.Faults.{of_log}
+use Rattle.commands.specs.Notices.{listening_line, stopped_line}
+use Rattle.commands.specs.Printing.{IsToldAs, Prints}
+use Rattle.commands.specs.declared.faults.Fault.{Fault}
 use Rattle.commands.specs.declared.faults.Fault.TheVariants.{File, Listen, Poll}
-use Rattle.commands.specs.{declared.system.Around.Around, declared.system.DataFiles.Ghosts as DataFiles, declared.system.Lines.Ghosts as Lines}
-use Rattle.commands.specs.{declared.system.Ports.Ghosts as Ports, declared.system.Turns.Ghosts as Turns}
+use Rattle.commands.specs.declared.system.Around.{Around}
+use Rattle.commands.specs.declared.system.DataFiles.{Ghosts as DataFiles}
+use Rattle.commands.specs.declared.system.Lines.{Ghosts as Lines}
+use Rattle.commands.specs.declared.system.Ports.{Ghosts as Ports}
+use Rattle.commands.specs.declared.system.Turns.{Ghosts as Turns}
 
 -- each hub that was opened is taken
 abbrev pub TakesOpened : {D : Type 0} {g : Ghosts D} → (Hub D g → Type 0) → Type 0
@@ -19,68 +27,96 @@ TakesOpened {D} {g} takes = (hub : Hub D g) → IsOpened hub → takes hub
 -- what opening a store over this device came to
 abbrev pub Starts : {D : Type 0} {g : Ghosts D} → D → Result (Hub D g) (Unopened D) → Type 0
 Starts {D = D} {g = g} device result =
-    TellsWhy {D = D} {g = g} device result × MatchResult result (λ hub. ((map : KeyMap) × Begins device hub map) × (g.keeps_model → Opens device (Ok hub)))
+    TellsWhy {D = D} {g = g} device result
+    × MatchResult result (λ hub. ((map : KeyMap) × Begins device hub map) × (g.keeps_model → Opens device (Ok hub)))
     (λ unopened. g.keeps_model → Opens {D = D} {g = g} device (Err unopened))
 
--- Opening a file of this name and listening at the address that a text spells: the first that fails ends it, with its fault, and no later
--- call is made. A text that spells none ends it before any call.
-pub data Opening {F P D V : Type 0} {g : Ghosts D} (opens : F → List ℕ → Result D Error → F → Type 0) (listens : P → SocketAddr → Hub D g → Result V Error → P → Type 0)
-    (name listen : List ℕ) (files : F) (ports : P) : Result V Fault → F → P → Type 0 where
-  NoAddress : ((address : SocketAddr) → IsSocketText listen address → ⊥) → Opening opens listens name listen files ports (Err Listen) files ports
-  NoFile : (address : SocketAddr) (error : Error) (fault : Fault) (opened : F) → IsSocketText listen address → opens files name (Err error) opened → IsToldAs error File fault
-      → Opening opens listens name listen files ports (Err fault) opened ports
-  NoStore : (address : SocketAddr) (device : D) (unopened : Unopened D) (opened : F) → IsSocketText listen address → opens files name (Ok device) opened
-      → Starts {D = D} {g = g} device (Err unopened) → Opening opens listens name listen files ports (Err (of_log unopened.fault)) opened ports
-  NoPort : (address : SocketAddr) (device : D) (hub : Hub D g) (error : Error) (fault : Fault) (opened : F) (listened : P) → IsSocketText listen address
-      → opens files name (Ok device) opened → Starts device (Ok hub) → listens ports address hub (Err error) listened → IsToldAs error Listen fault
-      → Opening opens listens name listen files ports (Err fault) opened listened
-  Opened : (address : SocketAddr) (device : D) (hub : Hub D g) (server : V) (opened : F) (listened : P) → IsSocketText listen address
-      → opens files name (Ok device) opened → Starts device (Ok hub) → listens ports address hub (Ok server) listened
-      → Opening opens listens name listen files ports (Ok server) opened listened
+-- Opening a file of this name and listening at the address that a text spells: the first that fails ends it, with its
+-- fault, and no later call is made but to close a file that holds no store. A text that spells no address ends it
+-- before any call.
+pub data Opening {F P D V : Type 0} {g : Ghosts D} (files : DataFiles F D) (listens : P → SocketAddr → Hub D g
+    → Result V Error → P → Type 0)
+    (name listen : List ℕ) (old : F) (ports : P) : Result V Fault → F → P → Type 0 where
+  NoAddress : ((address : SocketAddr) → IsSocketText listen address → ⊥)
+      → Opening files listens name listen old ports (Err Listen) old ports
+  NoFile : (address : SocketAddr) (error : Error) (fault : Fault) (opened : F) → IsSocketText listen address
+      → files.opens old name (Err error) opened → IsToldAs error File fault
+      → Opening files listens name listen old ports (Err fault) opened ports
+  NoStore : (address : SocketAddr) (device : D) (unopened : Unopened D) (opened closed : F)
+      → IsSocketText listen address → files.opens old name (Ok device) opened
+      → Starts {D = D} {g = g} device (Err unopened) → files.closes opened unopened.device closed
+      → Opening files listens name listen old ports (Err (of_log unopened.fault)) closed ports
+  NoPort : (address : SocketAddr) (device : D) (hub : Hub D g) (error : Error) (fault : Fault) (opened : F)
+      (listened : P) → IsSocketText listen address
+      → files.opens old name (Ok device) opened → Starts device (Ok hub)
+      → listens ports address hub (Err error) listened → IsToldAs error Listen fault
+      → Opening files listens name listen old ports (Err fault) opened listened
+  Opened : (address : SocketAddr) (device : D) (hub : Hub D g) (server : V) (opened : F) (listened : P)
+      → IsSocketText listen address
+      → files.opens old name (Ok device) opened → Starts device (Ok hub)
+      → listens ports address hub (Ok server) listened
+      → Opening files listens name listen old ports (Ok server) opened listened
 
--- After a turn that left the store stopped or not: where it is and that was not told, it is told now, by one line; else nothing is done.
-abbrev pub TellsStop : {E : Type 0} → (E → List ℕ → Result (Unit {0}) Error → E → Type 0) → Bool → Bool → E → Bool → E → Type 0
-TellsStop writes false true err told' err' = (told' ≡ true) × (written : Result (Unit {0}) Error) × writes err stopped_line written err'
+-- After a turn that left the store stopped or not: where it is and that was not told, it is told now, by one line; else
+-- nothing is done.
+abbrev pub TellsStop : {E : Type 0} → (E → List ℕ → Result (Unit {0}) Error → E → Type 0) → Bool → Bool → E → Bool → E
+    → Type 0
+TellsStop writes false true err told' err' =
+    (told' ≡ true) × (written : Result (Unit {0}) Error) × writes err stopped_line written err'
 TellsStop writes false false err told' err' = (told' ≡ false) × (err' ≡ err)
 TellsStop writes true stopped err told' err' = (told' ≡ true) × (err' ≡ err)
 
--- turns that did not fail, one after the other, behind each of which it was told that the store has stopped, unless that was told
-pub data TakesTurns {V E : Type 0} (turns : V → Result (Unit {0}) Error → V → Type 0) (stops : V → Bool → Type 0) (writes : E → List ℕ → Result (Unit {0}) Error → E → Type 0)
-    (first : V) (err : E) : V → Bool → E → Type 0 where
-  None : TakesTurns turns stops writes first err first false err
-  More : (before after : V) (told stopped told' : Bool) (done : Unit {0}) (told_so_far told_now : E) → TakesTurns turns stops writes first err before told told_so_far
+-- so many turns that did not fail, one after the other, behind each of which it was told that the store has stopped,
+-- unless that was told
+pub data TakesTurns {V E : Type 0} (turns : V → Result (Unit {0}) Error → V → Type 0) (stops : V → Bool
+    → Type 0) (writes : E → List ℕ → Result (Unit {0}) Error → E → Type 0)
+    (first : V) (err : E) : ℕ → V → Bool → E → Type 0 where
+  None : TakesTurns turns stops writes first err 0 first false err
+  More : (count : ℕ) (before after : V) (told stopped told' : Bool) (done : Unit {0}) (told_so_far told_now : E)
+      → TakesTurns turns stops writes first err count before told told_so_far
       → turns before (Ok done) after → stops after stopped → TellsStop writes told stopped told_so_far told' told_now
-      → TakesTurns turns stops writes first err after told' told_now
+      → TakesTurns turns stops writes first err (count + 1) after told' told_now
 
--- turns until one fails, with its fault; nothing is done behind it
-pub record EndsTurns {V E : Type 0} (turns : V → Result (Unit {0}) Error → V → Type 0) (stops : V → Bool → Type 0) (writes : E → List ℕ → Result (Unit {0}) Error → E → Type 0)
-    (first : V) (err : E) (fault : Fault) (last : V) (err' : E) : Type 0 where
-  pub before : V
-  pub told : Bool
-  pub error : Error
-  pub taken : TakesTurns turns stops writes first err before told err'
-  pub failed : turns before (Err error) last
-  pub fault_is : IsToldAs error Poll fault
+-- turns until one fails, with its fault, or until as many were taken as are counted; nothing is done behind them
+pub data EndsTurns {V E : Type 0} (turns : V → Result (Unit {0}) Error → V → Type 0) (stops : V → Bool
+    → Type 0) (writes : E → List ℕ → Result (Unit {0}) Error → E → Type 0)
+    (first : V) (err : E) : Result (Unit {0}) Fault → V → E → Type 0 where
+  Failed : (count : ℕ) (before last : V) (told : Bool) (error : Error) (fault : Fault) (err' : E)
+      → TakesTurns turns stops writes first err count before told err'
+      → turns before (Err error) last → IsToldAs error Poll fault
+      → EndsTurns turns stops writes first err (Err fault) last err'
+  Counted : (done : Unit {0}) (last : V) (told : Bool) (err' : E)
+      → TakesTurns turns stops writes first err (2 ^ 64 - 1) last told err'
+      → EndsTurns turns stops writes first err (Ok done) last err'
 
--- Serving: a file is opened and an address listened at, the address that the server has is printed, and turns are taken until one fails.
--- The first of these that fails ends it, with its fault, and nothing is done behind it.
-pub data EndsServing {F P D V O E : Type 0} {g : Ghosts D} (files : DataFiles F D) (ports : Ports P (Hub D g) V) (server : Turns V)
-    (out : Lines O) (err : Lines E) (name listen : List ℕ) (old : Around F P O E) : Fault → Around F P O E → Type 0 where
-  NotOpened : (fault : Fault) (opened : F) (listened : P) → Opening files.opens ports.listens name listen old.files old.ports (Err fault) opened listened
-      → EndsServing files ports server out err name listen old fault (record old { files = opened; ports = listened })
+-- Serving: a file is opened and an address listened at, the address that the server has is printed, and turns are taken
+-- until one fails, or all that are counted were taken. The first of these that fails ends it, with its fault, and
+-- nothing is done behind it.
+pub data EndsServing {F P D V O E : Type 0} {g : Ghosts D} (files : DataFiles F D) (ports : Ports P (Hub D g) V)
+    (server : Turns V)
+    (out : Lines O) (err : Lines E) (name listen : List ℕ) (old : Around F P O E) : Result (Unit {0}) Fault
+    → Around F P O E → Type 0 where
+  NotOpened : (fault : Fault) (opened : F) (listened : P)
+      → Opening files ports.listens name listen old.files old.ports (Err fault) opened listened
+      → EndsServing files ports server out err name listen old (Err fault)
+      (record old { files = opened; ports = listened })
   Nowhere : (serving : V) (error : Error) (opened : F) (listened : P)
-      → Opening files.opens ports.listens name listen old.files old.ports (Ok serving) opened listened → server.is_at serving (Err error)
-      → EndsServing files ports server out err name listen old Listen (record old { files = opened; ports = listened })
-  NotPrinted : (serving : V) (address : SocketAddr) (error : Error) (fault : Fault) (opened : F) (listened : P) (printed : O)
-      → Opening files.opens ports.listens name listen old.files old.ports (Ok serving) opened listened → server.is_at serving (Ok address)
+      → Opening files ports.listens name listen old.files old.ports (Ok serving) opened listened
+      → server.is_at serving (Err error)
+      → EndsServing files ports server out err name listen old (Err Listen)
+      (record old { files = opened; ports = listened })
+  NotPrinted : (serving : V) (address : SocketAddr) (error : Error) (fault : Fault) (opened : F) (listened : P)
+      (printed : O)
+      → Opening files ports.listens name listen old.files old.ports (Ok serving) opened listened
+      → server.is_at serving (Ok address)
       → Prints out.writes (listening_line address) old.out (Err error) printed → IsToldAs error File fault
-      → EndsServing files ports server out err name listen old fault (record old { files = opened; ports = listened; out = printed })
-  Served : (serving : V) (address : SocketAddr) (done : Unit {0}) (fault : Fault) (opened : F) (listened : P) (printed : O) (last : V) (told : E)
-      → Opening files.opens ports.listens name listen old.files old.ports (Ok serving) opened listened → server.is_at serving (Ok address)
-      → Prints out.writes (listening_line address) old.out (Ok done) printed → EndsTurns server.turns server.stops err.writes serving old.err fault last told
-      → EndsServing files ports server out err name listen old fault (record old { files = opened; ports = listened; out = printed; err = told })
-
--- where serving ends by a fault, it ends so
-abbrev pub Serving : {F P D V O E : Type 0} {g : Ghosts D} → DataFiles F D → Ports P (Hub D g) V → Turns V → Lines O → Lines E
-    → List ℕ → List ℕ → Around F P O E → Result (Unit {0}) Fault → Around F P O E → Type 0
-Serving files ports server out err name listen old result new = IfErr result (λ fault. EndsServing files ports server out err name listen old fault new)
+      → EndsServing files ports server out err name listen old (Err fault)
+      (record old { files = opened; ports = listened; out = printed })
+  Served : (serving : V) (address : SocketAddr) (done : Unit {0}) (result : Result (Unit {0}) Fault) (opened : F)
+      (listened : P) (printed : O) (last : V) (told : E)
+      → Opening files ports.listens name listen old.files old.ports (Ok serving) opened listened
+      → server.is_at serving (Ok address)
+      → Prints out.writes (listening_line address) old.out (Ok done) printed
+      → EndsTurns server.turns server.stops err.writes serving old.err result last told
+      → EndsServing files ports server out err name listen old result
+      (record old { files = opened; ports = listened; out = printed; err = told })

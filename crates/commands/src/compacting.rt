@@ -2,7 +2,7 @@
 ghost use Rattle.std.specs.Prelude.{◌≡◌, ◌<◌, ◌≤◌, ◌⊎◌, ◌↔◌, Ok, OnOk, IfOk, IfErr, IsErrOf};
 ghost use Rattle.commit_log.specs.Copying.{write_sets_of, copy_size, IsCopyFault};
 ghost use Rattle.commit_log.specs.Reading.{FaultIs};
-ghost use Rattle.commands.specs.Compacting.{copy_count, Compacting, Copies, HasTooFew, MayTell};
+ghost use Rattle.commands.specs.Compacting.{copy_count, Compacting, Copies, HasTooFew, MayTell, ReadsFile};
 ghost use Rattle.commands.specs.LogCounts.{counts_of, log_line};
 ghost use Rattle.commands.specs.Faults.{IsFromOutput};
 ghost use Rattle.commit_log.specs.LogState.{HoldsLog};
@@ -21,7 +21,8 @@ use std::{io, mem};
 /// Copies the map of the log in the file `from`, of either format, into the file `to`, and prints the line of `to` as `check` does. It
 /// makes `to`, whose name must be free, with as many sectors as `copy_count` says, and never writes `from`. Where the
 /// error output is a terminal and reading took a second or more, it reports there that the copy is being written; if this can't be
-/// reported, that is no fault. It calls nothing else: its contract names each call of the files and the outputs.
+/// reported, that is no fault. It calls nothing else: its contract names each call of the files and the outputs, and what each file holds
+/// where it is closed.
 ///
 /// The first fault is reported: one of opening or reading `from`; `LogFull` where the map needs more sectors than `to` may have, and then
 /// `to` isn't made; `File` or `Memory` where `to` can't be made, after which no file is there that it made; one of `copy_device`, after
@@ -38,16 +39,28 @@ pub fn compact<C: Clock, F: DataFiles, P, O: Lines, E: Lines>(
     ensures { Compacting F.Device.Sectors F.DataFiles O.Lines E.Lines from.now to.now sectors around.old result around.new }
 {
     let begun = Instant::now(clock).ok();
-    let mut old = around.files.open_to_read(from)?;
-    let found = read_map(alloc, &mut old)?;
-    let (map, _) = found;
+    let found = read_file(alloc, &mut around.files, from)?;
+    let (map, old_count) = found;
     let needed = copy_sectors(&map);
-    let count = copy_count(old.count(), sectors, needed)?;
-    let mut new = around.files.create(to, count)?;
+    let count = copy_count(old_count, sectors, needed)?;
+    let mut device = around.files.create(to, count)?;
     may_tell(clock, begun, around.is_terminal, &mut around.err);
-    let copied = copy_device(alloc, &mut new, &map, &mut around.out);
+    let copied = copy_device(alloc, &mut device, &map, &mut around.out);
+    around.files.close(device);
     mem::forget(map);
     copied
+}
+
+// Opens a data file to be read alone, reads the map of its log, and closes it. Answers the map, and how many sectors the file has.
+fn read_file<F: DataFiles>(alloc: Global, files: &mut F, data: &str) -> Result<(Map, u64), Fault>
+    ensures { ReadsFile F.Device.Sectors F.DataFiles data.now files.old result files.new }
+{
+    let mut device = files.open_to_read(data)?;
+    let count = device.count();
+    let read = read_map(alloc, &mut device);
+    files.close(device);
+    let (map, _) = read?;
+    Ok((map, count))
 }
 
 // Has a second passed since then? Not where the clock can't be read.

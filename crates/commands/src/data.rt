@@ -18,8 +18,8 @@ use sector::Sectors;
 use std::alloc::Global;
 use std::io;
 
-/// Makes a data file of so many sectors, 2 to 4,194,304, and formats it. The name must be free. Prints nothing, and calls nothing else: its
-/// contract names each call of the files.
+/// Makes a data file of so many sectors, 2 to 4,194,304, formats it, and closes it. The name must be free. Prints nothing, and calls
+/// nothing else: its contract names each call of the files, and what the file holds that is closed.
 ///
 /// A fault is `File`, or `Memory` where that was what a call of the system lacked, after which no file is there that it made, or
 /// `Device`, after which the file stays. Takes no memory.
@@ -27,10 +27,12 @@ pub fn create<F: DataFiles>(files: &mut F, data: &str, sectors: u64) -> Result<(
     requires at_least { 2 ≤ sectors }
     requires at_most { sectors ≤ 4194304 }
     ensures faults { IfErr result IsFromOutside }
-    ensures creates { Creating F.Device.Sectors F.makes data.now sectors files.old result files.new }
+    ensures creates { Creating F.Device.Sectors F.DataFiles data.now sectors files.old result files.new }
 {
     let mut device = files.create(data, sectors)?;
-    format_device(&mut device)
+    let formatted = format_device(&mut device);
+    files.close(device);
+    formatted
 }
 
 /// Makes a device an empty log.
@@ -50,10 +52,11 @@ pub fn format_device<D: Sectors>(device: &mut D) -> Result<(), Fault>
     Ok(())
 }
 
-/// Opens a data file to be checked and prints how many records, keys and sectors it holds, and how many sectors it has. The file is never
-/// written, and leave to read it is enough.
+/// Opens a data file to be checked, prints how many records, keys and sectors it holds, and how many sectors it has, and closes it. The
+/// file is never written, and leave to read it is enough.
 ///
-/// It calls nothing else: its contract names each call of the files and the output.
+/// It calls nothing else: its contract names each call of the files and the output. The file that is closed is as it was opened: a crash
+/// leaves what one before could have left.
 ///
 /// A fault is `File`, or one of `check_device`. It takes the memory of one record and of the map.
 pub fn check<F: DataFiles, O: Lines>(
@@ -62,13 +65,16 @@ pub fn check<F: DataFiles, O: Lines>(
     data: &str,
     out: &mut O,
 ) -> Result<(), Fault>
-    ensures { Checking F.Device.Sectors F.checks O.writes data.now files.old out.old result files.new out.new }
+    ensures { Checking F.Device.Sectors F.DataFiles O.writes data.now files.old out.old result files.new out.new }
 {
     let device = files.open_to_check(data)?;
-    check_device(alloc, device, out)
+    let (checked, device) = check_device(alloc, device, out);
+    files.close(device);
+    checked
 }
 
-/// Opens the log of a device and prints, on one line, how many records, keys and sectors it holds, and how many sectors there are.
+/// Opens the log of a device and prints, on one line, how many records, keys and sectors it holds, and how many sectors there are. The
+/// device is given back with how that came out, and a crash of it leaves what one before could have left.
 ///
 /// A fault is the log's, beside which nothing is printed, or `File` or `Memory` where the writer fails. It takes the memory of one
 /// record and of the map.
@@ -76,17 +82,21 @@ pub fn check_device<D: Sectors, O: Lines>(
     alloc: Global,
     device: D,
     out: &mut O,
-) -> Result<(), Fault>
-    ensures found { IfHoldsSets D.Sectors device IsLogImage (λ lists. PrintsLog O.Lines lists (D.size device) out.old result out.new) }
-    ensures damaged { IfHoldsSets D.Sectors device IsDamaged (λ lists. IsRefused (Fault.Damaged (length lists)) result out.old out.new) }
-    ensures no_log { IfHolds D.Sectors device (λ disk. (f : LogFormat) → IsNoLog f disk) (IsRefused Fault.NotALog result out.old out.new) }
-    ensures older { IfHolds D.Sectors device (HasHead One) (IsRefused Fault.OldFormat result out.old out.new) }
-    ensures beside { IfErr result (λ fault. IsFromOutput fault ⊎ (out.new ≡ out.old)) }
-    ensures checks { Checks D.Sectors O.writes device out.old result out.new }
+) -> (Result<(), Fault>, D)
+    ensures found { IfHoldsSets D.Sectors device IsLogImage (λ lists. PrintsLog O.Lines lists (D.size device) out.old result.0 out.new) }
+    ensures damaged { IfHoldsSets D.Sectors device IsDamaged
+        (λ lists. IsRefused (Fault.Damaged (length lists)) result.0 out.old out.new) }
+    ensures no_log { IfHolds D.Sectors device (λ disk. (f : LogFormat) → IsNoLog f disk)
+        (IsRefused Fault.NotALog result.0 out.old out.new) }
+    ensures older { IfHolds D.Sectors device (HasHead One) (IsRefused Fault.OldFormat result.0 out.old out.new) }
+    ensures beside { IfErr result.0 (λ fault. IsFromOutput fault ⊎ (out.new ≡ out.old)) }
+    ensures checks { Checks D.Sectors O.writes device out.old result.0 result.1 out.new }
 {
-    let counts = count_device(alloc, device)?;
-    print_counts(counts, out)?;
-    Ok(())
+    let (counted, device) = count_device(alloc, device);
+    match counted {
+        Ok(counts) => (print_counts(counts, out).map_err(Fault::from), device),
+        Err(fault) => (Err(Fault::from(fault)), device),
+    }
 }
 
 // What the log of a device holds.
@@ -98,18 +108,23 @@ pub(crate) struct LogCounts {
     pub count: u64,
 }
 
-// Opens the log of a device and counts what it holds.
-fn count_device<D: Sectors>(alloc: Global, device: D) -> Result<LogCounts, LogFault>
-    ensures { Counting D.Sectors device result }
+// Opens the log of a device and counts what it holds. The device is given back.
+fn count_device<D: Sectors>(alloc: Global, device: D) -> (Result<LogCounts, LogFault>, D)
+    ensures { Counting D.Sectors device result.0 result.1 }
 {
     let count = device.count();
-    let (log, map) = Log::open(alloc, device)?;
-    Ok(LogCounts {
-        records: log.records(),
-        keys: map.len(),
-        used: log.used(),
-        count,
-    })
+    match Log::open_or_return(alloc, device) {
+        Ok((log, map)) => {
+            let counts = LogCounts {
+                records: log.records(),
+                keys: map.len(),
+                used: log.used(),
+                count,
+            };
+            (Ok(counts), log.into_device())
+        }
+        Err(unopened) => (Err(unopened.fault), unopened.device),
+    }
 }
 
 // Prints the line of these counts, in one write.

@@ -1,9 +1,8 @@
 //! Why a command ends early.
 ghost use Rattle.commands.specs.Printing.{IsToldAs};
 
-use commit_log::{LogFault, Unopened};
+use commit_log::LogFault;
 use scripts::ScriptFault;
-use sector::Sectors;
 use std::io::{self, ErrorKind};
 
 /// Why a command ends early.
@@ -51,17 +50,6 @@ impl From<LogFault> for Fault {
             LogFault::OldFormat => Fault::OldFormat,
             LogFault::NotEmpty => Fault::NotEmpty,
         }
-    }
-}
-
-impl<D: Sectors> From<Unopened<D>> for Fault {
-    ghost use Rattle.std.specs.Prelude.{◌≡◌};
-    ghost use Rattle.commands.specs.Faults.{of_log};
-
-    ghost from_gives = { λ unopened e. e ≡ of_log unopened.fault };
-
-    fn from(unopened: Unopened<D>) -> Fault {
-        Fault::from(unopened.fault)
     }
 }
 

@@ -12,7 +12,6 @@ use crate::system::{Around, DataFiles, Lines, Ports, Scripts, Words};
 use command_line::Asked;
 use sessions::Hub;
 use std::alloc::Global;
-use std::sync::Wait;
 use std::time::Clock;
 
 /// Runs the command that the words ask for, over whatever tells what is asked, opens and makes files, listens, plays scripts and takes
@@ -22,20 +21,20 @@ use std::time::Clock;
 ///
 /// It takes the memory of the command and of reading the words.
 pub fn run_command<
-    R: Wait + Clock,
+    C: Clock,
     W: Words,
     F: DataFiles,
     P: Ports<Hub<F::Device>>,
     S: Scripts<O> + Drop,
     O: Lines,
     E: Lines,
->(rt: &R, alloc: Global, words: &W, around: &mut Around<F, P, O, E>, scripts: S) -> u8
+>(clock: &C, alloc: Global, words: &W, around: &mut Around<F, P, O, E>, scripts: S) -> u8
     requires { TakesOpened P.takes }
     ensures { Runs F.DataFiles P.Ports P.Server.Turns S.Scripts O.Lines E.Lines W.asks words.now scripts around.old result around.new }
 {
     match words.asked(alloc) {
         Ok(asked) => {
-            let done = execute(rt, alloc, asked, around, scripts);
+            let done = execute(clock, alloc, asked, around, scripts);
             tell(&Ending::from(done), &mut around.out, &mut around.err).status
         }
         Err(refusal) => tell(&Ending::from(refusal), &mut around.out, &mut around.err).status,
@@ -44,14 +43,14 @@ pub fn run_command<
 
 // Does what is asked.
 fn execute<
-    R: Wait + Clock,
+    C: Clock,
     F: DataFiles,
     P: Ports<Hub<F::Device>>,
     S: Scripts<O> + Drop,
     O: Lines,
     E: Lines,
 >(
-    rt: &R,
+    clock: &C,
     alloc: Global,
     asked: Asked<'_>,
     around: &mut Around<F, P, O, E>,
@@ -63,9 +62,9 @@ fn execute<
 {
     match asked {
         Asked::Create { data, sectors } => create(&mut around.files, data, sectors),
-        Asked::Serve { data, listen } => serve(rt, alloc, around, data, listen),
+        Asked::Serve { data, listen } => serve(alloc, around, data, listen),
         Asked::Check { data } => check(alloc, &mut around.files, data, &mut around.out),
-        Asked::Compact { from, to, sectors } => compact(rt, alloc, around, from, to, sectors),
+        Asked::Compact { from, to, sectors } => compact(clock, alloc, around, from, to, sectors),
         Asked::Play { sectors } => scripts
             .play(alloc, sectors, &mut around.out)
             .map_err(Fault::from),

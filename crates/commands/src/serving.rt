@@ -1,8 +1,7 @@
 //! Serving a data file.
-ghost use Rattle.std.specs.Prelude.{IfErr, IsErr};
 ghost use Rattle.commands.specs.Notices.{listening_line};
 ghost use Rattle.commands.specs.Printing.{Prints};
-ghost use Rattle.commands.specs.Serving.{EndsTurns, Opening, Serving, TakesOpened, TellsStop};
+ghost use Rattle.commands.specs.Serving.{EndsServing, EndsTurns, Opening, TakesOpened, TellsStop};
 
 use crate::faults::{Fault, or_memory};
 use crate::system::{Around, DataFiles, Lines, Ports, Turns};
@@ -10,47 +9,40 @@ use sessions::Hub;
 use std::alloc::Global;
 use std::io;
 use std::net::SocketAddr;
-use std::sync::Wait;
 
-/// Opens a data file, listens at an address, prints `listening` and the address that the system gave, and runs turns without end. It
+/// Opens a data file, listens at an address, prints `listening` and the address that the system gave, and takes turns until one fails. It
 /// tells once, on the error output, that the store has stopped. It does nothing else: its contract names each call of the files, the
-/// ports, the server and the outputs, in their order.
+/// ports, the server and the outputs, in their order. It ends without a fault once it has taken 2^64 - 1 turns, as `serve_turns` does.
 ///
 /// A fault is `Listen`, which for a text that is no address comes before the file is opened, `File`, the log's, `Poll`, or `Memory`.
 /// It takes the memory of the log's map and of the sessions and their requests.
-pub fn serve<R: Wait, F: DataFiles, P: Ports<Hub<F::Device>>, O: Lines, E: Lines>(
-    rt: &R,
+pub fn serve<F: DataFiles, P: Ports<Hub<F::Device>>, O: Lines, E: Lines>(
     alloc: Global,
     around: &mut Around<F, P, O, E>,
     data: &str,
     listen: &str,
 ) -> Result<(), Fault>
     requires { TakesOpened P.takes }
-    ensures ends { IsErr result }
-    ensures serves { Serving F.DataFiles P.Ports P.Server.Turns O.Lines E.Lines data.now listen.now around.old result around.new }
+    ensures { EndsServing F.DataFiles P.Ports P.Server.Turns O.Lines E.Lines data.now listen.now around.old result around.new }
 {
     let mut server = open(alloc, &mut around.files, &mut around.ports, data, listen)?;
     let Ok(address) = server.address() else {
         return Err(Fault::Listen);
     };
     print_listening(alloc, address, &mut around.out)?;
-    serve_turns(rt, &mut server, &mut around.err)
+    serve_turns(&mut server, &mut around.err)
 }
 
-/// Runs turns until one fails, and tells once, on `err`, that the store has stopped: after the first turn that leaves it so. Where that
-/// can't be written, nothing more is done.
+/// Takes turns until one fails, and tells once, on `err`, that the store has stopped: after the first turn that leaves it so. Where that
+/// can't be written, nothing more is done. It counts its turns, and ends without a fault after 2^64 - 1 of them, which takes more than five
+/// centuries at a turn a nanosecond.
 ///
 /// A fault is `Poll`, or `Memory`, that of the turn that failed. It takes the memory of the turns.
-pub fn serve_turns<R: Wait, S: Turns, E: Lines>(
-    rt: &R,
-    server: &mut S,
-    err: &mut E,
-) -> Result<(), Fault>
-    ensures ends { IsErr result }
-    ensures turns { IfErr result (λ fault. EndsTurns S.turns S.stops E.writes server.old err.old fault server.new err.new) }
+pub fn serve_turns<S: Turns, E: Lines>(server: &mut S, err: &mut E) -> Result<(), Fault>
+    ensures { EndsTurns S.turns S.stops E.writes server.old err.old result server.new err.new }
 {
     let mut told = false;
-    for _turn in rt.forever() {
+    for _turn in 0..u64::MAX {
         if let Err(error) = server.next_turn() {
             return Err(or_memory(&error, Fault::Poll));
         }
@@ -78,7 +70,8 @@ fn print_listening<O: Lines>(alloc: Global, address: SocketAddr, out: &mut O) ->
     out.write_line(line.as_bytes())
 }
 
-/// Opens a data file and listens at an address. Its faults are those of `serve` but `Poll`.
+/// Opens a data file and listens at an address. Its faults are those of `serve` but `Poll`. A file that holds no store is closed as the
+/// opening left it: a crash of it leaves what one before could have left.
 pub(crate) fn open<F: DataFiles, P: Ports<Hub<F::Device>>>(
     alloc: Global,
     files: &mut F,
@@ -87,13 +80,19 @@ pub(crate) fn open<F: DataFiles, P: Ports<Hub<F::Device>>>(
     listen: &str,
 ) -> Result<P::Server, Fault>
     requires { TakesOpened P.takes }
-    ensures { Opening F.opens P.listens data.now listen.now files.old ports.old result files.new ports.new }
+    ensures { Opening F.DataFiles P.listens data.now listen.now files.old ports.old result files.new ports.new }
 {
     let Ok(address) = listen.parse::<SocketAddr>() else {
         return Err(Fault::Listen);
     };
     let device = files.open(data)?;
-    let hub = Hub::open(alloc, device)?;
+    let hub = match Hub::open(alloc, device) {
+        Ok(hub) => hub,
+        Err(unopened) => {
+            files.close(unopened.device);
+            return Err(Fault::from(unopened.fault));
+        }
+    };
     match ports.listen(alloc, address, hub) {
         Ok(server) => Ok(server),
         Err(error) => Err(or_memory(&error, Fault::Listen)),

@@ -32,7 +32,7 @@ pub trait DataFiles {
     ghost use Rattle.std.specs.Prelude.{⊤, ◌≡◌, ℕ, List, Result, IfOk};
     ghost use Rattle.std.specs.declared.io.Error.{Error};
 
-    /// A data file, which is closed where it is dropped.
+    /// A data file.
     type Device: Sectors + Drop;
 
     /// Relates it before it opened a file, the file's name, how that came out, and it afterwards.
@@ -46,6 +46,9 @@ pub trait DataFiles {
 
     /// Relates it before it made a file, the file's name, its number of sectors, how that came out, and it afterwards.
     ghost makes: { Self → List ℕ → ℕ → Result Self.Device Error → Self → Type 0 } = { λ _ _ _ _ _. ⊤ };
+
+    /// Relates it before it closed a file, the file as it was closed, and it afterwards.
+    ghost closes: { Self → Self.Device → Self → Type 0 } = { λ _ _ _. ⊤ };
 
     /// Opens a data file.
     fn open(&mut self, data: &str) -> io::Result<Self::Device>
@@ -63,6 +66,10 @@ pub trait DataFiles {
     fn create(&mut self, data: &str, sectors: u64) -> io::Result<Self::Device>
         ensures makes { makes self.old data.now sectors result self.new }
         ensures size { IfOk result (λ device. Self.Device.size device ≡ sectors) };
+
+    /// Closes a data file, of which nothing more is called.
+    fn close(&mut self, device: Self::Device)
+        ensures { closes self.old device self.new };
 }
 
 /// What serves in turns.
@@ -175,7 +182,8 @@ impl<W: Write> Lines for W {
 impl<I: Read + Drop, O: Write> Scripts<O> for I {
     ghost use Rattle.scripts.specs.Transcript.{PlaysKnown, opening};
 
-    ghost plays = { λ reader sectors out result printed. PlaysKnown (opening sectors) (I.remaining reader) result (O.contents out) (O.contents printed) };
+    ghost plays = { λ reader sectors out result printed.
+        PlaysKnown (opening sectors) (I.remaining reader) result (O.contents out) (O.contents printed) };
 
     fn play(self, alloc: Global, sectors: u64, out: &mut O) -> Result<(), ScriptFault> {
         play(alloc, sectors, self, out)
@@ -215,6 +223,18 @@ impl<'a, R> SystemFiles<'a, R> {
 }
 
 impl<R: Files<File = File> + Clock> DataFiles for SystemFiles<'_, R> {
+    ghost use Rattle.sector.specs.FileDevices.{ClosesFile, MakesFile, OpensFile, OpensFileToCheck, OpensFileToRead};
+
+    ghost opens = { λ _ name result _. OpensFile name result };
+
+    ghost reads = { λ _ name result _. OpensFileToRead name result };
+
+    ghost checks = { λ _ name result _. OpensFileToCheck name result };
+
+    ghost makes = { λ _ name count result _. MakesFile name count result };
+
+    ghost closes = { λ _ device _. ClosesFile device };
+
     type Device = FileSectors;
 
     fn open(&mut self, data: &str) -> io::Result<FileSectors> {
@@ -231,5 +251,9 @@ impl<R: Files<File = File> + Clock> DataFiles for SystemFiles<'_, R> {
 
     fn create(&mut self, data: &str, sectors: u64) -> io::Result<FileSectors> {
         FileSectors::create(self.rt, data, sectors)
+    }
+
+    fn close(&mut self, device: FileSectors) {
+        device.close();
     }
 }

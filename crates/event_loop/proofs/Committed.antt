@@ -1,25 +1,44 @@
 -- Each number that a session was answered is that of a transaction in the machine's history.
-use Rattle.event_loop.proofs.Words.{◌≡◌, ◌+◌, ℕ, Bool, List, [], ◌∷◌, ◌++◌, map, Option, Some, None, refl, sym, ap, subst, ◌∙◌, append_assoc, All, AllByRecursion, Contains, values_of, append-nil, map-append, All-nil, All-weaker, Contains-append_left, Contains-push, HubState, HubEvent, Choice, Effect, Front, SessionState, SessionStream, Joins, Receives, Serves, Sends, Whole, More, Bad, asks, depart, hub_step, is_open, may_serve, new_stream, receive, room, run, send, serve, serve_front, serve_session, stream_of, run_then, arith}
-use Rattle.std.specs.Prelude.{◌==◌, ◌^◌, ◌-◌, IfSome, nat_le, nat_lt, length, not}
-use Rattle.std.specs.{Ordering.nat_cmp, BTreeMap.is_at}
+use Rattle.std.proofs.Common.{◌≡◌, ◌+◌, ℕ, Bool, List, [], ◌∷◌, ◌++◌, map, Option, Some, None, refl, sym, ap, subst}
+use Rattle.std.proofs.Common.{◌∙◌, append_assoc, arith}
 use Rattle.std.proofs.lemmas.Grind.{common_steps}
-use Rattle.std.proofs.lemmas.Map.Views.{All-map-remove_entry, All-values-insert_entry, All-values-set_value, IfSome-lookup_from_All}
-use Rattle.model.specs.{declared.refusals.Refusal.Refusal, History.Record, Operations.Operation, Operations.Response, Verdict.verdict}
+use Rattle.std.proofs.lemmas.List.{append-nil, map-append}
+use Rattle.std.proofs.lemmas.List.Elements.{All-nil, All-weaker, Contains-append_left, Contains-push}
+use Rattle.std.proofs.lemmas.Map.Views.{All-map-remove_entry, All-values-insert_entry, All-values-set_value}
+use Rattle.std.proofs.lemmas.Map.Views.{IfSome-lookup_from_All}
+use Rattle.std.specs.BTreeMap.{is_at}
+use Rattle.std.specs.List.{All, AllByRecursion, Contains}
+use Rattle.std.specs.Map.{values_of}
+use Rattle.std.specs.Ordering.{nat_cmp}
+use Rattle.std.specs.Prelude.{◌==◌, ◌^◌, ◌-◌, IfSome, nat_le, nat_lt, length, not}
+use Rattle.model.proofs.Elements.{all-append, all-each}
+use Rattle.model.specs.History.{Record}
+use Rattle.model.specs.Machine.{State, Running, body_sectors, commit, join_history, last, record_to_commit}
+use Rattle.model.specs.Machine.{running_of, snapshot, step, step_of, store, store_unless}
 use Rattle.model.specs.Map.{KeyWrite}
+use Rattle.model.specs.Operations.{Operation, Response}
 use Rattle.model.specs.Operations.Operation.{Begin, Commit, Abort}
 use Rattle.model.specs.Operations.Response.{Number}
 use Rattle.model.specs.PrivateCopy.{PrivateCopy, copy_after, copy_of, respond}
-use Rattle.model.specs.Machine.{State, Running, body_sectors, commit, join_history, last, record_to_commit, running_of, snapshot, step, step_of, store, store_unless}
-use Rattle.model.proofs.Elements.{all-append, all-each}
-use Rattle.sessions.specs.{declared.events.Outcome.Outcome, SessionStreams.Leaves}
-use Rattle.sessions.proofs.{LifeLaws.CommitsBy, LifeLaws.commits_in_event, LifeLaws.CommitsBy.Fails, LifeLaws.CommitsBy.NoMore, LifeLaws.CommitsBy.OneMore}
-use Rattle.event_loop.specs.Departures.{IsCommitted}
+use Rattle.model.specs.Verdict.{verdict}
+use Rattle.model.specs.declared.refusals.Refusal.{Refusal}
+use Rattle.sessions.proofs.LifeLaws.{CommitsBy, commits_in_event}
+use Rattle.sessions.proofs.LifeLaws.CommitsBy.{Fails, NoMore, OneMore}
+use Rattle.sessions.specs.SessionStreams.{HubState, HubEvent, Choice, Effect, Front, SessionState, SessionStream}
+use Rattle.sessions.specs.SessionStreams.{Joins, Receives, Serves, Sends, Whole, More, Bad, asks, depart, hub_step}
+use Rattle.sessions.specs.SessionStreams.{is_open, may_serve, new_stream, receive, room, run, send, serve}
+use Rattle.sessions.specs.SessionStreams.{serve_front, serve_session, stream_of, Leaves}
+use Rattle.sessions.specs.declared.events.Outcome.{Outcome}
+use Rattle.stream_driver.proofs.Carry.{run_then}
 use Rattle.event_loop.proofs.Present.{by_if, join_step}
+use Rattle.event_loop.specs.Departures.{IsCommitted}
 
 -- ---- the history grows
 
 grows : (history more : List Record) (q : Response) → IsCommitted history q → IsCommitted (history ++ more) q
-grows history more (Number n) c = subst (λ ns. Contains ns n) (sym (map-append (λ (r : Record). r.commit) history more)) (Contains-append_left (map (λ r. r.commit) history) (map (λ r. r.commit) more) n c)
+grows history more (Number n) c =
+    subst (λ ns. Contains ns n) (sym (map-append (λ (r : Record). r.commit) history more))
+    (Contains-append_left (map (λ r. r.commit) history) (map (λ r. r.commit) more) n c)
 grows history more _ c = tt
 
 abbrev pub AreCommitted : List Record → List Response → Type 0
@@ -47,12 +66,24 @@ module _ (m : State) (s : ℕ) (f : Bool) where
     r = record_to_commit m t
 
     joins : (sectors : ℕ) → Answers m (join_history m s r sectors)
-    joins sectors = (r ∷ [], refl, (subst (λ ns. Contains ns r.commit) (sym (map-append (λ (x : Record). x.commit) m.history (r ∷ []))) (Contains-push (map (λ x. x.commit) m.history) r.commit), tt))
+    joins sectors = (
+      r ∷ [],
+      refl,
+      (
+        subst (λ ns. Contains ns r.commit) (sym (map-append (λ (x : Record). x.commit) m.history (r ∷ [])))
+            (Contains-push (map (λ x. x.commit) m.history) r.commit),
+        tt,
+      ),
+    )
 
     stores : (ws : List KeyWrite) → Answers m (store m s r ws f)
     stores [] = joins 0
     stores (w ∷ ws) =
-        by_if (Answers m) (nat_le m.count (m.used + body_sectors (w ∷ ws))) _ _ ([], sym (append-nil m.history), (tt, tt)) (by_if (Answers m) f _ _ ([], sym (append-nil m.history), (tt, tt)) (joins (body_sectors (w ∷ ws) + 1)))
+        by_if (Answers m) (nat_le m.count (m.used + body_sectors (w ∷ ws))) _ _ (
+          [],
+          sym (append-nil m.history),
+          (tt, tt),
+        ) (by_if (Answers m) f _ _ ([], sym (append-nil m.history), (tt, tt)) (joins (body_sectors (w ∷ ws) + 1)))
 
     stores_unless : (o : Option Refusal) → Answers m (store_unless o m s r f)
     stores_unless None = stores r.writes
@@ -60,7 +91,11 @@ module _ (m : State) (s : ℕ) (f : Bool) where
 
     commits : Answers m (commit m s t f)
     commits =
-        by_if (Answers m) m.stopped _ _ ([], sym (append-nil m.history), (tt, tt)) (by_if (Answers m) (last m == 2 ^ 63 - 1) _ _ ([], sym (append-nil m.history), (tt, tt)) (stores_unless (verdict m.history r)))
+        by_if (Answers m) m.stopped _ _ (
+          [],
+          sym (append-nil m.history),
+          (tt, tt),
+        ) (by_if (Answers m) (last m == 2 ^ 63 - 1) _ _ ([], sym (append-nil m.history), (tt, tt)) (stores_unless (verdict m.history r)))
 
     abbrev copy : PrivateCopy
     copy = copy_after (copy_of (snapshot m t)) t.requests
@@ -71,7 +106,11 @@ module _ (m : State) (s : ℕ) (f : Bool) where
     inside q = ([], sym (append-nil m.history), (respond_other copy q m.history, tt))
 
   outside : (q : Operation) → Answers m (step_of None m s q f)
-  outside Begin = by_if (Answers m) m.stopped _ _ ([], sym (append-nil m.history), (tt, tt)) (by_if (Answers m) (nat_lt (length m.running) 64) _ _ ([], sym (append-nil m.history), (tt, tt)) ([], sym (append-nil m.history), (tt, tt)))
+  outside Begin = by_if (Answers m) m.stopped _ _ (
+    [],
+    sym (append-nil m.history),
+    (tt, tt),
+  ) (by_if (Answers m) (nat_lt (length m.running) 64) _ _ ([], sym (append-nil m.history), (tt, tt)) ([], sym (append-nil m.history), (tt, tt)))
   outside _ = ([], sym (append-nil m.history), (tt, tt))
 
   steps : (q : Operation) → Answers m (step m s q f)
@@ -112,7 +151,8 @@ in_step h (Receives s piece) c a = elim (stream_of h s) as (λ o. stream_of h s 
   | None ↦ λ e. a
   | Some st ↦ λ e.
       by_if After (not (is_open st.now.status)) _ _ a
-      (by_if After (nat_lt (room st.now) (length piece)) _ _ a (All-values-set_value (is_at (nat_cmp s)) (Has h.machine.history) h.present _ a (found h s st a e)))
+      (by_if After (nat_lt (room st.now) (length piece)) _ _ a
+      (All-values-set_value (is_at (nat_cmp s)) (Has h.machine.history) h.present _ a (found h s st a e)))
 ] refl
 in_step h (Serves s) c a = elim (stream_of h s) as (λ o. stream_of h s ≡ o → After (serve_session o h s c)) [
   | None ↦ λ e. a
@@ -126,7 +166,8 @@ in_step h (Serves s) c a = elim (stream_of h s) as (λ o. stream_of h s ≡ o �
 ] refl
 in_step h (Sends s n) c a = elim (stream_of h s) as (λ o. stream_of h s ≡ o → After (send o h s n)) [
   | None ↦ λ e. a
-  | Some st ↦ λ e. by_if After (nat_le n (length st.now.pending)) _ _ (All-values-set_value (is_at (nat_cmp s)) (Has h.machine.history) h.present _ a (found h s st a e)) a
+  | Some st ↦ λ e. by_if After (nat_le n (length st.now.pending)) _ _
+      (All-values-set_value (is_at (nat_cmp s)) (Has h.machine.history) h.present _ a (found h s st a e)) a
 ] refl
 in_step h (Leaves s) c a = elim (stream_of h s) as (λ o. After (depart o h s)) [
   | None ↦ a
@@ -154,7 +195,8 @@ run_grown h (e ∷ es) =
     let more = run_grown (hub_step h e.0 e.1).0 es in
     (one.0 ++ more.0, more.1 ∙ ap (λ l. l ++ more.0) one.1 ∙ append_assoc h.machine.history one.0 more.0)
 
-pub answered_committed : (h : HubState) (by since : List (HubEvent × Choice)) (s : ℕ) (st : SessionStream) → h.present ≡ [] → stream_of (run h by) s ≡ Some st → AllByRecursion (IsCommitted (run h (by ++ since)).machine.history) st.replies
+pub answered_committed : (h : HubState) (by since : List (HubEvent × Choice)) (s : ℕ) (st : SessionStream) → h.present ≡ [] → stream_of (run h by) s ≡ Some st
+    → AllByRecursion (IsCommitted (run h (by ++ since)).machine.history) st.replies
 answered_committed h by since s st none is =
     let grown = run_grown (run h by) since in
     let nobody : HubNumbers h = subst (λ es. All (Has h.machine.history) (values_of es)) (sym none) (All-nil (Has h.machine.history)) in

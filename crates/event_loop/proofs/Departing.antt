@@ -1,37 +1,59 @@
 -- What left over the connections stays told before as the loop goes on, and is kept, also where a turn takes a connection out or closes it.
-use Rattle.event_loop.proofs.Words.{◌≡◌, ◌≢◌, ◌⊎◌, inl, inr, ℕ, ◌+◌, ◌-◌, ◌||◌, Bool, true, false, List, [], ◌∷◌}
-use Rattle.event_loop.proofs.Words.{◌++◌, Option, Some, None, length, append_assoc, drop, refl, sym, ap, subst, ◌∙◌}
-use Rattle.event_loop.proofs.Words.{arith, cases_eq, append-nil, All-drop, All-from_recursion, recursion_from_All}
-use Rattle.event_loop.proofs.Words.{AllByRecursion, items, IsLawful, IsSessionStream, IsSound, NoneRuns, Ran, Ready}
-use Rattle.event_loop.proofs.Words.{Gone, run_then, some_same, at_point, point_of, EndAll, EndEach, LeavesAs}
-use Rattle.event_loop.proofs.Words.{LeavesIf, NoneEnded, AllTurned, AreTurned, DropsInput, Lingerers, lingers_in}
-use Rattle.event_loop.proofs.Words.{TurnedIf, IsNewSocket, SocketsTell, session_of, traffic_of, ConnectionsSpeak}
-use Rattle.event_loop.proofs.Words.{HaveBytes, Nobody, OneMore, EventLoop, Accepted, DrivesReady, IsTurn}
-use Rattle.event_loop.proofs.Words.{KeepsWhatLeaves, accepts_now, Event, Ghosts, Hub, HubState, HubEvent, Choice}
-use Rattle.event_loop.proofs.Words.{SessionStream, replies_text, run, stream_of, StandsFor, device, BufferedStream}
-use Rattle.event_loop.proofs.Words.{Entry, held_in, traffic_through, DrivenAll, EndsDrive, HaveSessions, is_over}
-use Rattle.event_loop.proofs.Words.{Adds, Point, StandsAt, Departure, DepartAt, IsBeginning, Traffic, Socket}
-use Rattle.event_loop.proofs.Words.{AdmitsEach, ComeEach, EndsTurn, joins_of, slot_at}
-use Rattle.event_loop.specs.Lingerings.{Leaves}
+use Rattle.std.proofs.Common.{◌≡◌, ◌≢◌, ◌⊎◌, inl, inr, ℕ, ◌+◌, ◌-◌, ◌||◌, Bool, true, false, List, [], ◌∷◌, ◌++◌}
+use Rattle.std.proofs.Common.{Option, Some, None, length, append_assoc, drop, refl, sym, ap, subst, ◌∙◌, arith}
 use Rattle.std.proofs.Math.Logic.{∥∥₁_map}
+use Rattle.std.proofs.lemmas.Bool.{cases_eq}
+use Rattle.std.proofs.lemmas.List.{append-nil}
+use Rattle.std.proofs.lemmas.List.Elements.{All-drop, All-from_recursion, recursion_from_All}
+use Rattle.std.specs.List.{AllByRecursion}
+use Rattle.mio.specs.Events.{items}
+use Rattle.mio.specs.declared.event.event.Event.{Event}
 use Rattle.model.proofs.Elements.{all-append, all-each}
-use Rattle.sessions.specs.{Life.Holds, Life.LosesNothing, Life.MayFind, Lives.IsOpened, Lives.IsServed, Lives.Served}
+use Rattle.model.proofs.Lookups.{some_same}
+use Rattle.sector.specs.declared.device.Sectors.{Ghosts}
 use Rattle.sessions.proofs.LivesLaws.{lose_nothing}
 use Rattle.sessions.proofs.Runs.{CountsNow, OnlyNow, no_event, ran_parts, ran_stands, ran_then}
-use Rattle.stream_driver.specs.Sends.{AreToldBefore, HasSent, HaveSent, IsAnswered}
+use Rattle.sessions.specs.Laws.{IsLawful, IsSessionStream, IsSound, NoneRuns, Ran}
+use Rattle.sessions.specs.Life.{Holds, LosesNothing, MayFind}
+use Rattle.sessions.specs.Lives.{IsOpened, IsServed, Served}
+use Rattle.sessions.specs.SessionStreams.{HubState, HubEvent, Choice, SessionStream, replies_text, run, stream_of}
+use Rattle.sessions.specs.StandsFor.{StandsFor, device}
+use Rattle.sessions.specs.declared.hub.Hub.{Hub}
+use Rattle.stream_driver.proofs.Carry.{run_then}
 use Rattle.stream_driver.proofs.Sends.{all_before, all_since, answered_since, answered_then, begins_through}
-use Rattle.event_loop.specs.{declared.lingering.Dropped.Dropped, declared.lingering.Lingerer.Lingerer}
-use Rattle.event_loop.specs.{declared.lingering.TheConstants.LINGERING_BYTES}
-use Rattle.event_loop.specs.{declared.lingering.TheConstants.LINGERING_MAX}
+use Rattle.stream_driver.proofs.States.{at_point, point_of}
+use Rattle.stream_driver.specs.Buffers.{held_in, traffic_through}
+use Rattle.stream_driver.specs.Entries.{DrivenAll, EndsDrive, HaveSessions, is_over}
+use Rattle.stream_driver.specs.Sends.{AreToldBefore, HasSent, HaveSent, IsAnswered}
+use Rattle.stream_driver.specs.Sessions.{Adds, Point, StandsAt}
+use Rattle.stream_driver.specs.Traffic.{Departure, DepartAt, IsBeginning, Traffic}
+use Rattle.stream_driver.specs.declared.buffered.BufferedStream.{BufferedStream}
+use Rattle.stream_driver.specs.declared.entries.Entry.{Entry}
+use Rattle.stream_driver.specs.declared.entries.EntryState.TheVariants.{Ready, Gone}
+use Rattle.event_loop.proofs.Committed.{answered_committed}
+use Rattle.event_loop.proofs.Entries.{no_entry, polled_sessions}
+use Rattle.event_loop.proofs.Polled.{each_rest, TakesTurns, was_driven, was_polled}
+use Rattle.event_loop.proofs.TableBytes.{driven_was, drives_bytes, finished, polled_bytes}
+use Rattle.event_loop.proofs.Tables.{TableStands}
+use Rattle.event_loop.proofs.WholeTurns.{all_found, each_bytes, new_begins, they_speak}
 use Rattle.event_loop.specs.Departures.{EntriesTell, HoldsAtEnds, IsCommitted, IsKept, IsServing, IsTold}
 use Rattle.event_loop.specs.Departures.{KeepsWhatLeft, LingerersTell, Serving, Tells, first_state, present_state}
 use Rattle.event_loop.specs.Departures.{AreKept}
-use Rattle.event_loop.specs.Leavings.EndEach.{OneMore as OneEnded}
-use Rattle.event_loop.proofs.{Tables.TableStands, Entries.no_entry, Entries.polled_sessions, Polled.each_rest}
-use Rattle.event_loop.proofs.{Polled.was_driven, Polled.was_polled}
-use Rattle.event_loop.proofs.TableBytes.{driven_was, drives_bytes, finished, polled_bytes}
-use Rattle.event_loop.proofs.Committed.{answered_committed}
-use Rattle.event_loop.proofs.WholeTurns.{all_found, each_bytes, new_begins, they_speak}
+use Rattle.event_loop.specs.Leavings.{EndAll, EndEach, LeavesAs, LeavesIf}
+use Rattle.event_loop.specs.Leavings.EndEach.{NoneEnded, OneMore as OneEnded}
+use Rattle.event_loop.specs.Lingerings.{AllTurned, AreTurned, DropsInput, Lingerers, lingers_in, TurnedIf, Leaves}
+use Rattle.event_loop.specs.Order.{is_passed}
+use Rattle.event_loop.specs.Sockets.{IsNewSocket, SocketsTell, session_of, traffic_of}
+use Rattle.event_loop.specs.TableBytes.{ConnectionsSpeak, HaveBytes}
+use Rattle.event_loop.specs.Tables.{AdmitsEach, ComeEach, EndsTurn, after_poll, joins_of, slot_at}
+use Rattle.event_loop.specs.Tables.AdmitsEach.{Nobody, OneMore}
+use Rattle.event_loop.specs.Turns.{Accepted, DrivesReady, IsTurn, KeepsWhatLeaves, accepts_now}
+use Rattle.event_loop.specs.declared.order.Turns.{Turns}
+use Rattle.event_loop.specs.declared.lingering.Dropped.{Dropped}
+use Rattle.event_loop.specs.declared.lingering.Lingerer.{Lingerer}
+use Rattle.event_loop.specs.declared.lingering.TheConstants.{LINGERING_BYTES, LINGERING_MAX}
+use Rattle.event_loop.specs.declared.server.EventLoop.{EventLoop}
+use Rattle.event_loop.specs.declared.socket.Socket.{Socket}
 
 abbrev Connection : Type 0
 Connection = Entry (BufferedStream Socket)
@@ -66,45 +88,60 @@ module _ {D : Type 0} {g : Ghosts D} {hub : Hub D g} (served : Served hub) where
 
   module _ (later : Hub D g) (fs : List (HubEvent × Choice)) (ran : Ran hub later fs) where
     abbrev pub served_on : Served later
-    served_on = record { first = served.first; start = served.start; choices = served.choices ++ fs; ran = ran_then served.first hub later served.choices fs served.ran ran }
+    served_on = record {
+      first = served.first;
+      start = served.start;
+      choices = served.choices ++ fs;
+      ran = ran_then served.first hub later served.choices fs served.ran ran;
+    }
 
     bytes_on : (slots : Slots) → HaveTheirBytes (run (present_state served) fs) slots → HaveTheirBytes (present_state served_on) slots
     bytes_on slots has = subst (λ (h : HubState). HaveTheirBytes h slots) (sym (run_then (first_state served) served.choices fs)) has
 
     -- what was told is told still
     pub tells_on : (s : ℕ) (t : Traffic) → Tells served s t → Tells served_on s t
-    tells_on s t e = assumption (all_since s (first_state served) ran_then served.first hub later served.choices fs ran t.departed e.told, answered_since s (first_state served) served.choices fs t.taken e.answered)
+    tells_on s t e = assumption (
+      all_since s (first_state served) ran_then served.first hub later served.choices fs ran t.departed e.told,
+      answered_since s (first_state served) served.choices fs t.taken e.answered,
+    )
 
     lingerers_on : (all : List Lingerer) → LingerersTell served all → LingerersTell served_on all
     lingerers_on all tells = all-each _ _ all (λ l. tells_on (session_of l.socket) (traffic_of l.socket)) tells
 
     -- a stream was called in a drive, or left alone
-    driven_tells : (s : ℕ) (t u : Traffic) → u.connection ≡ t.connection → AreToldBefore s (present_state served) hub later fs t u → (u.taken ≡ t.taken) ⊎ IsAnswered s (present_state served) fs u.taken → Tells served s t → Tells served_on s u
+    driven_tells : (s : ℕ) (t u : Traffic) → u.connection ≡ t.connection → AreToldBefore s (present_state served) hub later fs t u
+        → (u.taken ≡ t.taken) ⊎ IsAnswered s (present_state served) fs u.taken → Tells served s t → Tells served_on s u
     driven_tells s t u same_number left took e =
         let on = tells_on s t e in
         let told : AllByRecursion (IsTold served_on s) (t.departed ++ left.departures) =
-        all-append (IsTold served_on s) t.departed left.departures on.told (all_before s (first_state served) ran_then served.first hub later served.choices fs served.ran left.departures left.each) in
-        let answered : IsAnswered s (first_state served) (served.choices ++ fs) u.taken = elim took [ inl same ↦ rw same on.answered | inr since ↦ answered_then s (first_state served) served.choices fs u.taken since ] in
+        all-append (IsTold served_on s) t.departed left.departures on.told
+        (all_before s (first_state served) ran_then served.first hub later served.choices fs served.ran left.departures left.each) in
+        let answered : IsAnswered s (first_state served) (served.choices ++ fs) u.taken =
+        elim took [ inl same ↦ rw same on.answered | inr since ↦ answered_then s (first_state served) served.choices fs u.taken since ] in
         record { number = same_number ∙ e.number; told = rw left.departed_are told; answered = answered }
 
 -- ---- what a stream holds leaves
 
 -- what begins an answer was answered too
-answered_part : (s : ℕ) (h : HubState) (es : List (HubEvent × Choice)) (less bytes : List ℕ) → IsBeginning less bytes → IsAnswered s h es bytes → IsAnswered s h es less
-answered_part s h es less bytes begins a = search (a.events_are, a.stream_is, begins_through less bytes (a.stream.sent ++ a.stream.now.pending) begins a.answered)
+answered_part : (s : ℕ) (h : HubState) (es : List (HubEvent × Choice)) (less bytes : List ℕ) → IsBeginning less bytes → IsAnswered s h es bytes
+    → IsAnswered s h es less
+answered_part s h es less bytes begins a =
+    search (a.events_are, a.stream_is, begins_through less bytes (a.stream.sent ++ a.stream.now.pending) begins a.answered)
 
 module _ {D : Type 0} {g : Ghosts D} {hub : Hub D g} (served : Served hub) where
   -- no more has left than the connection took
   inner_tells : (s : ℕ) (b : BufferedStream Socket) → Tells served s (through b) → Tells served s (traffic_of b.inner)
   inner_tells s b e =
-      assumption (answered_part s (first_state served) served.choices (traffic_of b.inner).taken (through b).taken (record { rest = held_in b.held; all_is = refl }) e.answered)
+      assumption (answered_part s (first_state served) served.choices (traffic_of b.inner).taken (through b).taken
+      (record { rest = held_in b.held; all_is = refl }) e.answered)
 
   -- the session is that of the number
   own_tells : (s : ℕ) (socket : Socket) → Tells served s (traffic_of socket) → Tells served (session_of socket) (traffic_of socket)
   own_tells s socket e = subst (λ (n : ℕ). Tells served n (traffic_of socket)) (sym e.number) e
 
   module _ (none : NoneRuns hub) (moment : ℕ) (now : moment ≡ g.moment (device hub)) where
-    leaves_now : (s : ℕ) (took : List ℕ) → IsAnswered s (first_state served) served.choices took → (ds : List Departure) → AllByRecursion (λ d. (d.moment ≡ moment) × IsBeginning d.bytes took) ds → AllByRecursion (IsTold served s) ds
+    leaves_now : (s : ℕ) (took : List ℕ) → IsAnswered s (first_state served) served.choices took → (ds : List Departure)
+        → AllByRecursion (λ d. (d.moment ≡ moment) × IsBeginning d.bytes took) ds → AllByRecursion (IsTold served s) ds
     leaves_now s took a ds all = all-each (λ d. (d.moment ≡ moment) × IsBeginning d.bytes took) (IsTold served s) ds (λ d left. record {
       before = served.choices;
       since = [];
@@ -119,12 +156,19 @@ module _ {D : Type 0} {g : Ghosts D} {hub : Hub D g} (served : Served hub) where
     -- it took nothing, and what left leaves now
     departs_tells : (s : ℕ) (t u : Traffic) → u.connection ≡ t.connection → u.taken ≡ t.taken → DepartAt moment t u → Tells served s t → Tells served s u
     departs_tells s t u same_number same departs e =
-        let answered : IsAnswered s (first_state served) served.choices u.taken = subst (λ (bytes : List ℕ). IsAnswered s (first_state served) served.choices bytes) (sym same) e.answered in
-        let told : AllByRecursion (IsTold served s) (t.departed ++ departs.departures) = all-append (IsTold served s) t.departed departs.departures e.told (leaves_now s u.taken answered departs.departures departs.each) in
-        record { number = same_number ∙ e.number; told = subst (λ (ds : List Departure). AllByRecursion (IsTold served s) ds) (sym departs.departed_are) told; answered = answered }
+        let answered : IsAnswered s (first_state served) served.choices u.taken =
+        subst (λ (bytes : List ℕ). IsAnswered s (first_state served) served.choices bytes) (sym same) e.answered in
+        let told : AllByRecursion (IsTold served s) (t.departed ++ departs.departures) =
+        all-append (IsTold served s) t.departed departs.departures e.told (leaves_now s u.taken answered departs.departures departs.each) in
+        record {
+          number = same_number ∙ e.number;
+          told = subst (λ (ds : List Departure). AllByRecursion (IsTold served s) ds) (sym departs.departed_are) told;
+          answered = answered;
+        }
 
     -- the end of an entry's drive
-    end_tells : SocketsTell → (was entry : Connection) → EndsDrive SocketsTell traffic_of moment was entry → Tells served was.session (through was.stream) → Tells served entry.session (through entry.stream)
+    end_tells : SocketsTell → (was entry : Connection) → EndsDrive SocketsTell traffic_of moment was entry → Tells served was.session (through was.stream)
+        → Tells served entry.session (through entry.stream)
     end_tells t was entry ends e =
         let f = finished SocketsTell traffic_of moment entry.state was.stream entry.stream ends.stream in
         subst (λ (s : ℕ). Tells served s (through entry.stream)) (sym ends.session)
@@ -137,10 +181,10 @@ module _ {D : Type 0} {g : Ghosts D} {hub : Hub D g} (served : Served hub) where
     one_lingers socket old new leaves s e tells = elim leaves [
       | inl x ↦ rw x.1 tells
       | inr x ↦ elim x.1 [
-        | inl refused ↦ rw refused tells
+        | inl refused ↦ rw refused.1 tells
         | inr begun ↦
             let one : Lingerer = record { socket = socket; left = LINGERING_BYTES } in
-            rw begun
+            rw begun.1
             (all_drop (λ (l : Lingerer). Tells served (session_of l.socket) (traffic_of l.socket)) (length old.all + 1 - LINGERING_MAX) (old.all ++ one ∷ [])
             (all-append (λ (l : Lingerer). Tells served (session_of l.socket) (traffic_of l.socket)) old.all (one ∷ []) tells (own_tells s socket e, tt)))
       ]
@@ -163,18 +207,23 @@ module _ {D : Type 0} {g : Ghosts D} {hub : Hub D g} (served : Served hub) where
         → LingerersTell served later.all
     each_lingers t NoneEnded entries tells = tells
     each_lingers t {slots} {old} (OneEnded key between new mid later each at) entries tells =
-        leaves_as t (slot_at between key) (slot_at new key) at.ended mid later at.leaves (λ was e. entries key was (sym (each_rest each key (omega arith)) ∙ e)) (each_lingers t each entries tells)
+        leaves_as t (slot_at between key) (slot_at new key) at.ended mid later at.leaves (λ was e. entries key was (sym (each_rest each key (omega arith)) ∙ e))
+        (each_lingers t each entries tells)
 
     drops_tells : SocketsTell → (old : Lingerer) (dropped : Dropped) (new : Lingerer) → DropsInput moment old dropped new → (s : ℕ)
         → Tells served s (traffic_of old.socket) → Tells served s (traffic_of new.socket)
-    drops_tells t old dropped new drops s e = departs_tells s (traffic_of old.socket) (traffic_of new.socket) drops.connection (drops.taken t) (drops.departed t) e
+    drops_tells t old dropped new drops s e =
+        departs_tells s (traffic_of old.socket) (traffic_of new.socket) drops.connection (drops.taken t) (drops.departed t) e
 
     all_tell : SocketsTell → (old new : List Lingerer) (more : Bool) → AllTurned moment old new more → LingerersTell served old → LingerersTell served new
     all_tell t [] new more turned tells = subst (λ (l : List Lingerer). LingerersTell served l) (sym turned.0) tells
     all_tell t (first ∷ others) new more turned tells = elim turned [
       | inl x ↦ all_tell t others new more x.1 tells.1
       | inr (dropped, later, rest, of_rest, stays, all, is, more_is) ↦
-          subst (λ (l : List Lingerer). LingerersTell served l) (sym is) (own_tells (session_of first.socket) later.socket (drops_tells t first dropped later stays.0 (session_of first.socket) tells.0), all_tell t others rest of_rest all tells.1)
+          subst (λ (l : List Lingerer). LingerersTell served l) (sym is) (
+            own_tells (session_of first.socket) later.socket (drops_tells t first dropped later stays.0 (session_of first.socket) tells.0),
+            all_tell t others rest of_rest all tells.1,
+          )
     ]
 
     turned_tell : SocketsTell → (reads : Bool) (old new : Lingerers) → TurnedIf moment reads old new → LingerersTell served old.all
@@ -187,8 +236,12 @@ module _ {D : Type 0} {g : Ghosts D} {hub : Hub D g} (served : Served hub) where
 have_sent : (h : HubState) (slots : Slots) → SocketsTell → HaveTheirBytes h slots → HaveSent through h slots
 have_sent h slots t has key entry e alive = let b = has key entry e alive in record { stream = b.0; stream_is = b.1; taken = (b.2 t).1 }
 
-module _ {D : Type 0} {g : Ghosts D} (hub later : Hub D g) (slots new : Slots) (events : List Event) (d : DrivesReady SocketsTell traffic_of events hub slots later new) (sessions : HaveSessions hub slots)
+module _ {D : Type 0} {g : Ghosts D} (hub later : Hub D g) (slots new : Slots) (events : List Event) (last next : Turns)
+    (d : DrivesReady SocketsTell traffic_of events last hub slots next later new) (sessions : HaveSessions hub slots)
     (old later_all : Lingerers) (left : EndAll (g.moment (device later)) d.driven old new later_all) where
+  taken : TakesTurns slots d.ready events
+  taken key = (is_passed hub next key (after_poll events key (slot_at slots key)), d.told key)
+
   none_runs : NoneRuns later
   none_runs = no_event later (last_sound hub later d.drives.leads.choices d.drives.leads.ran)
 
@@ -196,7 +249,9 @@ module _ {D : Type 0} {g : Ghosts D} (hub later : Hub D g) (slots new : Slots) (
     abbrev on : Served later
     on = served_on s.served later d.drives.leads.choices d.drives.leads.ran
 
-    abbrev to : (k : Point) × StandsAt later k × (Adds (point_of hub (present_state s.served)) d.drives.leads.choices k × DrivenAll SocketsTell through (point_of hub (present_state s.served)) d.ready k d.driven)
+    abbrev to : (k : Point) × StandsAt later k
+        × (Adds (point_of hub (present_state s.served)) d.drives.leads.choices k
+        × DrivenAll SocketsTell through (point_of hub (present_state s.served)) d.ready k d.driven)
     to = d.drives.leads.to (point_of hub (present_state s.served)) (at_point hub (present_state s.served) (stands_now s.served))
 
     -- what the drives told is told still
@@ -204,12 +259,13 @@ module _ {D : Type 0} {g : Ghosts D} (hub later : Hub D g) (slots new : Slots) (
     driven_tell t key mid e =
         let h = present_state s.served in
         let was = driven_was SocketsTell through (point_of hub h) d.ready to.0 d.driven to.2.1 key mid e in
-        let before = was_polled traffic_of slots d.ready events d.told key was.0 was.1 in
-        let sent = have_sent h d.ready t (polled_bytes SocketsTell traffic_of (g.moment (device later)) slots d.ready events d.told h s.bytes) in
+        let before = was_polled traffic_of slots d.ready events taken key was.0 was.1 in
+        let sent = have_sent h d.ready t (polled_bytes SocketsTell traffic_of (g.moment (device later)) slots d.ready events taken h s.bytes) in
         subst (λ (n : ℕ). Tells on n (through mid.stream)) (sym was.2)
         (driven_tells s.served later d.drives.leads.choices d.drives.leads.ran was.0.session (through was.0.stream) (through mid.stream) was.3
         (d.drives.telling t h (stands_now s.served) sent key was.0 mid was.1 e) (d.drives.answered t h (stands_now s.served) sent key was.0 mid was.1 e)
-        (subst (λ (n : ℕ). Tells s.served n (through was.0.stream)) (sym before.2.session) (subst (λ (x : Traffic). Tells s.served before.0.session x) (sym before.2.through) (s.tells t key before.0 before.1))))
+        (subst (λ (n : ℕ). Tells s.served n (through was.0.stream)) (sym before.2.session)
+        (subst (λ (x : Traffic). Tells s.served before.0.session x) (sym before.2.through) (s.tells t key before.0 before.1))))
 
     lingered : SocketsTell → LingerersTell on old.all
     lingered t = lingerers_on s.served later d.drives.leads.choices d.drives.leads.ran old.all (s.lingerers_tell t)
@@ -218,7 +274,9 @@ module _ {D : Type 0} {g : Ghosts D} (hub later : Hub D g) (slots new : Slots) (
     driven_serves = record {
       served = on;
       bytes = bytes_on s.served later d.drives.leads.choices d.drives.leads.ran new
-          (subst (λ (x : HubState). HaveTheirBytes x new) to.2.0.run_is (drives_bytes SocketsTell traffic_of (g.moment (device later)) slots d.ready d.driven new events d.told (polled_sessions slots d.ready events d.told hub sessions).own d.ended (point_of hub (present_state s.served)) to.0 to.2.1 s.bytes));
+          (subst (λ (x : HubState). HaveTheirBytes x new) to.2.0.run_is
+          (drives_bytes SocketsTell traffic_of (g.moment (device later)) slots d.ready d.driven new events taken
+          (polled_sessions slots d.ready events taken hub sessions).own d.ended (point_of hub (present_state s.served)) to.0 to.2.1 s.bytes));
       tells = λ t key entry e.
           let was = was_driven SocketsTell traffic_of (g.moment (device later)) (slot_at d.driven key) (slot_at new key) entry (d.ended key) e in
           end_tells on none_runs (g.moment (device later)) refl t was.0 entry was.2 (driven_tell t key was.0 was.1);
@@ -228,9 +286,11 @@ module _ {D : Type 0} {g : Ghosts D} (hub later : Hub D g) (slots new : Slots) (
     -- so it is of each connection as the turn leaves it
     pub ends_tell : SocketsTell → HoldsAtEnds (Tells on) (g.moment (device later)) d.driven old.all later_all.all
     ends_tell t = record {
-      entries = λ key was entry e ends. inner_tells on entry.session entry.stream (end_tells on none_runs (g.moment (device later)) refl t was entry ends (driven_tell t key was e));
+      entries = λ key was entry e ends. inner_tells on entry.session entry.stream
+          (end_tells on none_runs (g.moment (device later)) refl t was entry ends (driven_tell t key was e));
       linger = lingered t;
-      ends = all-each _ _ later_all.all (λ l e dropped after drops. drops_tells on none_runs (g.moment (device later)) refl t l dropped after drops (session_of l.socket) e)
+      ends = all-each _ _ later_all.all
+          (λ l e dropped after drops. drops_tells on none_runs (g.moment (device later)) refl t l dropped after drops (session_of l.socket) e)
           (each_lingers on none_runs (g.moment (device later)) refl t left.each (driven_tell t) (lingered t));
     }
 
@@ -240,8 +300,10 @@ module _ {D : Type 0} {g : Ghosts D} (hub later : Hub D g) (slots new : Slots) (
 -- ---- those that linger are turned, or closed
 
 module _ {D : Type 0} {g : Ghosts D} (hub : Hub D g) (slots : Slots) where
-  relingers : (old new : List Lingerer) → (SocketsTell → (served : Served hub) → LingerersTell served old → LingerersTell served new) → IsServing hub slots old → IsServing hub slots new
-  relingers old new f some = ∥∥₁_map some (λ s. record { served = s.served; bytes = s.bytes; tells = s.tells; lingerers_tell = λ t. f t s.served (s.lingerers_tell t) })
+  relingers : (old new : List Lingerer) → (SocketsTell → (served : Served hub) → LingerersTell served old → LingerersTell served new) → IsServing hub slots old
+      → IsServing hub slots new
+  relingers old new f some =
+      ∥∥₁_map some (λ s. record { served = s.served; bytes = s.bytes; tells = s.tells; lingerers_tell = λ t. f t s.served (s.lingerers_tell t) })
 
   pub turns_serve : (moment : ℕ) → moment ≡ g.moment (device hub) → (is_told : Bool) (old new : Lingerers) → AreTurned moment is_told old new
       → IsServing hub slots old.all → IsServing hub slots new.all
@@ -255,10 +317,11 @@ module _ {D : Type 0} {g : Ghosts D} (hub : Hub D g) (slots : Slots) where
 
 -- an entry was there, or it is new
 abbrev IsOldOrNew : Slots → ℕ → Connection → Type 0
-IsOldOrNew slots key entry = (slot_at slots key ≡ Some entry) ⊎ (IsNewSocket entry.session entry.stream × (entry.state ≢ Gone))
+IsOldOrNew slots key entry = (slot_at slots key ≡ Some entry) ⊎ (IsNewSocket key entry.session entry.stream × (entry.state ≢ Gone))
 
 module _ {D : Type 0} {g : Ghosts D} where
-  each_from : {hub : Hub D g} {next : ℕ} {slots : Slots} {count : ℕ} {later : Hub D g} {then : ℕ} {new : Slots} → AdmitsEach IsNewSocket hub next slots count later then new → (key : ℕ) (entry : Connection) → slot_at new key ≡ Some entry
+  each_from : {hub : Hub D g} {next : ℕ} {slots : Slots} {count : ℕ} {later : Hub D g} {then : ℕ} {new : Slots}
+      → AdmitsEach IsNewSocket hub next slots count later then new → (key : ℕ) (entry : Connection) → slot_at new key ≡ Some entry
       → IsOldOrNew slots key entry
   each_from Nobody key entry e = inl e
   each_from (OneMore count mid later number then between new each admits) key entry e = elim admits [
@@ -266,24 +329,32 @@ module _ {D : Type 0} {g : Ghosts D} where
     | inr within ↦ elim (cases_eq key within.key) [
       | inl at ↦
           let which : within.entry ≡ entry = some_same (sym within.changed ∙ ap (slot_at new) (sym at) ∙ e) in
-          inr (subst (λ (x : Connection). IsNewSocket x.session x.stream) which within.fresh, λ gone. (let bad : Ready ≡ Gone = sym within.state ∙ ap (λ (x : Connection). x.state) which ∙ gone in cc))
+          inr (
+            subst (λ (k : ℕ). IsNewSocket k entry.session entry.stream) (sym at)
+                (subst (λ (x : Connection). IsNewSocket within.key x.session x.stream) which within.fresh),
+            λ gone. (let bad : Ready ≡ Gone = sym within.state ∙ ap (λ (x : Connection). x.state) which ∙ gone in cc),
+          )
       | inr differs ↦ each_from each key entry (sym (within.others key differs) ∙ e)
     ]
   ]
 
 -- nothing left over a new connection
-new_tells : {D : Type 0} {g : Ghosts D} {hub : Hub D g} (served : Served hub) (slots : Slots) → SocketsTell → HaveTheirBytes (present_state served) slots → (key : ℕ) (entry : Connection) → slot_at slots key ≡ Some entry → IsNewSocket entry.session entry.stream → entry.state ≢ Gone
+new_tells : {D : Type 0} {g : Ghosts D} {hub : Hub D g} (served : Served hub) (slots : Slots) → SocketsTell → HaveTheirBytes (present_state served) slots
+    → (key : ℕ) (entry : Connection) → slot_at slots key ≡ Some entry → IsNewSocket key entry.session entry.stream → entry.state ≢ Gone
     → Tells served entry.session (through entry.stream)
 new_tells served slots t has key entry e fresh alive =
     let none : (through entry.stream).departed ≡ [] = ap (λ (x : Socket). (traffic_of x).departed) fresh.2.inner_is ∙ fresh.1.departed t in
     record {
       number = ap (λ (x : Socket). session_of x) fresh.2.inner_is ∙ fresh.1.counts.5;
       told = subst (λ (ds : List Departure). AllByRecursion (IsTold served entry.session) ds) (sym none) tt;
-      answered = subst (λ (es : List (HubEvent × Choice)). IsAnswered entry.session (first_state served) es (through entry.stream).taken) (append-nil served.choices)
-          (answered_then entry.session (first_state served) served.choices [] (through entry.stream).taken (sent_answered entry.session (present_state served) [] (through entry.stream) (have_sent (present_state served) slots t has key entry e alive)));
+      answered = subst (λ (es : List (HubEvent × Choice)). IsAnswered entry.session (first_state served) es (through entry.stream).taken)
+          (append-nil served.choices)
+          (answered_then entry.session (first_state served) served.choices [] (through entry.stream).taken
+          (sent_answered entry.session (present_state served) [] (through entry.stream) (have_sent (present_state served) slots t has key entry e alive)));
     }
 
-module _ {D : Type 0} {g : Ghosts D} (hub later : Hub D g) (next then count refused counted : ℕ) (slots new : Slots) (lingerers : List Lingerer) (holds : TableStands hub next slots) (come : ComeEach IsNewSocket hub next slots refused count later then new counted) where
+module _ {D : Type 0} {g : Ghosts D} (hub later : Hub D g) (next then count refused counted : ℕ) (slots new : Slots) (lingerers : List Lingerer)
+    (holds : TableStands hub next slots) (come : ComeEach IsNewSocket hub next slots refused count later then new counted) where
   pub accepts_serve : IsServing hub slots lingerers → IsServing later new lingerers
   accepts_serve some = ∥∥₁_map some (λ s.
       let h = present_state s.served in
@@ -291,7 +362,9 @@ module _ {D : Type 0} {g : Ghosts D} (hub later : Hub D g) (next then count refu
       let to = leads.to (point_of hub h) (at_point hub h (stands_now s.served)) in
       let same : run h (joins_of come.0) ≡ run h leads.choices = sym to.2.1.run_is ∙ to.2.0.run_is in
       let bytes : HaveTheirBytes (present_state (served_on s.served later leads.choices leads.ran)) new =
-      bytes_on s.served later leads.choices leads.ran new (subst (λ (x : HubState). HaveTheirBytes x new) same (each_bytes SocketsTell through IsNewSocket new_begins come.0 h (stands_now s.served) holds s.bytes).2) in
+      bytes_on s.served later leads.choices leads.ran new
+      (subst (λ (x : HubState). HaveTheirBytes x new) same
+      (each_bytes SocketsTell through IsNewSocket new_begins come.0 h (stands_now s.served) holds s.bytes).2) in
       record {
         served = served_on s.served later leads.choices leads.ran;
         bytes = bytes;
@@ -313,13 +386,15 @@ module _ {D : Type 0} {g : Ghosts D} (hub later : Hub D g) (ran : Ran hub later 
     lingerers_tell = λ t. lingerers_on s.served later [] ran lingerers (s.lingerers_tell t);
   })
 
-pub begins_serving : {D : Type 0} {g : Ghosts D} (hub : Hub D g) → IsOpened hub → NoneRuns hub → (slots : Slots) → slots ≡ [] → (lingerers : List Lingerer) → lingerers ≡ [] → IsServing hub slots lingerers
-begins_serving hub start none slots is lingerers nobody = let served : Served hub = record { first = hub; start = start; choices = []; ran = none } in ∣ record {
-  served = served;
-  bytes = λ key entry e alive. absurd (no_entry slots is key entry e);
-  tells = λ t key entry e. absurd (no_entry slots is key entry e);
-  lingerers_tell = λ t. rw nobody tt;
-} ∣₁
+pub begins_serving : {D : Type 0} {g : Ghosts D} (hub : Hub D g) → IsOpened hub → NoneRuns hub → (slots : Slots) → slots ≡ [] → (lingerers : List Lingerer)
+    → lingerers ≡ [] → IsServing hub slots lingerers
+begins_serving hub start none slots is lingerers nobody = let served : Served hub =
+    record { first = hub; start = start; choices = []; ran = none } in ∣ record {
+      served = served;
+      bytes = λ key entry e alive. absurd (no_entry slots is key entry e);
+      tells = λ t key entry e. absurd (no_entry slots is key entry e);
+      lingerers_tell = λ t. rw nobody tt;
+    } ∣₁
 
 -- ---- what follows
 
@@ -328,11 +403,18 @@ module _ {D : Type 0} {g : Ghosts D} (hub : Hub D g) (slots : Slots) (lingerers 
   is_served = ∥∥₁_map some (λ s. s.served)
 
   pub connections_speak : ((h : HubState) → StandsFor hub h → IsLawful h) → SocketsTell → ConnectionsSpeak hub slots
-  connections_speak laws t = ∥∥₁_map some (λ s. (let lawful = laws (present_state s.served) (stands_now s.served) in (present_state s.served, stands_now s.served, lawful, they_speak (present_state s.served) slots lawful s.bytes t)))
+  connections_speak laws t =
+      ∥∥₁_map some (λ s. (let lawful = laws (present_state s.served) (stands_now s.served) in (
+        present_state s.served,
+        stands_now s.served,
+        lawful,
+        they_speak (present_state s.served) slots lawful s.bytes t,
+      )))
 
   module _ (crash : LosesNothing hub) (only_now : OnlyNow D g) (counts_now : CountsNow D g) where
     -- what was answered begins the texts of the machine's replies
-    texts_begin : (served : Served hub) (by since : List (HubEvent × Choice)) → served.choices ≡ by ++ since → (s : ℕ) (st : SessionStream) → stream_of (run (first_state served) by) s ≡ Some st → (bytes : List ℕ)
+    texts_begin : (served : Served hub) (by since : List (HubEvent × Choice)) → served.choices ≡ by ++ since → (s : ℕ) (st : SessionStream)
+        → stream_of (run (first_state served) by) s ≡ Some st → (bytes : List ℕ)
         → IsBeginning bytes (st.sent ++ st.now.pending) → IsBeginning bytes (replies_text st)
     texts_begin served by since is s st there bytes begins =
         let parts = ran_parts served.first hub by since (subst (λ (es : List (HubEvent × Choice)). Ran served.first hub es) is served.ran) in
@@ -345,15 +427,19 @@ module _ {D : Type 0} {g : Ghosts D} (hub : Hub D g) (slots : Slots) (lingerers 
     is_kept served s d t =
         let left : g.keeps_model → (c : List (List ℕ)) → g.left_since (device hub) d.moment c → Holds (first_state served) served.choices (length t.before) c =
         λ keeps c l. subst (λ (es : List (HubEvent × Choice)). Holds (first_state served) es (length t.before) c) (sym t.events_are)
-        (crash keeps served.first t.hub hub t.before t.since t.came t.goes_on (first_state served) served.start.begins.stands refl c (subst (λ (m : ℕ). g.left_since (device hub) m c) t.moment_is l)) in
+        (crash keeps served.first t.hub hub t.before t.since t.came t.goes_on (first_state served) served.start.begins.stands refl c
+        (subst (λ (m : ℕ). g.left_since (device hub) m c) t.moment_is l)) in
         let events : t.before ≡ t.told.by ++ t.told.since = t.told.events_are in
         record {
           told = t;
-          texts = texts_begin served t.told.by (t.told.since ++ t.since) (t.events_are ∙ ap (λ (es : List (HubEvent × Choice)). es ++ t.since) events ∙ append_assoc t.told.by t.told.since t.since) s t.told.stream t.told.stream_is d.bytes t.told.answered;
-          committed = subst (λ (es : List (HubEvent × Choice)). AllByRecursion (IsCommitted (run (first_state served) es).machine.history) t.told.stream.replies) (sym events)
+          texts = texts_begin served t.told.by (t.told.since ++ t.since) (t.events_are ∙ ap (λ (es : List (HubEvent × Choice)). es ++ t.since) events
+              ∙ append_assoc t.told.by t.told.since t.since) s t.told.stream t.told.stream_is d.bytes t.told.answered;
+          committed = subst (λ (es : List (HubEvent × Choice)). AllByRecursion (IsCommitted (run (first_state served) es).machine.history)
+              t.told.stream.replies) (sym events)
               (answered_committed (first_state served) t.told.by t.told.since s t.told.stream refl t.told.stream_is);
           left = left;
-          found = λ keeps lives follow. lose_nothing hub only_now counts_now keeps lives (g.left_since (device hub) d.moment) (MayFind (first_state served) served.choices (length t.before))
+          found = λ keeps lives follow. lose_nothing hub only_now counts_now keeps lives (g.left_since (device hub) d.moment)
+              (MayFind (first_state served) served.choices (length t.before))
               (λ c l. (let z = left keeps c l in (z.0, z.2, z.1))) follow;
         }
 
@@ -380,11 +466,13 @@ holds_map P Q f moment driven lingered turned x = record {
 
 module _ {D : Type 0} {g : Ghosts D} where
   -- the joins of the accepts are a run
-  joins_ran : (driven accepted : EventLoop D g) → NoneRuns driven.hub → (due : Bool) → Accepted due driven accepted → (fs : List (HubEvent × Choice)) × Ran driven.hub accepted.hub fs
+  joins_ran : (driven accepted : EventLoop D g) → NoneRuns driven.hub → (due : Bool) → Accepted due driven accepted
+      → (fs : List (HubEvent × Choice)) × Ran driven.hub accepted.hub fs
   joins_ran driven accepted none true accepts = (accepts.became.1.choices, accepts.became.1.ran)
   joins_ran driven accepted none false untouched = ([], subst (λ (h : Hub D g). Ran driven.hub h []) (sym untouched.hub) none)
 
-  module _ (old new : EventLoop D g) (turn : IsTurn SocketsTell traffic_of old new) (crash : LosesNothing new.hub) (only_now : OnlyNow D g) (counts_now : CountsNow D g) where
+  module _ (old new : EventLoop D g) (turn : IsTurn SocketsTell traffic_of old new) (crash : LosesNothing new.hub) (only_now : OnlyNow D g)
+      (counts_now : CountsNow D g) where
     pub keeps_what_leaves : SocketsTell → KeepsWhatLeaves old new turn
     keeps_what_leaves t = ∥∥₁_map old.serving (λ s.
         let d = turn.drives in
@@ -392,8 +480,10 @@ module _ {D : Type 0} {g : Ghosts D} where
         let moment : ℕ = g.moment (device turn.driven.hub) in
         let driven : Served turn.driven.hub = served_on s.served turn.driven.hub leads.choices leads.ran in
         let ends : HoldsAtEnds (Tells driven) moment d.driven old.lingering.queue.items turn.linger.begun.all =
-        ends_tell old.hub turn.driven.hub old.table.slots turn.driven.table.slots (items new.poller.events) d old.sessions (lingers_in old.lingering) turn.linger.begun turn.linger.left s t in
-        let joins = joins_ran turn.driven turn.accepted (no_event turn.driven.hub (last_sound old.hub turn.driven.hub leads.choices leads.ran)) (accepts_now old.backlog (items new.poller.events)) turn.accepts in
+        ends_tell old.hub turn.driven.hub old.table.slots turn.driven.table.slots (items new.poller.events) old.turns turn.driven.turns d old.sessions
+        (lingers_in old.lingering) turn.linger.begun turn.linger.left s t in
+        let joins = joins_ran turn.driven turn.accepted (no_event turn.driven.hub (last_sound old.hub turn.driven.hub leads.choices leads.ran))
+        (accepts_now old.backlog (items new.poller.events)) turn.accepts in
         let accepted : Served turn.accepted.hub = served_on driven turn.accepted.hub joins.0 joins.1 in
         let now : Served new.hub = served_on accepted new.hub [] turn.gives_back.hub.ran in (
           now,

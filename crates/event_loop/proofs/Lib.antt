@@ -1,8 +1,9 @@
-pub mod Words
+pub mod Slots
 pub mod Present
 pub mod Entries
 pub mod Tables
 pub mod Polled
+mod Ordering
 pub mod TableBytes
 pub mod WholeTurns
 mod Socketing

@@ -1,33 +1,55 @@
 -- The parts of a turn make it.
-use Rattle.event_loop.proofs.Words.{◌≡◌, Bool, false, List, subst, items, LINGERER, EventLoop, LingerOn, Lingerers}
-use Rattle.event_loop.proofs.Words.{lingers_in, unless_failed, Accepted, DrivesReady, IsGivenBack, IsTurn}
-use Rattle.event_loop.proofs.Words.{accepted_joins, accepts_now, is_told_of, Event, Ghosts, device, traffic_through}
-use Rattle.event_loop.proofs.Words.{DrivenAll, Adds, Leads, Point, Traffic, Socket, arith}
-use Rattle.event_loop.specs.{declared.connections.Backlog.Backlog, declared.polling.Poller.Poller}
+use Rattle.std.proofs.Common.{◌≡◌, Bool, false, List, subst, arith}
+use Rattle.mio.specs.Events.{items}
+use Rattle.mio.specs.declared.event.event.Event.{Event}
+use Rattle.sector.specs.declared.device.Sectors.{Ghosts}
+use Rattle.sessions.specs.StandsFor.{device}
+use Rattle.stream_driver.specs.Buffers.{traffic_through}
+use Rattle.stream_driver.specs.Entries.{DrivenAll}
+use Rattle.stream_driver.specs.Sessions.{Adds, Leads, Point}
+use Rattle.stream_driver.specs.Traffic.{Traffic}
+use Rattle.event_loop.specs.Leavings.{LingerOn}
+use Rattle.event_loop.specs.Lingerings.{Lingerers, lingers_in, unless_failed}
+use Rattle.event_loop.specs.Turns.{Accepted, DrivesReady, IsGivenBack, IsTurn, accepted_joins, accepts_now}
+use Rattle.event_loop.specs.Turns.{is_told_of}
+use Rattle.event_loop.specs.declared.connections.Backlog.{Backlog}
+use Rattle.event_loop.specs.declared.connections.TheConstants.{LINGERER}
+use Rattle.event_loop.specs.declared.polling.Poller.{Poller}
+use Rattle.event_loop.specs.declared.server.EventLoop.{EventLoop}
+use Rattle.event_loop.specs.declared.socket.Socket.{Socket}
 
 -- where a turn doesn't accept, none of those that linger is closed
 pub none_closed : (backlog : Backlog) (events : List Event) (all : Lingerers) → accepts_now backlog events ≡ false → all ≡ unless_failed backlog all
 none_closed backlog events all e = grind arith
 
-module _ {D : Type 0} {g : Ghosts D} (tells : Type 0) (traffic : Socket → Traffic) (old driven accepted new : EventLoop D g) (next_is : driven.next ≡ old.next) (port_is : driven.port ≡ old.port) (backlog_is : driven.backlog ≡ old.backlog)
-    (refused_is : driven.refused ≡ old.refused) (lingerers_are : lingers_in accepted.lingering ≡ unless_failed accepted.backlog (lingers_in driven.lingering)) (given : IsGivenBack accepted new) where
+module _ {D : Type 0} {g : Ghosts D} (tells : Type 0) (traffic : Socket
+    → Traffic) (old driven accepted new : EventLoop D g) (turns_are : new.turns ≡ driven.turns) (next_is : driven.next ≡ old.next) (port_is : driven.port
+    ≡ old.port) (backlog_is : driven.backlog ≡ old.backlog)
+    (refused_is : driven.refused ≡ old.refused) (lingerers_are : lingers_in accepted.lingering
+    ≡ unless_failed accepted.backlog (lingers_in driven.lingering)) (given : IsGivenBack accepted new) where
   abbrev Drives : Poller → Type 0
-  Drives poller = DrivesReady tells traffic (items poller.events) old.hub old.table.slots driven.hub driven.table.slots
+  Drives poller = DrivesReady tells traffic (items poller.events) old.turns old.hub old.table.slots driven.turns driven.hub driven.table.slots
 
   abbrev Linger : (poller : Poller) → Drives poller → Bool → Type 0
-  Linger poller drives told = LingerOn (g.moment (device driven.hub)) told drives.driven (lingers_in old.lingering) driven.table.slots (lingers_in driven.lingering)
+  Linger poller drives told =
+      LingerOn (g.moment (device driven.hub)) told drives.driven (lingers_in old.lingering) driven.table.slots (lingers_in driven.lingering)
 
   abbrev IsRun : (poller : Poller) → Drives poller → (b : Bool) → Accepted b driven accepted → Type 0
   IsRun poller drives b accepts =
-      Leads old.hub new.hub (λ h l. (k : Point) × DrivenAll tells (traffic_through traffic) h drives.ready k drives.driven × Adds k (accepted_joins b driven accepted accepts) l)
+      Leads old.hub new.hub (λ h l. (k : Point) × DrivenAll tells (traffic_through traffic) h drives.ready k drives.driven
+      × Adds k (accepted_joins b driven accepted accepts) l)
 
   pub turned_by : (poller : Poller) → new.poller ≡ poller → (b : Bool) → accepts_now old.backlog (items new.poller.events) ≡ b
-      → (told : Bool) → told ≡ is_told_of LINGERER (items poller.events) → (drives : Drives poller) → Linger poller drives told → (accepts : Accepted b driven accepted) → IsRun poller drives b accepts → IsTurn tells traffic old new
+      → (told : Bool) → told ≡ is_told_of LINGERER (items poller.events) → (drives : Drives poller) → Linger poller drives told
+      → (accepts : Accepted b driven accepted) → IsRun poller drives b accepts → IsTurn tells traffic old new
   turned_by poller same b due told told_is drives linger accepts run =
-      subst (λ (poller : Poller). (drives : Drives poller) → Linger poller drives (is_told_of LINGERER (items poller.events)) → (accepts : Accepted b driven accepted) → IsRun poller drives b accepts → IsTurn tells traffic old new) same
-      (λ drives linger accepts run. subst (λ (b : Bool). (accepts : Accepted b driven accepted) → IsRun new.poller drives b accepts → IsTurn tells traffic old new) due (λ accepts run. record {
+      subst (λ (poller : Poller). (drives : Drives poller) → Linger poller drives (is_told_of LINGERER (items poller.events))
+      → (accepts : Accepted b driven accepted) → IsRun poller drives b accepts → IsTurn tells traffic old new) same
+      (λ drives linger accepts run. subst (λ (b : Bool). (accepts : Accepted b driven accepted) → IsRun new.poller drives b accepts
+      → IsTurn tells traffic old new) due (λ accepts run. record {
         driven = driven;
         drives = drives;
+        turns_are = turns_are;
         next_is = next_is;
         port_is = port_is;
         backlog_is = backlog_is;

@@ -1,9 +1,29 @@
 -- What a poll and the end of a turn make of a slot, and what becomes of its connection.
-use Rattle.event_loop.proofs.Words.{◌≡◌, ◌≢◌, inl, inr, ℕ, ◌<◌, ◌≤◌, ◌==◌, ◌||◌, Bool, true, false, cond, List, [], ◌∷◌, ◌++◌, map, set, Option, Some, None, option_map, refl, sym, ap, subst, ◌∙◌, arith, and_parts, cases_eq, cases_lt, get_or-set_same, get_or-set_other, Idle, Ready, Gone, some_same, below, EndAll, EndEach, EndsAt, LeavesAs, LeavesIf, NoneEnded, Lingerers, SocketsTell, traffic_of, Event, BufferedStream, Entry, EntryState, has_had_share, is_settled, state_at_end, traffic_through, EndsDrive, is_gone, is_over, Traffic, Socket, EndsTurn, after_event, after_poll, slot_at, told, told_slot, Slots}
+use Rattle.std.proofs.Common.{◌≡◌, ◌≢◌, inl, inr, ℕ, ◌<◌, ◌≤◌, ◌==◌, ◌||◌, Bool, true, false, cond, List, [], ◌∷◌}
+use Rattle.std.proofs.Common.{◌++◌, map, set, Option, Some, None, option_map, refl, sym, ap, subst, ◌∙◌, arith}
 use Rattle.std.proofs.Math.ListN.{get_or-eq_default}
+use Rattle.std.proofs.lemmas.Bool.{and_parts, cases_eq, cases_lt}
 use Rattle.std.proofs.lemmas.Grind.{common_steps}
+use Rattle.std.proofs.lemmas.List.{get_or-set_same, get_or-set_other}
 use Rattle.mio.specs.Event.{event_token, is_priority, is_read_closed}
-use Rattle.event_loop.specs.Leavings.EndEach.{OneMore}
+use Rattle.mio.specs.declared.event.event.Event.{Event}
+use Rattle.model.proofs.Lookups.{some_same}
+use Rattle.stream_driver.proofs.OneEntry.{below}
+use Rattle.stream_driver.specs.Buffers.{has_had_share, is_settled, traffic_through}
+use Rattle.stream_driver.specs.Entries.{state_at_end, EndsDrive, is_gone, is_over}
+use Rattle.stream_driver.specs.Traffic.{Traffic}
+use Rattle.stream_driver.specs.declared.buffered.BufferedStream.{BufferedStream}
+use Rattle.stream_driver.specs.declared.entries.Entry.{Entry}
+use Rattle.stream_driver.specs.declared.entries.EntryState.{EntryState}
+use Rattle.stream_driver.specs.declared.entries.EntryState.TheVariants.{Idle, Ready, Gone}
+use Rattle.event_loop.proofs.Slots.{Slots}
+use Rattle.event_loop.specs.Leavings.{EndAll, EndEach, EndsAt, LeavesAs, LeavesIf}
+use Rattle.event_loop.specs.Leavings.EndEach.{NoneEnded, OneMore}
+use Rattle.event_loop.specs.Lingerings.{Lingerers}
+use Rattle.event_loop.specs.Order.{after_turn}
+use Rattle.event_loop.specs.Sockets.{SocketsTell, traffic_of}
+use Rattle.event_loop.specs.Tables.{EndsTurn, after_event, after_poll, slot_at, told, told_slot}
+use Rattle.event_loop.specs.declared.socket.Socket.{Socket}
 
 mapped_some : {A B : Type 0} (f : A → B) (o p : Option A) (y : A) → option_map f p ≡ option_map f o → p ≡ Some y → (x : A) × (o ≡ Some x) × (f y ≡ f x)
 mapped_some f None p y same is = absurd (cc (ap (option_map f) is))
@@ -25,32 +45,43 @@ was_gone Idle false gone = gone
 pub gone_as : (a b : EntryState) → is_gone a ≡ is_gone b → a ≡ Gone → b ≡ Gone
 gone_as a b same gone = gone_at b (sym same ∙ ap is_gone gone)
 
+-- each slot is as the poll told, or passed over
+abbrev pub TakesTurns : {T : Type 0} → (old new : Slots (BufferedStream T)) → List Event → Type 0
+TakesTurns old new events = (key : ℕ) → (passed : Bool) × (slot_at new key ≡ after_turn passed (after_poll events key (slot_at old key)))
+
 module _ {T : Type 0} where
   poll_more : {R : Type 0} (now : R → Event) (yielded : List R) (event : R) (key : ℕ) (slot : Option (Entry (BufferedStream T)))
       → after_poll (map now (yielded ++ event ∷ [])) key slot ≡ after_event (now event) key (after_poll (map now yielded) key slot)
   poll_more now [] event key slot = refl
   poll_more now (e ∷ es) event key slot = poll_more now es event key (after_event (now e) key slot)
 
-  pub put_there : (slots : Slots (BufferedStream T)) (key : ℕ) (old entry : Entry (BufferedStream T)) → slot_at slots key ≡ Some old → slot_at (set slots key (Some entry)) key ≡ Some entry
+  pub put_there : (slots : Slots (BufferedStream T)) (key : ℕ) (old entry : Entry (BufferedStream T)) → slot_at slots key ≡ Some old
+      → slot_at (set slots key (Some entry)) key ≡ Some entry
   put_there slots key old entry e = get_or-set_same slots key (Some entry) None (below slots key old e)
 
   -- a slot was told of, and the others are as they were
-  poll_step : (slots new : Slots (BufferedStream T)) (t : ℕ) (on : Bool) → slot_at new t ≡ told_slot true on (slot_at slots t) → ((other : ℕ) → other ≢ t → slot_at new other ≡ slot_at slots other)
+  poll_step : (slots new : Slots (BufferedStream T)) (t : ℕ) (on : Bool) → slot_at new t ≡ told_slot true on (slot_at slots t)
+      → ((other : ℕ) → other ≢ t → slot_at new other ≡ slot_at slots other)
       → (key : ℕ) → slot_at new key ≡ told_slot (t == key) on (slot_at slots key)
   poll_step slots new t on here others key = grind (arith, common_steps, others key)
 
-  module _ {R : Type 0} (now : R → Event) (yielded : List R) (event : R) (initial slots : Slots (BufferedStream T)) (t : ℕ) (names : t ≡ (event_token (now event)).0)
+  module _ {R : Type 0} (now : R
+      → Event) (yielded : List R) (event : R) (initial slots : Slots (BufferedStream T)) (t : ℕ) (names : t ≡ (event_token (now event)).0)
       (before : (key : ℕ) → slot_at slots key ≡ after_poll (map now yielded) key (slot_at initial key)) where
     more : (on : Bool) → on ≡ (is_priority (now event) || is_read_closed (now event)) → (key : ℕ) (new : Slots (BufferedStream T))
-        → slot_at new key ≡ told_slot (t == key) on (slot_at slots key) → slot_at new key ≡ after_poll (map now (yielded ++ event ∷ [])) key (slot_at initial key)
+        → slot_at new key ≡ told_slot (t == key) on (slot_at slots key)
+        → slot_at new key ≡ after_poll (map now (yielded ++ event ∷ [])) key (slot_at initial key)
     more on on_is key new step =
         rw (step, before key, names, on_is, poll_more)
 
-    pub polled_more_some : (on : Bool) → on ≡ (is_priority (now event) || is_read_closed (now event)) → (entry marked : Entry (BufferedStream T)) → slot_at slots t ≡ Some entry → marked ≡ told on entry
+    pub polled_more_some : (on : Bool) → on ≡ (is_priority (now event) || is_read_closed (now event)) → (entry marked : Entry (BufferedStream T))
+        → slot_at slots t ≡ Some entry → marked ≡ told on entry
         → (key : ℕ) → slot_at (set slots t (Some marked)) key ≡ after_poll (map now (yielded ++ event ∷ [])) key (slot_at initial key)
     polled_more_some on on_is entry marked is same key =
-        let here : slot_at (set slots t (Some marked)) t ≡ told_slot true on (slot_at slots t) = put_there slots t entry marked is ∙ ap (λ (x : Entry (BufferedStream T)). Some x) same ∙ ap (told_slot true on) (sym is) in
-        more on on_is key (set slots t (Some marked)) (poll_step slots (set slots t (Some marked)) t on here (λ other differs. get_or-set_other slots t other (Some marked) None differs) key)
+        let here : slot_at (set slots t (Some marked)) t ≡ told_slot true on (slot_at slots t) =
+        put_there slots t entry marked is ∙ ap (λ (x : Entry (BufferedStream T)). Some x) same ∙ ap (told_slot true on) (sym is) in
+        more on on_is key (set slots t (Some marked))
+        (poll_step slots (set slots t (Some marked)) t on here (λ other differs. get_or-set_other slots t other (Some marked) None differs) key)
 
     pub polled_more_none : slot_at slots t ≡ None → (key : ℕ) → slot_at slots key ≡ after_poll (map now (yielded ++ event ∷ [])) key (slot_at initial key)
     polled_more_none is key =
@@ -67,7 +98,15 @@ module _ {T : Type 0} where
 
     poll_left : (events : List Event) (key : ℕ) (slot : Option (Entry (BufferedStream T))) → option_map left (after_poll events key slot) ≡ option_map left slot
     poll_left [] key slot = refl
-    poll_left (event ∷ events) key slot = poll_left events key (after_event event key slot) ∙ told_left ((event_token event).0 == key) (is_priority event || is_read_closed event) slot
+    poll_left (event ∷ events) key slot =
+        poll_left events key (after_event event key slot) ∙ told_left ((event_token event).0 == key) (is_priority event || is_read_closed event) slot
+
+    turn_left : (passed : Bool) (slot : Option (Entry (BufferedStream T))) → option_map left (after_turn passed slot) ≡ option_map left slot
+    turn_left passed slot = grind arith
+
+    taken_left : (events : List Event) (key : ℕ) (passed : Bool) (slot new : Option (Entry (BufferedStream T)))
+        → new ≡ after_turn passed (after_poll events key slot) → option_map left new ≡ option_map left slot
+    taken_left events key passed slot new e = ap (option_map left) e ∙ turn_left passed (after_poll events key slot) ∙ poll_left events key slot
 
     -- so one entry is as the other was, or will be
     pub record IsLeft (entry other : Entry (BufferedStream T)) : Type 0 where
@@ -75,27 +114,45 @@ module _ {T : Type 0} where
       pub gone : is_gone entry.state ≡ is_gone other.state
       pub through : traffic_through traffic entry.stream ≡ traffic_through traffic other.stream
 
-    is_left : (o p : Option (Entry (BufferedStream T))) (entry : Entry (BufferedStream T)) → option_map left p ≡ option_map left o → p ≡ Some entry → (other : Entry (BufferedStream T)) × (o ≡ Some other) × IsLeft entry other
+    is_left : (o p : Option (Entry (BufferedStream T))) (entry : Entry (BufferedStream T)) → option_map left p ≡ option_map left o → p ≡ Some entry
+        → (other : Entry (BufferedStream T)) × (o ≡ Some other) × IsLeft entry other
     is_left o p entry same is =
-        let m = mapped_some left o p entry same is in
-        (m.0, m.1, record { session = ap (λ (x : ℕ × Bool × Traffic). x.0) m.2; gone = ap (λ (x : ℕ × Bool × Traffic). x.1) m.2; through = ap (λ (x : ℕ × Bool × Traffic). x.2) m.2 })
+        let m = mapped_some left o p entry same is in (
+          m.0,
+          m.1,
+          record {
+            session = ap (λ (x : ℕ × Bool × Traffic). x.0) m.2;
+            gone = ap (λ (x : ℕ × Bool × Traffic). x.1) m.2;
+            through = ap (λ (x : ℕ × Bool × Traffic). x.2) m.2;
+          },
+        )
 
-    module _ (old new : Slots (BufferedStream T)) (events : List Event) (polled : (key : ℕ) → slot_at new key ≡ after_poll events key (slot_at old key)) where
-      pub was_polled : (key : ℕ) (entry : Entry (BufferedStream T)) → slot_at new key ≡ Some entry → (before : Entry (BufferedStream T)) × (slot_at old key ≡ Some before) × IsLeft entry before
-      was_polled key entry e = is_left (slot_at old key) (slot_at new key) entry (ap (option_map left) (polled key) ∙ poll_left events key (slot_at old key)) e
+    pub told_was : (events : List Event) (key : ℕ) (slot : Option (Entry (BufferedStream T))) (entry : Entry (BufferedStream T))
+        → after_poll events key slot ≡ Some entry → (before : Entry (BufferedStream T)) × (slot ≡ Some before) × IsLeft entry before
+    told_was events key slot entry is = is_left slot (after_poll events key slot) entry (poll_left events key slot) is
 
-      pub then_polled : (key : ℕ) (entry : Entry (BufferedStream T)) → slot_at old key ≡ Some entry → (after : Entry (BufferedStream T)) × (slot_at new key ≡ Some after) × IsLeft entry after
-      then_polled key entry e = is_left (slot_at new key) (slot_at old key) entry (sym (ap (option_map left) (polled key) ∙ poll_left events key (slot_at old key))) e
+    module _ (old new : Slots (BufferedStream T)) (events : List Event) (polled : TakesTurns old new events) where
+      pub was_polled : (key : ℕ) (entry : Entry (BufferedStream T)) → slot_at new key ≡ Some entry
+          → (before : Entry (BufferedStream T)) × (slot_at old key ≡ Some before) × IsLeft entry before
+      was_polled key entry e =
+          is_left (slot_at old key) (slot_at new key) entry (taken_left events key (polled key).0 (slot_at old key) (slot_at new key) (polled key).1) e
+
+      pub then_polled : (key : ℕ) (entry : Entry (BufferedStream T)) → slot_at old key ≡ Some entry
+          → (after : Entry (BufferedStream T)) × (slot_at new key ≡ Some after) × IsLeft entry after
+      then_polled key entry e =
+          is_left (slot_at new key) (slot_at old key) entry (sym (taken_left events key (polled key).0 (slot_at old key) (slot_at new key) (polled key).1)) e
 
   -- ---- the end of a turn
 
   module _ (tells : Type 0) (traffic : T → Traffic) (moment : ℕ) where
     -- what an entry was before the end of its drive
-    pub was_driven : (slot after : Option (Entry (BufferedStream T))) (entry : Entry (BufferedStream T)) → EndsTurn tells traffic moment slot after → after ≡ Some entry
+    pub was_driven : (slot after : Option (Entry (BufferedStream T))) (entry : Entry (BufferedStream T)) → EndsTurn tells traffic moment slot after
+        → after ≡ Some entry
         → (was : Entry (BufferedStream T)) × (slot ≡ Some was) × EndsDrive tells traffic moment was entry
     was_driven None after entry none e = absurd (let bad : None ≡ Some entry = sym none ∙ e in cc)
     was_driven (Some was) after entry (mid, ends, is) e =
-        elim (is_over mid) as (λ b. after ≡ cond b None (Some mid) → (x : Entry (BufferedStream T)) × (Some was ≡ Some x) × EndsDrive tells traffic moment x entry) [
+        elim (is_over mid) as (λ b. after ≡ cond b None (Some mid)
+        → (x : Entry (BufferedStream T)) × (Some was ≡ Some x) × EndsDrive tells traffic moment x entry) [
           | true ↦ λ none. absurd (let bad : None ≡ Some entry = sym none ∙ e in cc)
           | false ↦ λ there. (was, refl, subst (λ (x : Entry (BufferedStream T)). EndsDrive tells traffic moment was x) (some_same (sym there ∙ e)) ends)
         ] is
@@ -103,10 +160,12 @@ module _ {T : Type 0} where
     -- it was gone where it is taken out, or is gone
     pub gone_before : (was : Entry (BufferedStream T)) (after : Option (Entry (BufferedStream T))) → EndsTurn tells traffic moment (Some was) after
         → ((entry : Entry (BufferedStream T)) → after ≡ Some entry → entry.session ≡ was.session → entry.state ≡ Gone) → was.state ≡ Gone
-    gone_before was after (mid, ends, is) without = was_gone was.state (has_had_share was.stream) (sym ends.state ∙ elim (is_over mid) as (λ b. is_over mid ≡ b → after ≡ cond b None (Some mid) → mid.state ≡ Gone) [
-      | true ↦ λ over none. gone_at mid.state (and_parts (is_gone mid.state) (is_settled mid.stream) over).0
-      | false ↦ λ lasts there. without mid there ends.session
-    ] refl is)
+    gone_before was after (mid, ends, is) without =
+        was_gone was.state (has_had_share was.stream) (sym ends.state
+        ∙ elim (is_over mid) as (λ b. is_over mid ≡ b → after ≡ cond b None (Some mid) → mid.state ≡ Gone) [
+          | true ↦ λ over none. gone_at mid.state (and_parts (is_gone mid.state) (is_settled mid.stream) over).0
+          | false ↦ λ lasts there. without mid there ends.session
+        ] refl is)
 
 module _ {moment : ℕ} {slots : Slots (BufferedStream Socket)} {old : Lingerers} where
   -- the entries at the keys that come are as they were, and the drives of the others have ended
@@ -122,7 +181,8 @@ module _ {moment : ℕ} {slots : Slots (BufferedStream Socket)} {old : Lingerers
     | inl same ↦
         subst (λ (k : ℕ). EndsTurn SocketsTell traffic_of moment (slot_at slots k) (slot_at new k)) (sym same)
         (subst (λ slot. EndsTurn SocketsTell traffic_of moment slot (slot_at new key)) (each_rest each key (omega arith)) at.ended)
-    | inr differs ↦ subst (λ slot. EndsTurn SocketsTell traffic_of moment (slot_at slots other) slot) (sym (at.others other differs)) (each_ended each other (omega arith))
+    | inr differs ↦ subst (λ slot. EndsTurn SocketsTell traffic_of moment (slot_at slots other) slot) (sym (at.others other differs))
+        (each_ended each other (omega arith))
   ]
 
   pub all_ended : (new : Slots (BufferedStream Socket)) (later : Lingerers) → EndAll moment slots old new later → (key : ℕ)
@@ -152,8 +212,12 @@ module _ (moment key : ℕ) (slots new : Slots (BufferedStream Socket)) (others 
   unfolding Ends
   vacant old was is = ends None old old was (is, refl)
 
-  pub there : (old later : Lingerers) (before entry : Entry (BufferedStream Socket)) → slot_at slots key ≡ Some before → EndsDrive SocketsTell traffic_of moment before entry → (over : Bool) → over ≡ is_over entry
+  pub there : (old later : Lingerers) (before entry : Entry (BufferedStream Socket)) → slot_at slots key ≡ Some before
+      → EndsDrive SocketsTell traffic_of moment before entry → (over : Bool) → over ≡ is_over entry
       → slot_at new key ≡ cond over None (Some entry) → LeavesIf over entry.stream.inner old later → EndsAt moment key slots old new later
   unfolding Ends
   there old later before entry was drove over over_is is leaves =
-      ends (Some before) old later was ((entry, drove, is ∙ ap (λ b. cond b None (Some entry)) over_is), subst (λ b. LeavesIf b entry.stream.inner old later) over_is leaves)
+      ends (Some before) old later was (
+        (entry, drove, is ∙ ap (λ b. cond b None (Some entry)) over_is),
+        subst (λ b. LeavesIf b entry.stream.inner old later) over_is leaves,
+      )

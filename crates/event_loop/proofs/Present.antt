@@ -1,8 +1,18 @@
 -- The sessions that are present: what a join does to them, and that they stand by rising number, so one that has left is absent.
-use Rattle.event_loop.proofs.Words.{◌≡◌, ℕ, ◌+◌, ◌<◌, ◌≤◌, true, not, nat_le, List, [], ◌∷◌, length, Some, None, refl, ap, nat_cmp, arith, ◌≢◌, Bool, false, cond, if◌then◌else◌, sym, lookup, set_value, remove_entry, Absent, HubState, SessionStream, HubEvent, Joins, Choice, ArePossible, IsReachedHub, Begun, Continued, hub_step, run, stream_of, new_stream, is_above, Done, Unknown, Crowded, Memory, test, Outcome, status_in}
-use Rattle.std.specs.{BTreeMap.insert_entry, declared.cmp.Ordering.TheVariants.Equal}
-use Rattle.std.proofs.{lemmas.Bool.Decides.nat_tests, lemmas.Grind.common_steps}
-use Rattle.sessions.specs.SessionStreams.{Leaves}
+use Rattle.std.proofs.Common.{◌≡◌, ℕ, ◌+◌, ◌<◌, ◌≤◌, true, not, nat_le, List, [], ◌∷◌, length, Some, None, refl, ap}
+use Rattle.std.proofs.Common.{nat_cmp, arith, ◌≢◌, Bool, false, cond, if◌then◌else◌, sym}
+use Rattle.std.proofs.lemmas.Bool.Decides.{nat_tests}
+use Rattle.std.proofs.lemmas.Grind.{common_steps}
+use Rattle.std.specs.BTreeMap.{insert_entry}
+use Rattle.std.specs.Map.{lookup, set_value, remove_entry}
+use Rattle.std.specs.declared.cmp.Ordering.TheVariants.{Equal}
+use Rattle.sessions.specs.SessionStreams.{HubState, SessionStream, HubEvent, Joins, Choice, ArePossible, IsReachedHub}
+use Rattle.sessions.specs.SessionStreams.{Begun, Continued, hub_step, run, stream_of, new_stream, is_above, Leaves}
+use Rattle.sessions.specs.StandsFor.{status_in}
+use Rattle.sessions.specs.declared.events.Outcome.{Outcome}
+use Rattle.sessions.specs.declared.events.Outcome.TheVariants.{Done, Unknown, Crowded, Memory}
+use Rattle.sessions.specs.declared.events.Status.TheVariants.{Absent}
+use Rattle.stream_driver.proofs.Events.{test}
 
 other_test : (q s : ℕ) → q ≢ s → test q s ≡ false
 other_test q s apart = grind (arith, nat_tests)
@@ -25,7 +35,8 @@ by_if P false x y p q = q
 
 module _ (h : HubState) (s : ℕ) (c : Choice) where
   -- a join that is refused changes nothing
-  pub join_step : (P : HubState × Outcome → Type 0) → ((outcome : Outcome) → outcome ≢ Done → P (h, outcome)) → P (record h { present = insert_entry nat_cmp h.present s new_stream; latest = Some s }, Done) → P (hub_step h (Joins s) c)
+  pub join_step : (P : HubState × Outcome → Type 0) → ((outcome : Outcome) → outcome ≢ Done → P (h, outcome))
+      → P (record h { present = insert_entry nat_cmp h.present s new_stream; latest = Some s }, Done) → P (hub_step h (Joins s) c)
   unfolding hub_step
   join_step P refused done =
       by_if P (not (is_above s h.latest)) _ _ (refused Unknown (λ e. cc))
@@ -40,7 +51,8 @@ module _ (h : HubState) (s : ℕ) (c : Choice) where
 
   -- and the new one is there
   pub joins_same : Done ≡ (hub_step h (Joins s) c).1 → stream_of (hub_step h (Joins s) c).0 s ≡ Some new_stream
-  joins_same = join_step (λ r. Done ≡ r.1 → stream_of r.0 s ≡ Some new_stream) (λ outcome differs done. absurd (differs (sym done))) (λ done. insert-same h.present s new_stream)
+  joins_same = join_step (λ r. Done ≡ r.1
+      → stream_of r.0 s ≡ Some new_stream) (λ outcome differs done. absurd (differs (sym done))) (λ done. insert-same h.present s new_stream)
 
 -- ---- they stand by rising number
 

@@ -1,9 +1,20 @@
 -- One call of a socket, under the premise that sockets tell the bytes that they move.
-use Rattle.event_loop.proofs.Words.{◌≡◌, ◌≢◌, inl, inr, ℕ, ◌-◌, ◌^◌, List, [], ◌∷◌, ◌++◌, map, take, refl, Option, Some, None, Result, Ok, Err, IfOk, IfSome, IsErr, OnOk, sym, ap, subst, ◌∙◌, cases_eq, append-nil, map-append, none_departed, IsNewSocket, SocketsTell, departure_of, traffic_of, BufferedStream, IsNew, DepartAt, IsUncalled, Traffic, bytes_read, bytes_written, Socket, arith}
+use Rattle.std.proofs.Common.{◌≡◌, ◌≢◌, inl, inr, ℕ, ◌-◌, ◌^◌, List, [], ◌∷◌, ◌++◌, map, take, refl, Option, Some}
+use Rattle.std.proofs.Common.{None, Result, Ok, Err, IfOk, IfSome, IsErr, OnOk, sym, ap, subst, ◌∙◌, arith}
+use Rattle.std.proofs.lemmas.Bool.{cases_eq}
+use Rattle.std.proofs.lemmas.List.{append-nil, map-append}
 use Rattle.std.specs.Result.{result_ok}
+use Rattle.socket_calls.specs.HappenedCalls.{WasReceived, WasSent}
 use Rattle.socket_calls.specs.OpenFacts.{departed, given, latest, moved, next, taken}
-use Rattle.socket_calls.specs.{HappenedCalls.SendsAtOnce, HappenedCalls.WasReceived, HappenedCalls.WasSent, declared.counted.CountedSocket.CountedSocket}
-use Rattle.stream_driver.specs.{declared.answers.ReadAnswer.ReadAnswer, declared.answers.WriteAnswer.WriteAnswer}
+use Rattle.socket_calls.specs.declared.counted.CountedSocket.{CountedSocket}
+use Rattle.stream_driver.proofs.Buffering.{none_departed}
+use Rattle.stream_driver.specs.Buffers.{IsNew}
+use Rattle.stream_driver.specs.Traffic.{DepartAt, IsUncalled, Traffic, bytes_read, bytes_written}
+use Rattle.stream_driver.specs.declared.answers.ReadAnswer.{ReadAnswer}
+use Rattle.stream_driver.specs.declared.answers.WriteAnswer.{WriteAnswer}
+use Rattle.stream_driver.specs.declared.buffered.BufferedStream.{BufferedStream}
+use Rattle.event_loop.specs.Sockets.{HasItsOptions, HasItsPlace, IsNewSocket, SocketsTell, departure_of, traffic_of}
+use Rattle.event_loop.specs.declared.socket.Socket.{Socket}
 
 latest-append : (none : List ℕ) (ds : List (List ℕ × ℕ)) (d : List ℕ × ℕ) → latest none (ds ++ d ∷ []) ≡ d.0
 latest-append none [] d = refl
@@ -12,7 +23,8 @@ latest-append none (x ∷ xs) d = latest-append x.0 xs d
 none_moved : {E : Type 0} (outcome : Result ℕ E) → IsErr outcome → moved outcome ≡ 0
 none_moved outcome failed = grind arith
 
-module _ {E : Type 0} (old mid new : CountedSocket) (bytes : List ℕ) (outcome : Result ℕ E) (called : mid ≡ next old) (kept : new ≡ mid) (over : old.calls ≡ 2 ^ 64 - 1 → IsErr outcome) where
+module _ {E : Type 0} (old mid new : CountedSocket) (bytes : List ℕ) (outcome : Result ℕ E) (called : mid ≡ next old) (kept : new ≡ mid) (over : old.calls
+    ≡ 2 ^ 64 - 1 → IsErr outcome) where
   abbrev went : List ℕ
   went = take (moved outcome) bytes
 
@@ -37,7 +49,8 @@ module _ {E : Type 0} (old mid new : CountedSocket) (bytes : List ℕ) (outcome 
     pub taken_read : SocketsTell → taken new ≡ taken old
     taken_read tells = ap (λ l. latest [] l) (none_left tells)
 
-    pub departed_read : (moment : ℕ) (before after : Traffic) → before.departed ≡ map departure_of (departed old) → after.departed ≡ map departure_of (departed new) → SocketsTell → DepartAt moment before after
+    pub departed_read : (moment : ℕ) (before after : Traffic) → before.departed ≡ map departure_of (departed old)
+        → after.departed ≡ map departure_of (departed new) → SocketsTell → DepartAt moment before after
     departed_read moment before after was is tells = none_departed (is ∙ ap (λ l. map departure_of l) (none_left tells) ∙ sym was)
 
   module _ (moment : ℕ) (happened : old.calls ≢ 2 ^ 64 - 1 → WasSent old went moment) where
@@ -48,14 +61,16 @@ module _ {E : Type 0} (old mid new : CountedSocket) (bytes : List ℕ) (outcome 
     all_taken tells = by_calls (λ s gone. taken s ≡ taken old ++ gone) (sym (append-nil (taken old))) (λ fewer.
         ap (λ l. latest [] l) (tells.sent old went moment (happened fewer)).1 ∙ latest-append [] (departed old) (taken old ++ went, moment))
 
-    pub departed_written : (before after : Traffic) → before.departed ≡ map departure_of (departed old) → after.departed ≡ map departure_of (departed new) → after.taken ≡ taken new → SocketsTell → DepartAt moment before after
+    pub departed_written : (before after : Traffic) → before.departed ≡ map departure_of (departed old) → after.departed ≡ map departure_of (departed new)
+        → after.taken ≡ taken new → SocketsTell → DepartAt moment before after
     departed_written before after was is took tells =
         by_calls (λ s gone. after.departed ≡ map departure_of (departed s) → after.taken ≡ taken old ++ gone → DepartAt moment before after)
         (λ is took. none_departed (is ∙ sym was))
         (λ fewer is took. record {
           departures = departure_of (taken old ++ went, moment) ∷ [];
           departed_are =
-              is ∙ ap (λ l. map departure_of l) (tells.sent old went moment (happened fewer)).1 ∙ map-append departure_of (departed old) ((taken old ++ went, moment) ∷ [])
+              is ∙ ap (λ l. map departure_of l) (tells.sent old went moment (happened fewer)).1
+              ∙ map-append departure_of (departed old) ((taken old ++ went, moment) ∷ [])
               ∙ ap (λ l. l ++ departure_of (taken old ++ went, moment) ∷ []) (sym was);
           each = ((refl, record { rest = []; all_is = took ∙ sym (append-nil (taken old ++ went)) }), tt);
         }) is (took ∙ all_taken tells)
@@ -64,10 +79,12 @@ module _ {E : Type 0} (old mid new : CountedSocket) (bytes : List ℕ) (outcome 
     taken_written answer count tells = all_taken tells ∙ ap (λ n. taken old ++ take n bytes) (sym count)
 
 -- a stream that was made for a new connection
-pub prepared : {E : Type 0} (session : ℕ) (inner : Socket) (made : Result (BufferedStream Socket) E) (result : Option (BufferedStream Socket)) → result ≡ result_ok made → IfOk made (λ b. IsNew inner b) → IsUncalled SocketsTell session (traffic_of inner)
-    → SendsAtOnce inner.socket → IfSome result (IsNewSocket session)
-prepared session inner (Ok b) result is new uncalled at_once = subst (λ o. IfSome o (IsNewSocket session)) (sym is) (inner, uncalled, new, at_once)
-prepared session inner (Err e) result is new uncalled at_once = subst (λ o. IfSome o (IsNewSocket session)) (sym is) tt
+pub prepared : {E : Type 0} (key session : ℕ) (inner : Socket) (made : Result (BufferedStream Socket) E) (result : Option (BufferedStream Socket))
+    → result ≡ result_ok made → IfOk made (λ b. IsNew inner b) → IsUncalled SocketsTell session (traffic_of inner)
+    → HasItsOptions inner.socket → HasItsPlace key inner.socket → IfSome result (IsNewSocket key session)
+prepared key session inner (Ok b) result is new uncalled has placed =
+    subst (λ o. IfSome o (IsNewSocket key session)) (sym is) (inner, uncalled, new, has, placed)
+prepared key session inner (Err e) result is new uncalled has placed = subst (λ o. IfSome o (IsNewSocket key session)) (sym is) tt
 
 -- a call agreed
 pub agreed : {A E : Type 0} (answer : Result A E) (a : A) (P : Type 0) → Some a ≡ result_ok answer → OnOk answer P → P

@@ -1,29 +1,56 @@
 -- What the drives of a turn leave of each entry: its session, the number of its connection, and the bytes of its session.
-use Rattle.event_loop.proofs.Words.{◌≡◌, ◌≢◌, inl, inr, ℕ, zero, suc, List, [], ◌∷◌, ◌++◌, Option, Some, None, refl, sym, ap, subst, ◌∙◌, arith, Idle, Ready, Gone as EntryGone, flushed_same, none_departed, one_history, some_same, ends_last, entry_other, HasItsBytes, HaveBytes, Event, HubState, SessionStream, stream_of, BufferedStream, Entry, EntryState, fresh, has_had_share, traffic_through, DrivenAll, DrivenEntry, DrivenIn, DrivenSlot, EndsIn, state_after, Point, DepartAt, Traffic, EndsTurn, after_poll, slot_at, Slots}
-use Rattle.stream_driver.specs.{declared.answers.Progress.Progress, declared.answers.Progress.TheVariants.Gone, Drives.Why}
-use Rattle.event_loop.proofs.{Entries.no_entry, Polled.gone_as, Polled.gone_at_end, Polled.was_driven, Polled.was_polled}
+use Rattle.std.proofs.Common.{◌≡◌, ◌≢◌, inl, inr, ℕ, zero, suc, List, [], ◌∷◌, ◌++◌, Option, Some, None, refl, sym}
+use Rattle.std.proofs.Common.{ap, subst, ◌∙◌, arith}
+use Rattle.mio.specs.declared.event.event.Event.{Event}
+use Rattle.model.proofs.Lookups.{some_same}
+use Rattle.sessions.specs.SessionStreams.{HubState, SessionStream, stream_of}
+use Rattle.stream_driver.proofs.Buffering.{flushed_same, none_departed}
+use Rattle.stream_driver.proofs.Carry.{one_history}
+use Rattle.stream_driver.proofs.OneEntry.{ends_last, entry_other}
+use Rattle.stream_driver.specs.Buffers.{fresh, has_had_share, traffic_through}
+use Rattle.stream_driver.specs.Drives.{Why}
+use Rattle.stream_driver.specs.Entries.{DrivenAll, DrivenEntry, DrivenIn, DrivenSlot, EndsIn, state_after}
+use Rattle.stream_driver.specs.Sessions.{Point}
+use Rattle.stream_driver.specs.Traffic.{DepartAt, Traffic}
+use Rattle.stream_driver.specs.declared.answers.Progress.{Progress}
+use Rattle.stream_driver.specs.declared.answers.Progress.TheVariants.{Gone}
+use Rattle.stream_driver.specs.declared.buffered.BufferedStream.{BufferedStream}
+use Rattle.stream_driver.specs.declared.entries.Entry.{Entry}
+use Rattle.stream_driver.specs.declared.entries.EntryState.{EntryState}
+use Rattle.stream_driver.specs.declared.entries.EntryState.TheVariants.{Idle, Ready, Gone as EntryGone}
+use Rattle.event_loop.proofs.Entries.{no_entry}
+use Rattle.event_loop.proofs.Polled.{gone_as, gone_at_end, TakesTurns, was_driven, was_polled}
+use Rattle.event_loop.proofs.Slots.{Slots}
+use Rattle.event_loop.specs.TableBytes.{HasItsBytes, HaveBytes}
+use Rattle.event_loop.specs.Tables.{EndsTurn, slot_at}
 
 -- a drive keeps the number of a stream's connection
-why_same : (s : ℕ) (last : HubState) (before after : Traffic) (served : ℕ) (answer : Progress) → Why s last before after served answer → after.connection ≡ before.connection
+why_same : (s : ℕ) (last : HubState) (before after : Traffic) (served : ℕ) (answer : Progress) → Why s last before after served answer
+    → after.connection ≡ before.connection
 why_same s last before after served answer why = grind arith
 
 -- each entry that isn't gone has its own session
 abbrev AreOwn : {T : Type 0} → Slots T → Type 0
 AreOwn {T} slots =
-    (key other : ℕ) (entry another : Entry T) → slot_at slots key ≡ Some entry → slot_at slots other ≡ Some another → entry.state ≢ EntryGone → another.state ≢ EntryGone → entry.session ≡ another.session → key ≡ other
+    (key other : ℕ) (entry another : Entry T) → slot_at slots key ≡ Some entry → slot_at slots other ≡ Some another → entry.state ≢ EntryGone
+    → another.state ≢ EntryGone → entry.session ≡ another.session → key ≡ other
 
 module _ {T : Type 0} (tells : Type 0) (traffic : T → Traffic) where
   -- ---- one entry is driven
 
-  same_numbers : (state : EntryState) (earlier : Point) (old : Entry T) (later : Point) (new : Entry T) → DrivenIn tells traffic state earlier old later new → (new.session ≡ old.session) × ((traffic new.stream).connection ≡ (traffic old.stream).connection)
-  same_numbers Ready earlier old later new d = (d.session, why_same old.session d.drove.last.hub (traffic old.stream) (traffic new.stream) _ d.answer d.drove.why)
+  same_numbers : (state : EntryState) (earlier : Point) (old : Entry T) (later : Point) (new : Entry T) → DrivenIn tells traffic state earlier old later new
+      → (new.session ≡ old.session) × ((traffic new.stream).connection ≡ (traffic old.stream).connection)
+  same_numbers Ready earlier old later new d =
+      (d.session, why_same old.session d.drove.last.hub (traffic old.stream) (traffic new.stream) _ d.answer d.drove.why)
   same_numbers _ earlier old later new d = (ap (λ (x : Entry T). x.session) d.0, ap (λ (x : Entry T). (traffic x.stream).connection) d.0)
 
   -- it was not gone before
-  was_alive : (state : EntryState) (earlier : Point) (old : Entry T) (later : Point) (new : Entry T) → old.state ≡ state → DrivenIn tells traffic state earlier old later new → new.state ≢ EntryGone → old.state ≢ EntryGone
+  was_alive : (state : EntryState) (earlier : Point) (old : Entry T) (later : Point) (new : Entry T) → old.state ≡ state
+      → DrivenIn tells traffic state earlier old later new → new.state ≢ EntryGone → old.state ≢ EntryGone
   was_alive state earlier old later new is d alive = grind arith
 
-  entry_bytes : (state : EntryState) (earlier : Point) (old : Entry T) (later : Point) (new : Entry T) → DrivenIn tells traffic state earlier old later new → new.state ≢ EntryGone
+  entry_bytes : (state : EntryState) (earlier : Point) (old : Entry T) (later : Point) (new : Entry T) → DrivenIn tells traffic state earlier old later new
+      → new.state ≢ EntryGone
       → HasItsBytes tells traffic earlier.hub old → HasItsBytes tells traffic later.hub new
   entry_bytes Ready earlier old later new d alive has =
       let runs = d.drove.carried.runs in
@@ -43,24 +70,31 @@ module _ {T : Type 0} (tells : Type 0) (traffic : T → Traffic) where
 
   -- ---- all are driven
 
-  slot_driven : (earlier : Point) (slot : Option (Entry T)) (later : Point) (after : Option (Entry T)) → DrivenSlot tells traffic earlier slot later after → (was entry : Entry T) → slot ≡ Some was → after ≡ Some entry
+  slot_driven : (earlier : Point) (slot : Option (Entry T)) (later : Point) (after : Option (Entry T)) → DrivenSlot tells traffic earlier slot later after
+      → (was entry : Entry T) → slot ≡ Some was → after ≡ Some entry
       → DrivenEntry tells traffic earlier was later entry
   slot_driven earlier None later after d was entry e f = absurd (let bad : None ≡ Some was = e in cc)
   slot_driven earlier (Some old) later after (new, is, d) was entry e f =
-      subst (λ (x : Entry T). DrivenEntry tells traffic earlier x later entry) (some_same e) (subst (λ (x : Entry T). DrivenEntry tells traffic earlier old later x) (some_same (sym is ∙ f)) d)
+      subst (λ (x : Entry T). DrivenEntry tells traffic earlier x later entry) (some_same e)
+      (subst (λ (x : Entry T). DrivenEntry tells traffic earlier old later x) (some_same (sym is ∙ f)) d)
 
   -- each entry was driven between some two points
   abbrev WasDriven : Option (Entry T) → Entry T → Type 0
   WasDriven slot entry = (was : Entry T) × (slot ≡ Some was) × (h : Point) × (k : Point) × DrivenEntry tells traffic h was k entry
 
-  driven_at : (earlier : Point) (slots : Slots T) (later : Point) (new : Slots T) → DrivenAll tells traffic earlier slots later new → (key : ℕ) (entry : Entry T) → slot_at new key ≡ Some entry → WasDriven (slot_at slots key) entry
+  driven_at : (earlier : Point) (slots : Slots T) (later : Point) (new : Slots T) → DrivenAll tells traffic earlier slots later new
+      → (key : ℕ) (entry : Entry T) → slot_at new key ≡ Some entry → WasDriven (slot_at slots key) entry
   driven_at earlier [] later new d key entry e = absurd (no_entry new d.0 key entry e)
-  driven_at earlier (None ∷ slots) later new (first, mid, others, is, d, rest) zero entry e = absurd (let bad : None ≡ Some entry = sym d.0 ∙ ap (λ l. slot_at l zero) (sym is) ∙ e in cc)
-  driven_at earlier (Some was ∷ slots) later new (first, mid, others, is, d, rest) zero entry e = (was, refl, earlier, mid, slot_driven earlier (Some was) mid first d was entry refl (ap (λ l. slot_at l zero) (sym is) ∙ e))
-  driven_at earlier (slot ∷ slots) later new (first, mid, others, is, d, rest) (suc key) entry e = driven_at mid slots later others rest key entry (ap (λ l. slot_at l (suc key)) (sym is) ∙ e)
+  driven_at earlier (None ∷ slots) later new (first, mid, others, is, d, rest) zero entry e =
+      absurd (let bad : None ≡ Some entry = sym d.0 ∙ ap (λ l. slot_at l zero) (sym is) ∙ e in cc)
+  driven_at earlier (Some was ∷ slots) later new (first, mid, others, is, d, rest) zero entry e =
+      (was, refl, earlier, mid, slot_driven earlier (Some was) mid first d was entry refl (ap (λ l. slot_at l zero) (sym is) ∙ e))
+  driven_at earlier (slot ∷ slots) later new (first, mid, others, is, d, rest) (suc key) entry e =
+      driven_at mid slots later others rest key entry (ap (λ l. slot_at l (suc key)) (sym is) ∙ e)
 
   -- each keeps its session and the number of its connection
-  pub driven_was : (earlier : Point) (slots : Slots T) (later : Point) (new : Slots T) → DrivenAll tells traffic earlier slots later new → (key : ℕ) (entry : Entry T) → slot_at new key ≡ Some entry
+  pub driven_was : (earlier : Point) (slots : Slots T) (later : Point) (new : Slots T) → DrivenAll tells traffic earlier slots later new
+      → (key : ℕ) (entry : Entry T) → slot_at new key ≡ Some entry
       → (was : Entry T) × (slot_at slots key ≡ Some was) × (entry.session ≡ was.session) × ((traffic entry.stream).connection ≡ (traffic was.stream).connection)
   driven_was earlier slots later new d key entry e =
       let w = driven_at earlier slots later new d key entry e in
@@ -73,37 +107,48 @@ module _ {T : Type 0} (tells : Type 0) (traffic : T → Traffic) where
   slot_other earlier (Some old) later new d s apart = entry_other tells traffic old.state earlier old later d.0 refl d.2 s (apart old refl)
 
   all_other : (earlier : Point) (slots : Slots T) (later : Point) (new : Slots T) → DrivenAll tells traffic earlier slots later new → (s : ℕ)
-      → ((key : ℕ) (entry : Entry T) → slot_at slots key ≡ Some entry → entry.state ≢ EntryGone → s ≢ entry.session) → stream_of later.hub s ≡ stream_of earlier.hub s
+      → ((key : ℕ) (entry : Entry T) → slot_at slots key ≡ Some entry → entry.state ≢ EntryGone → s ≢ entry.session)
+      → stream_of later.hub s ≡ stream_of earlier.hub s
   all_other earlier [] later new d s apart = ap (λ (p : Point). stream_of p.hub s) d.1
   all_other earlier (slot ∷ slots) later new (first, mid, others, is, d, rest) s apart =
       all_other mid slots later others rest s (λ key entry e. apart (suc key) entry e) ∙ slot_other earlier slot mid first d s (λ entry e. apart zero entry e)
 
   -- an entry whose session no other has that isn't gone
-  one_bytes : (earlier : Point) (slots : Slots T) (later : Point) (new : Slots T) → DrivenAll tells traffic earlier slots later new → (key : ℕ) (was entry : Entry T) → slot_at slots key ≡ Some was → slot_at new key ≡ Some entry
-      → ((other : ℕ) (another : Entry T) → slot_at slots other ≡ Some another → another.state ≢ EntryGone → was.session ≡ another.session → key ≡ other) → entry.state ≢ EntryGone
+  one_bytes : (earlier : Point) (slots : Slots T) (later : Point) (new : Slots T) → DrivenAll tells traffic earlier slots later new
+      → (key : ℕ) (was entry : Entry T) → slot_at slots key ≡ Some was → slot_at new key ≡ Some entry
+      → ((other : ℕ) (another : Entry T) → slot_at slots other ≡ Some another → another.state ≢ EntryGone → was.session ≡ another.session → key ≡ other)
+      → entry.state ≢ EntryGone
       → HasItsBytes tells traffic earlier.hub was → HasItsBytes tells traffic later.hub entry
   one_bytes earlier [] later new d key was entry e f own alive has = absurd (no_entry [] refl key was e)
   one_bytes earlier (slot ∷ slots) later new (first, mid, others, is, d, rest) zero was entry e f own alive has =
       let here = slot_driven earlier slot mid first d was entry e (ap (λ l. slot_at l zero) (sym is) ∙ f) in
       let session : entry.session ≡ was.session = (same_numbers was.state earlier was mid entry here).0 in
       let now = entry_bytes was.state earlier was mid entry here alive has in
-      let stays = all_other mid slots later others rest entry.session (λ other another g too same. (let bad : zero ≡ suc other = own (suc other) another g too (sym session ∙ same) in omega arith)) in
+      let stays = all_other mid slots later others rest entry.session
+      (λ other another g too same. (let bad : zero ≡ suc other = own (suc other) another g too (sym session ∙ same) in omega arith)) in
       (now.0, stays ∙ now.1, now.2)
   one_bytes earlier (slot ∷ slots) later new (first, mid, others, is, d, rest) (suc key) was entry e f own alive has =
       one_bytes mid slots later others rest key was entry e (ap (λ l. slot_at l (suc key)) (sym is) ∙ f)
-      (λ other another g too same. (let up : suc key ≡ suc other = own (suc other) another g too same in omega arith)) alive
-      (has.0, slot_other earlier slot mid first d was.session (λ another g too same. (let bad : suc key ≡ zero = own zero another g too same in omega arith)) ∙ has.1, has.2)
+      (λ other another g too same. (let up : suc key ≡ suc other = own (suc other) another g too same in omega arith)) alive (
+        has.0,
+        slot_other earlier slot mid first d was.session (λ another g too same. (let bad : suc key ≡ zero = own zero another g too same in omega arith))
+            ∙ has.1,
+        has.2,
+      )
 
-  driven_bytes : (earlier : Point) (slots : Slots T) (later : Point) (new : Slots T) → DrivenAll tells traffic earlier slots later new → AreOwn slots → HaveBytes tells traffic earlier.hub slots → HaveBytes tells traffic later.hub new
+  driven_bytes : (earlier : Point) (slots : Slots T) (later : Point) (new : Slots T) → DrivenAll tells traffic earlier slots later new → AreOwn slots
+      → HaveBytes tells traffic earlier.hub slots → HaveBytes tells traffic later.hub new
   driven_bytes earlier slots later new d own has key entry e alive =
       let w = driven_at earlier slots later new d key entry e in
       let before = was_alive w.0.state w.2 w.0 w.3 entry refl w.4 alive in
-      one_bytes earlier slots later new d key w.0 entry w.1 e (λ other another g too same. own key other w.0 another w.1 g before too same) alive (has key w.0 w.1 before)
+      one_bytes earlier slots later new d key w.0 entry w.1 e (λ other another g too same. own key other w.0 another w.1 g before too same) alive
+      (has key w.0 w.1 before)
 
   -- ---- the table alone changes
 
   kept_bytes : (h : HubState) (before entry : Entry T) → entry.session ≡ before.session
-      → (tells → ((traffic entry.stream).given ≡ (traffic before.stream).given) × ((traffic entry.stream).taken ≡ (traffic before.stream).taken)) → HasItsBytes tells traffic h before → HasItsBytes tells traffic h entry
+      → (tells → ((traffic entry.stream).given ≡ (traffic before.stream).given) × ((traffic entry.stream).taken ≡ (traffic before.stream).taken))
+      → HasItsBytes tells traffic h before → HasItsBytes tells traffic h entry
   kept_bytes h before entry session moved has = (has.0, ap (stream_of h) session ∙ has.1, λ t. ((moved t).0 ∙ (has.2 t).0, (moved t).1 ∙ (has.2 t).1))
 
 -- ---- streams that hold bytes
@@ -121,29 +166,36 @@ module _ {T : Type 0} (tells : Type 0) (traffic : T → Traffic) (moment : ℕ) 
 
   still_finished : (old new : BufferedStream T) → new ≡ fresh old → IsFinished old new
   still_finished old new same =
-      subst (λ (b : BufferedStream T). IsFinished old b) (sym same) (record { connection = refl; given = λ t. refl; taken = λ t. refl; departed = λ t. none_departed refl })
+      subst (λ (b : BufferedStream T). IsFinished old b) (sym same)
+      (record { connection = refl; given = λ t. refl; taken = λ t. refl; departed = λ t. none_departed refl })
 
   pub finished : (state : EntryState) (old new : BufferedStream T) → EndsIn tells traffic moment state old new → IsFinished old new
   finished Idle old new ends = still_finished old new ends
   finished _ old new ends = elim ends [
     | inl same ↦ still_finished old new same.1
-    | inr y ↦ record { connection = flushed_same traffic (fresh old) new y.1 y.2.why; given = y.2.kept.given; taken = y.2.kept.taken; departed = y.2.kept.departed }
+    | inr y ↦ record {
+      connection = flushed_same traffic (fresh old) new y.1 y.2.why;
+      given = y.2.kept.given;
+      taken = y.2.kept.taken;
+      departed = y.2.kept.departed;
+    }
   ]
 
   -- ---- the drives of a turn
 
-  pub polled_bytes : (slots ready : Slots (BufferedStream T)) (events : List Event) → ((key : ℕ) → slot_at ready key ≡ after_poll events key (slot_at slots key)) → (h : HubState)
+  pub polled_bytes : (slots ready : Slots (BufferedStream T)) (events : List Event) → TakesTurns slots ready events → (h : HubState)
       → HaveBytes tells through h slots → HaveBytes tells through h ready
   polled_bytes slots ready events polled h has key entry e alive =
       let b = was_polled traffic slots ready events polled key entry e in
       kept_bytes tells through h b.0 entry b.2.session (λ t. (ap (λ (x : Traffic). x.given) b.2.through, ap (λ (x : Traffic). x.taken) b.2.through))
       (has key b.0 b.1 (λ gone. alive (gone_as b.0.state entry.state (sym b.2.gone) gone)))
 
-  module _ (slots ready driven new : Slots (BufferedStream T)) (events : List Event) (polled : (key : ℕ) → slot_at ready key ≡ after_poll events key (slot_at slots key))
+  module _ (slots ready driven new : Slots (BufferedStream T)) (events : List Event) (polled : TakesTurns slots ready events)
       (own : AreOwn ready) (ended : (key : ℕ) → EndsTurn tells traffic moment (slot_at driven key) (slot_at new key)) where
     pub drives_bytes : (h k : Point) → DrivenAll tells through h ready k driven → HaveBytes tells through h.hub slots → HaveBytes tells through k.hub new
     drives_bytes h k d has key entry e alive =
         let b = was_driven tells traffic moment (slot_at driven key) (slot_at new key) entry (ended key) e in
         let f = finished entry.state b.0.stream entry.stream b.2.stream in
         kept_bytes tells through k.hub b.0 entry b.2.session (λ t. (f.given t, f.taken t))
-        (driven_bytes tells through h ready k driven d own (polled_bytes slots ready events polled h.hub has) key b.0 b.1 (λ gone. alive (b.2.state ∙ gone_at_end b.0.state (has_had_share b.0.stream) gone)))
+        (driven_bytes tells through h ready k driven d own (polled_bytes slots ready events polled h.hub has) key b.0 b.1
+        (λ gone. alive (b.2.state ∙ gone_at_end b.0.state (has_had_share b.0.stream) gone)))

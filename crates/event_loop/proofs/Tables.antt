@@ -1,11 +1,39 @@
 -- The table keeps a session of its own for each entry, under a number that is below the next, as a connection comes too; and what leads a hub on as they come.
-use denote.Struct.Props.{props}
-use Rattle.event_loop.proofs.Words.{◌≡◌, ◌≢◌, ◌⊎◌, inl, inr, ℕ, ◌+◌, ◌<◌, get_or, sym, ap, subst, ◌∙◌, arith, Some, None, ◌≤◌, ◌-◌, ◌^◌, min, max, Bool, false, cond, [], ◌∷◌, ◌++◌, count_by, is_some, refl, cases_eq, Absent, Open, Done, NoneRuns, RunsAlone, status_seen, Ready, Gone, some_same, Follow, leads_event, leads_none, leads_then, adds_none, adds_then, AreBelow, Nobody, OneMore, Ghosts, Outcome, Hub, HubState, Joins, hub_step, HubLeads, StandsFor, status_in, status_of, Entry, HaveSessions, KeepSessions, Stands, IsPresent, Leads, status_at, Admits, LetsIn, HaveEntries, IsTried, IsWithoutEntry, slot_at, Slots, HubEvent, failures, Adds, one_more, ComeEach, Comes, join_of, joins_of, refusals_in, refusals_of}
+use Rattle.std.proofs.Common.{◌≡◌, ◌≢◌, ◌⊎◌, inl, inr, ℕ, ◌+◌, ◌<◌, get_or, sym, ap, subst, ◌∙◌, arith, Some, None}
+use Rattle.std.proofs.Common.{◌≤◌, ◌-◌, ◌^◌, min, max, Bool, false, cond, [], ◌∷◌, ◌++◌, count_by, is_some, refl}
 use Rattle.std.proofs.Math.Logic.{∥∥₁_elim}
+use Rattle.std.proofs.lemmas.Bool.{cases_eq}
 use Rattle.slab.specs.Slab.{Slab, Updates}
+use denote.Struct.Props.{props}
+use Rattle.model.proofs.Lookups.{some_same}
+use Rattle.sector.specs.declared.device.Sectors.{Ghosts}
+use Rattle.sessions.proofs.EventSteps.{status_seen}
 use Rattle.sessions.proofs.Reached.{Reached, reached}
-use Rattle.event_loop.specs.Accepts.{Accepts, after_taken, more}
+use Rattle.sessions.specs.Laws.{NoneRuns, RunsAlone}
+use Rattle.sessions.specs.SessionStreams.{HubState, Joins, hub_step, HubEvent}
+use Rattle.sessions.specs.StandsFor.{HubLeads, StandsFor, status_in, status_of, failures}
+use Rattle.sessions.specs.declared.events.Outcome.{Outcome}
+use Rattle.sessions.specs.declared.events.Outcome.TheVariants.{Done}
+use Rattle.sessions.specs.declared.events.Status.TheVariants.{Absent, Open}
+use Rattle.sessions.specs.declared.hub.Hub.{Hub}
+use Rattle.socket_calls.specs.declared.counted.AcceptedSocket.{AcceptedSocket}
+use Rattle.stream_driver.proofs.Carry.{adds_then}
+use Rattle.stream_driver.proofs.Events.{adds_none}
+use Rattle.stream_driver.proofs.States.{Follow, leads_event, leads_none, leads_then}
+use Rattle.stream_driver.specs.Entries.{HaveSessions, KeepSessions}
+use Rattle.stream_driver.specs.Sessions.{Stands, IsPresent, Leads, status_at, Adds}
+use Rattle.stream_driver.specs.Traffic.{one_more}
+use Rattle.stream_driver.specs.declared.entries.Entry.{Entry}
+use Rattle.stream_driver.specs.declared.entries.EntryState.TheVariants.{Ready, Gone}
 use Rattle.event_loop.proofs.Present.{joins_other, joins_same, joins_not}
+use Rattle.event_loop.proofs.Slots.{Slots}
+use Rattle.event_loop.specs.Accepts.{Accepts, after_accept, after_taken, more}
+use Rattle.event_loop.specs.Numbers.{AreBelow}
+use Rattle.event_loop.specs.Tables.{Admits, LetsIn, HaveEntries, IsTried, IsWithoutEntry, slot_at, ComeEach, Comes}
+use Rattle.event_loop.specs.Tables.{join_of, joins_of, refusals_in, refusals_of}
+use Rattle.event_loop.specs.Tables.AdmitsEach.{Nobody, OneMore}
+use Rattle.event_loop.specs.declared.listener.AcceptAnswer.{AcceptAnswer}
+use Rattle.event_loop.specs.declared.listener.AcceptAnswer.TheVariants.{Taken, Blocked, Failed}
 
 -- a session was to join
 module _ {D : Type 0} {g : Ghosts D} (hub later : Hub D g) (s : ℕ) (outcome : Outcome) (leads : HubLeads hub later (Joins s) outcome) (some : Stands hub) where
@@ -19,7 +47,8 @@ module _ {D : Type 0} {g : Ghosts D} (hub later : Hub D g) (s : ℕ) (outcome : 
   same_status : (t : ℕ) → (t ≢ s) ⊎ (outcome ≢ Done) → status_of later t ≡ status_of hub t
   same_status t how = seen_joined (hlevel props) (λ h stands there. status_seen later _ there.stands t ∙ by h there how ∙ sym (status_seen hub h stands t))
     where
-      by : (h : HubState) → Reached later h (Joins s) leads.0 outcome → (t ≢ s) ⊎ (outcome ≢ Done) → status_at (hub_step h (Joins s) leads.0).0 t ≡ status_at h t
+      by : (h : HubState) → Reached later h (Joins s) leads.0 outcome → (t ≢ s) ⊎ (outcome ≢ Done)
+          → status_at (hub_step h (Joins s) leads.0).0 t ≡ status_at h t
       by h there (inl apart) = ap status_in (joins_other h s leads.0 t apart)
       by h there (inr refused) = ap (λ x. status_at x t) (joins_not h s leads.0 (λ done. refused (there.outcome_is ∙ done)))
 
@@ -31,15 +60,18 @@ module _ {T : Type 0} where
   below_after next old new numbers kept = λ key entry e. let was = kept key entry e in subst (λ s. s < next) (sym was.2) (numbers key was.0 was.1)
 
   -- a new entry, whose session has just joined
-  module _ {D : Type 0} {g : Ghosts D} (hub later : Hub D g) (old new : Slab (Entry T)) (key : ℕ) (entry : Entry T) (up : Updates old new key (Some entry)) (leads : HubLeads hub later (Joins entry.session) Done) where
+  module _ {D : Type 0} {g : Ghosts D} (hub later : Hub D g) (old new : Slab (Entry T)) (key : ℕ) (entry : Entry T) (up : Updates old new key (Some entry))
+      (leads : HubLeads hub later (Joins entry.session) Done) where
     there_now : Stands hub → IsPresent later entry.session
     there_now some = (
       joined_stands hub later entry.session Done leads some,
       seen_joined hub later entry.session Done leads some (hlevel) (λ h stands there gone.
-          let bad : Open ≡ Absent = sym (status_seen later _ there.stands entry.session ∙ ap status_in (joins_same h entry.session leads.0 there.outcome_is)) ∙ gone in cc),
+          let bad : Open ≡ Absent =
+          sym (status_seen later _ there.stands entry.session ∙ ap status_in (joins_same h entry.session leads.0 there.outcome_is)) ∙ gone in cc),
     )
 
-    back : (other : ℕ) (another : Entry T) → get_or new.slots other None ≡ Some another → ((other ≡ key) × (another ≡ entry)) ⊎ ((other ≢ key) × (get_or old.slots other None ≡ Some another))
+    back : (other : ℕ) (another : Entry T) → get_or new.slots other None ≡ Some another
+        → ((other ≡ key) × (another ≡ entry)) ⊎ ((other ≢ key) × (get_or old.slots other None ≡ Some another))
     back other another e = elim (cases_eq other key) [
       | inl at ↦ inl (at, some_same (sym e ∙ ap (λ (k : ℕ). get_or new.slots k None) at ∙ up.changed))
       | inr differs ↦ inr (differs, sym (up.others other differs) ∙ e)
@@ -47,15 +79,27 @@ module _ {T : Type 0} where
 
     pub joined_sessions : Stands hub → AreBelow entry.session old.slots → HaveSessions hub old.slots → HaveSessions later new.slots
     joined_sessions some numbers has =
-        let apart : (other : ℕ) (another : Entry T) → get_or old.slots other None ≡ Some another → another.session ≢ entry.session = λ other another e same. (let lt : another.session < entry.session = numbers other another e in omega arith) in
+        let apart : (other : ℕ) (another : Entry T) → get_or old.slots other None ≡ Some another → another.session ≢ entry.session =
+        λ other another e same. (let lt : another.session < entry.session = numbers other another e in omega arith) in
         record {
           present = λ other another e alive. elim (back other another e) [
             | inl (at, which) ↦ subst (λ (x : Entry T). IsPresent later x.session) (sym which) (there_now some)
-            | inr (differs, was) ↦ still hub later entry.session Done leads some another.session (inl (apart other another was)) (has.present other another was alive)
+            | inr (differs, was) ↦ still hub later entry.session Done leads some another.session (inl (apart other another was))
+                (has.present other another was alive)
           ];
           own = λ one two first second e f alive too same. elim (back one first e) [
-            | inl (at, which) ↦ elim (back two second f) [ inl (too_at, _) ↦ at ∙ sym too_at | inr (_, was) ↦ absurd (apart two second was (sym same ∙ ap (λ (x : Entry T). x.session) which)) ]
-            | inr (_, was) ↦ elim (back two second f) [ inl (_, which) ↦ absurd (apart one first was (same ∙ ap (λ (x : Entry T). x.session) which)) | inr (_, then) ↦ has.own one two first second was then alive too same ]
+            | inl (at, which) ↦ elim (back two second f) [
+              | inl (too_at, _) ↦ at
+                  ∙ sym too_at
+              | inr (_, was) ↦ absurd (apart two second was (sym same ∙ ap (λ (x : Entry T). x.session) which))
+            ]
+            | inr (_, was) ↦ elim (back two second f) [
+              | inl (_, which) ↦ absurd (apart one first was (same ∙ ap (λ (x : Entry T). x.session) which))
+              | inr (
+                _,
+                then,
+              ) ↦ has.own one two first second was then alive too same
+            ]
           ];
         }
 
@@ -82,13 +126,16 @@ module _ {T D : Type 0} {g : Ghosts D} where
       | inl same ↦ subst (λ (x : Hub D g). TableStands x next slots) (sym same) h
       | inr j ↦ record {
         stands = joined_stands hub later next j.0 j.2 h.stands;
-        sessions = record { present = λ key entry e alive. still hub later next j.0 j.2 h.stands entry.session (inr j.1) (h.sessions.present key entry e alive); own = h.sessions.own };
+        sessions = record {
+          present = λ key entry e alive. still hub later next j.0 j.2 h.stands entry.session (inr j.1) (h.sessions.present key entry e alive);
+          own = h.sessions.own;
+        };
         numbers = h.numbers;
         entries = λ s without. same_status hub later next j.0 j.2 h.stands s (inr j.1) ∙ h.entries s without;
       }
     ]
 
-    module _ (IsNew : ℕ → T → Type 0) where
+    module _ (IsNew : ℕ → ℕ → T → Type 0) where
       -- a connection was let in
       in_table : LetsIn IsNew hub next slots later then new → TableStands hub next slots → TableStands later then new
       in_table l h =
@@ -99,16 +146,20 @@ module _ {T D : Type 0} {g : Ghosts D} where
           record {
             stands = joined_stands hub later next Done l.joined h.stands;
             sessions = joined_sessions hub later (slab slots) (slab new) l.key l.entry up leads h.stands numbers h.sessions;
-            numbers = subst (λ s. AreBelow s new) (ap (λ s. s + 1) l.session ∙ sym l.next_is) (joined_numbers hub later (slab slots) (slab new) l.key l.entry up leads numbers);
+            numbers = subst (λ s. AreBelow s new) (ap (λ s. s + 1) l.session
+                ∙ sym l.next_is) (joined_numbers hub later (slab slots) (slab new) l.key l.entry up leads numbers);
             entries = λ s without.
                 let apart : s ≢ next = λ same. (let bad : Ready ≡ Gone = sym l.state ∙ without l.key l.entry l.changed (l.session ∙ sym same) in cc) in
-                let before : IsWithoutEntry s slots = λ key entry e same. without key entry (l.others key (λ at. (let bad : None ≡ Some entry = sym l.vacant ∙ ap (slot_at slots) (sym at) ∙ e in cc)) ∙ e) same in
+                let before : IsWithoutEntry s slots =
+                λ key entry e same. without key entry
+                (l.others key (λ at. (let bad : None ≡ Some entry = sym l.vacant ∙ ap (slot_at slots) (sym at) ∙ e in cc)) ∙ e) same in
                 same_status hub later next Done l.joined h.stands s (inl apart) ∙ h.entries s before;
           }
 
       pub admits_table : Admits IsNew hub next slots later then new → TableStands hub next slots → TableStands later then new
       admits_table admits h = elim admits [
-        | inl away ↦ subst (λ l. TableStands later then l) (sym away.slots_are) (subst (λ n. TableStands later n slots) (sym away.next_is) (tried_table away.hub_is h))
+        | inl away ↦ subst (λ l. TableStands later then l) (sym away.slots_are)
+            (subst (λ n. TableStands later n slots) (sym away.next_is) (tried_table away.hub_is h))
         | inr within ↦ in_table within h
       ]
 
@@ -127,39 +178,68 @@ more_more : (m n c : ℕ) → more n (more m c) ≡ more (m + n) c
 more_more m n c = with_top (2 ^ 64 - 1) c m n
 
 pub taken_none : (a : Accepts) → a ≡ after_taken 0 a
-taken_none a = ap (λ t. record a { taken = t }) (more_none a.taken)
+taken_none a =
+    ap (λ n. record a { asked = n }) (more_none a.asked) ∙ ap (λ t. record a { asked = more 0 a.asked; taken = t }) (more_none a.taken)
 
-pub taken_one : (n : ℕ) (a b c : Accepts) → b ≡ after_taken n a → c ≡ record b { taken = one_more b.taken } → c ≡ after_taken (n + 1) a
-taken_one n a b c is step = step ∙ ap (λ (b : Accepts). record b { taken = one_more b.taken }) is ∙ ap (λ t. record a { taken = t }) (more_more n 1 a.taken)
+pub taken_one : (n : ℕ) (a b c : Accepts) → b ≡ after_taken n a → c ≡ record b { asked = one_more b.asked; taken = one_more b.taken }
+    → c ≡ after_taken (n + 1) a
+taken_one n a b c is step =
+    step ∙ ap (λ (b : Accepts). record b { asked = one_more b.asked; taken = one_more b.taken }) is
+    ∙ ap (λ m. record a { asked = m; taken = one_more (more n a.taken) }) (more_more n 1 a.asked)
+    ∙ ap (λ t. record a { asked = more (n + 1) a.asked; taken = t }) (more_more n 1 a.taken)
+
+-- an accept was asked and answered so
+module _ (answer : AcceptAnswer) (a : Accepts) (asked counted : ℕ) where
+  pub taken_counted : (stream : AcceptedSocket) → answer ≡ Taken stream → asked ≡ one_more a.asked → counted ≡ one_more a.taken
+      → record a { asked = asked; taken = counted } ≡ after_accept answer a
+  taken_counted stream is once more = rw (is, once, more) refl
+
+  pub blocked_counted : answer ≡ Blocked → asked ≡ one_more a.asked → counted ≡ one_more a.blocked
+      → record a { asked = asked; blocked = counted } ≡ after_accept answer a
+  blocked_counted is once more = rw (is, once, more) refl
+
+  pub failed_counted : answer ≡ Failed → asked ≡ one_more a.asked → counted ≡ one_more a.failed
+      → record a { asked = asked; failed = counted } ≡ after_accept answer a
+  failed_counted is once more = rw (is, once, more) refl
 
 -- ---- connections that come
 
 -- one event
-pub leads_one : {D : Type 0} {g : Ghosts D} (old new : Hub D g) (e : HubEvent) (outcome : Outcome) (q : HubLeads old new e outcome) → RunsAlone old new e → failures old ≤ failures new → Leads old new (λ h k. Adds h ((e, q.0) ∷ []) k)
-leads_one old new e outcome q alone counted = leads_event old new _ e outcome q alone counted (λ h stands happens is after. record { run_is = refl; events_are = refl })
+pub leads_one : {D : Type 0} {g : Ghosts D} (old new : Hub D g) (e : HubEvent) (outcome : Outcome) (q : HubLeads old new e outcome) → RunsAlone old new e
+    → failures old ≤ failures new → Leads old new (λ h k. Adds h ((e, q.0) ∷ []) k)
+leads_one old new e outcome q alone counted =
+    leads_event old new _ e outcome q alone counted (λ h stands happens is after. record { run_is = refl; events_are = refl })
 
-module _ {T D : Type 0} {g : Ghosts D} (IsNew : ℕ → T → Type 0) (hub : Hub D g) (next : ℕ) (slots : Slots T) (refused : ℕ) where
+module _ {T D : Type 0} {g : Ghosts D} (IsNew : ℕ → ℕ → T → Type 0) (hub : Hub D g) (next : ℕ) (slots : Slots T) (refused : ℕ) where
   pub none_come : NoneRuns hub → ComeEach IsNew hub next slots refused 0 hub next slots refused
   none_come none = (Nobody, leads_none hub none _ (λ h stands. adds_none h), more_none refused)
 
-  pub one_comes : Follow D g → (count : ℕ) (mid later : Hub D g) (number then : ℕ) (between new : Slots T) (so_far counted : ℕ) → ComeEach IsNew hub next slots refused count mid number between so_far
+  pub one_comes : Follow D g → (count : ℕ) (mid later : Hub D g) (number then : ℕ) (between new : Slots T) (so_far counted : ℕ)
+      → ComeEach IsNew hub next slots refused count mid number between so_far
       → Comes IsNew mid number between so_far later then new counted → ComeEach IsNew hub next slots refused (count + 1) later then new counted
   one_comes follow count mid later number then between new so_far counted each comes = (
     OneMore count mid later number then between new each.0 comes.0,
     leads_then follow hub mid later _ _ (λ h k. Adds h (joins_of each.0 ++ join_of IsNew mid number between later then new comes.0) k) each.1 comes.1
         (λ h k l last p q. adds_then h k l (joins_of each.0) (join_of IsNew mid number between later then new comes.0) p q),
-    comes.2 ∙ ap (more (refusals_in IsNew mid number between later then new comes.0)) each.2 ∙ more_more (refusals_of each.0) (refusals_in IsNew mid number between later then new comes.0) refused,
+    comes.2 ∙ ap (more (refusals_in IsNew mid number between later then new comes.0)) each.2
+        ∙ more_more (refusals_of each.0) (refusals_in IsNew mid number between later then new comes.0) refused,
   )
 
 -- ---- one that comes
 
-module _ {T D : Type 0} {g : Ghosts D} (IsNew : ℕ → T → Type 0) (hub : Hub D g) (next : ℕ) (slots new : Slots T) (same : new ≡ slots) (refused : ℕ) where
+module _ {T D : Type 0} {g : Ghosts D} (IsNew : ℕ → ℕ → T → Type 0) (hub : Hub D g) (next : ℕ) (slots new : Slots T) (same : new ≡ slots) (refused : ℕ) where
   -- it is turned away before its session is to join
-  pub away : NoneRuns hub → (is_refused : Bool) → (is_refused ≡ false → (128 ≤ count_by is_some slots) ⊎ ((next ≡ 2 ^ 64 - 1) ⊎ IsTried hub hub next)) → Comes IsNew hub next slots refused hub next new (more (cond is_refused 1 0) refused)
-  away none is_refused why = (inl (record { slots_are = same; next_is = refl; hub_is = inl refl; is_refused = is_refused; why = why }), leads_none hub none _ (λ h stands. adds_none h), refl)
+  pub away : NoneRuns hub → (is_refused : Bool) → (is_refused ≡ false → (128 ≤ count_by is_some slots) ⊎ ((next ≡ 2 ^ 64 - 1) ⊎ IsTried hub hub next))
+      → Comes IsNew hub next slots refused hub next new (more (cond is_refused 1 0) refused)
+  away none is_refused why = (
+    inl (record { slots_are = same; next_is = refl; hub_is = inl refl; is_refused = is_refused; why = why }),
+    leads_none hub none _ (λ h stands. adds_none h),
+    refl,
+  )
 
   -- its session could not join
-  pub away_tried : (later : Hub D g) (outcome : Outcome) → outcome ≢ Done → HubLeads hub later (Joins next) outcome → RunsAlone hub later (Joins next) → failures hub ≤ failures later
+  pub away_tried : (later : Hub D g) (outcome : Outcome) → outcome ≢ Done → HubLeads hub later (Joins next) outcome → RunsAlone hub later (Joins next)
+      → failures hub ≤ failures later
       → Comes IsNew hub next slots refused later next new refused
   away_tried later outcome differs q alone counted = (
     inl (record { slots_are = same; next_is = refl; hub_is = inr (outcome, differs, q); is_refused = false; why = λ is. inr (inr (outcome, differs, q)) }),

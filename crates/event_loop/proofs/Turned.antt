@@ -1,15 +1,15 @@
 -- One connection that lingers after another.
-use Rattle.event_loop.proofs.Words.{◌≡◌, ◌<◌, ◌+◌, ◌||◌, inl, inr, ℕ, suc, Bool, false, List, [], ◌∷◌, ◌++◌, length}
-use Rattle.event_loop.proofs.Words.{append_assoc, refl, sym, ap, subst, ◌∙◌, arith, AllTurned, FirstTurned, Lingerers}
-use Rattle.event_loop.proofs.Words.{is_all}
-use Rattle.std.proofs.Common.{append-nil}
+use Rattle.std.proofs.Common.{◌≡◌, ◌<◌, ◌+◌, ◌||◌, inl, inr, ℕ, suc, Bool, false, List, [], ◌∷◌, ◌++◌, length}
+use Rattle.std.proofs.Common.{append_assoc, refl, sym, ap, subst, ◌∙◌, arith, append-nil}
 use Rattle.std.proofs.Math.Bool.{or-false, or_assoc}
+use Rattle.event_loop.specs.Lingerings.{AllTurned, FirstTurned, Lingerers, is_all}
 use Rattle.event_loop.specs.declared.lingering.Lingerer.{Lingerer}
 
 module _ (moment : ℕ) where
   -- with what becomes of those that come, all are turned
   abbrev Turns : List Lingerer → List Lingerer → Bool → List Lingerer → Type 0
-  Turns old kept more others = (rest : List Lingerer) (of_rest : Bool) → AllTurned moment others rest of_rest → AllTurned moment old (kept ++ rest) (more || of_rest)
+  Turns old kept more others = (rest : List Lingerer) (of_rest : Bool) → AllTurned moment others rest of_rest
+      → AllTurned moment old (kept ++ rest) (more || of_rest)
 
   -- the first so many were turned, and those that stay stand behind the others
   pub record TurnedSoFar (refused : ℕ) (old : List Lingerer) (count : ℕ) (new : Lingerers) : Type 0 where
@@ -34,7 +34,8 @@ module _ (moment : ℕ) where
       → FirstTurned moment mid.all mid new → TurnedSoFar refused old (count + 1) new
   one_turned refused old mid new count some x first = by x.others x.count_is x.now_are x.turned
     where
-      by : (others : List Lingerer) → count + length others ≡ length old → mid.all ≡ others ++ x.kept → Turns old x.kept mid.has_more others → TurnedSoFar refused old (count + 1) new
+      by : (others : List Lingerer) → count + length others ≡ length old → mid.all ≡ others ++ x.kept → Turns old x.kept mid.has_more others
+          → TurnedSoFar refused old (count + 1) new
       by [] all are turned = absurd (let none : count + 0 ≡ length old = all in omega arith)
       by (l ∷ others) all are turned =
           let one : count + suc (length others) ≡ length old = all in
@@ -53,7 +54,12 @@ module _ (moment : ℕ) where
               count_is = omega arith;
               now_are = ap (λ (n : Lingerers). n.all) s.3 ∙ append_assoc others x.kept (s.1 ∷ []);
               turned = λ rest of_rest h.
-                  rw (s.3, append_assoc x.kept (s.1 ∷ []) rest, or_assoc mid.has_more (is_all s.0) of_rest) (turned (s.1 ∷ rest) (is_all s.0 || of_rest) (inr (s.0, s.1, rest, of_rest, s.2, h, refl, refl)));
+                  rw (
+                    s.3,
+                    append_assoc x.kept (s.1 ∷ []) rest,
+                    or_assoc mid.has_more (is_all s.0) of_rest,
+                  )
+                  (turned (s.1 ∷ rest) (is_all s.0 || of_rest) (inr (s.0, s.1, rest, of_rest, s.2, h, refl, refl)));
               refused_is = ap (λ (n : Lingerers). n.refused) s.3 ∙ x.refused_is;
             }
           ]

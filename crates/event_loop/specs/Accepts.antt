@@ -1,21 +1,23 @@
 -- What a listener has answered so far, and what a turn's accepts come to.
 use Rattle.std.specs.Prelude.{◌≡◌, ℕ, ◌+◌, ◌<◌, ◌-◌, ◌^◌, min, max}
 use Rattle.stream_driver.specs.Traffic.{one_more}
-use Rattle.event_loop.specs.{declared.listener.AcceptAnswer.AcceptAnswer, declared.connections.Backlog.Backlog}
-use Rattle.event_loop.specs.declared.listener.AcceptAnswer.TheVariants.{Taken, Blocked, Failed}
+use Rattle.event_loop.specs.declared.connections.Backlog.{Backlog}
 use Rattle.event_loop.specs.declared.connections.Backlog.TheVariants.{Empty, More, Failed as BacklogFailed}
+use Rattle.event_loop.specs.declared.listener.AcceptAnswer.{AcceptAnswer}
+use Rattle.event_loop.specs.declared.listener.AcceptAnswer.TheVariants.{Taken, Blocked, Failed}
 
--- how often each answer was given
+-- how often it was asked, and how often each answer was given
 pub record Accepts : Type 0 where
+  pub asked : ℕ
   pub taken : ℕ
   pub blocked : ℕ
   pub failed : ℕ
 
--- the counts after this answer
+-- the counts after one that gave this answer
 abbrev pub after_accept : AcceptAnswer → Accepts → Accepts
-after_accept (Taken stream) a = record a { taken = one_more a.taken }
-after_accept Blocked a = record a { blocked = one_more a.blocked }
-after_accept Failed a = record a { failed = one_more a.failed }
+after_accept (Taken stream) a = record a { asked = one_more a.asked; taken = one_more a.taken }
+after_accept Blocked a = record a { asked = one_more a.asked; blocked = one_more a.blocked }
+after_accept Failed a = record a { asked = one_more a.asked; failed = one_more a.failed }
 
 -- a u64 count after so many more: the highest stays
 abbrev pub more : ℕ → ℕ → ℕ
@@ -23,9 +25,10 @@ more n count = max count (min (count + n) (2 ^ 64 - 1))
 
 -- the counts after so many connections
 abbrev pub after_taken : ℕ → Accepts → Accepts
-after_taken n a = record a { taken = more n a.taken }
+after_taken n a = record a { asked = more n a.asked; taken = more n a.taken }
 
--- why a turn's accepts ended after so many connections: as many were taken as a turn takes, or none waits, or a call failed
+-- why a turn's accepts ended after so many connections: as many were taken as a turn takes, or none waits, or a call
+-- failed
 abbrev pub WhyStopped : ℕ → Accepts → Accepts → Backlog → Type 0
 WhyStopped n old new More = (n ≡ 128) × (new ≡ after_taken n old)
 WhyStopped n old new Empty = (n < 128) × (new ≡ after_accept Blocked (after_taken n old))

@@ -1,16 +1,29 @@
 -- What left over the connections was answered before, and no crash since loses it.
-use Rattle.std.specs.Prelude.{◌≡◌, ℕ, List, Option, Some, length, map}
 use Rattle.std.specs.List.{AllByRecursion, Contains}
-use Rattle.model.specs.{History.Record, Machine.opened, Operations.Response, Operations.Response.Number}
+use Rattle.std.specs.Prelude.{◌≡◌, ℕ, List, Option, Some, length, map}
+use Rattle.model.specs.History.{Record}
+use Rattle.model.specs.Machine.{opened}
+use Rattle.model.specs.Operations.{Response}
+use Rattle.model.specs.Operations.Response.{Number}
 use Rattle.sector.specs.declared.device.Sectors.{Ghosts}
-use Rattle.sessions.specs.{declared.hub.Hub.Hub, Life.Holds, Life.MayFind, StandsFor.device}
+use Rattle.sessions.specs.Life.{Holds, MayFind}
 use Rattle.sessions.specs.Lives.{FollowOn, Life, LoseNothing, Served}
 use Rattle.sessions.specs.SessionStreams.{HubState, hub_over, replies_text, run}
-use Rattle.stream_driver.specs.{declared.buffered.BufferedStream.BufferedStream, declared.entries.Entry.Entry, Buffers.traffic_through, Entries.EndsDrive}
-use Rattle.stream_driver.specs.{Sends.IsAnswered, Sends.IsToldBefore, Traffic.Departure, Traffic.IsBeginning, Traffic.Traffic}
-use Rattle.event_loop.specs.{declared.lingering.Dropped.Dropped, declared.lingering.Lingerer.Lingerer}
-use Rattle.event_loop.specs.{declared.socket.Socket.Socket, Lingerings.DropsInput}
-use Rattle.event_loop.specs.{Sockets.SocketsTell, Sockets.session_of, Sockets.traffic_of, TableBytes.HaveBytes, Tables.slot_at}
+use Rattle.sessions.specs.StandsFor.{device}
+use Rattle.sessions.specs.declared.hub.Hub.{Hub}
+use Rattle.stream_driver.specs.Buffers.{traffic_through}
+use Rattle.stream_driver.specs.Entries.{EndsDrive}
+use Rattle.stream_driver.specs.Sends.{IsAnswered, IsToldBefore}
+use Rattle.stream_driver.specs.Traffic.{Departure, IsBeginning, Traffic}
+use Rattle.stream_driver.specs.declared.buffered.BufferedStream.{BufferedStream}
+use Rattle.stream_driver.specs.declared.entries.Entry.{Entry}
+use Rattle.event_loop.specs.Lingerings.{DropsInput}
+use Rattle.event_loop.specs.Sockets.{SocketsTell, session_of, traffic_of}
+use Rattle.event_loop.specs.TableBytes.{HaveBytes}
+use Rattle.event_loop.specs.Tables.{slot_at}
+use Rattle.event_loop.specs.declared.lingering.Dropped.{Dropped}
+use Rattle.event_loop.specs.declared.lingering.Lingerer.{Lingerer}
+use Rattle.event_loop.specs.declared.socket.Socket.{Socket}
 
 -- a number, which is answered to a COMMIT alone, is that of a transaction of this history
 abbrev pub IsCommitted : List Record → Response → Type 0
@@ -26,12 +39,13 @@ abbrev pub present_state : {D : Type 0} {g : Ghosts D} {hub : Hub D g} → Serve
 present_state served = run (first_state served) served.choices
 
 module _ {D : Type 0} {g : Ghosts D} {hub : Hub D g} (served : Served hub) where
-  -- the run passes a hub whose device stands at the moment of the departure, and by then the session had been answered the bytes
+  -- the run passes a hub whose device stands at the moment of the departure, and by then the session had been answered
+  -- the bytes
   abbrev pub IsTold : ℕ → Departure → Type 0
   IsTold s d = IsToldBefore s (first_state served) served.first hub served.choices d
 
-  -- So it is of each departure of the session's stream, which has its number. All that the stream has taken was answered, so what it holds
-  -- may leave later.
+  -- So it is of each departure of the session's stream, which has its number. All that the stream has taken was
+  -- answered, so what it holds may leave later.
   pub record Tells (s : ℕ) (t : Traffic) : Type 0 where
     pub number : t.connection ≡ s
     pub told : AllByRecursion (IsTold s) t.departed
@@ -39,46 +53,59 @@ module _ {D : Type 0} {g : Ghosts D} {hub : Hub D g} (served : Served hub) where
 
   -- so it is of each entry, gone or not
   abbrev pub EntriesTell : List (Option (Entry (BufferedStream Socket))) → Type 0
-  EntriesTell slots = (key : ℕ) (entry : Entry (BufferedStream Socket)) → slot_at slots key ≡ Some entry → Tells entry.session (traffic_through traffic_of entry.stream)
+  EntriesTell slots = (key : ℕ) (entry : Entry (BufferedStream Socket)) → slot_at slots key ≡ Some entry
+      → Tells entry.session (traffic_through traffic_of entry.stream)
 
   -- and of each connection that lingers, of the session that it had
   abbrev pub LingerersTell : List Lingerer → Type 0
   LingerersTell all = AllByRecursion (λ l. Tells (session_of l.socket) (traffic_of l.socket)) all
 
-  -- What left begins the texts of the machine's replies, and each number among these is that of a transaction committed by then. A crash at
-  -- the moment of the departure or since leaves no map that is older than the one committed there. So whatever lives follow, the first begins
-  -- with such a map, and each other with one that the life before it may have left.
+  -- What left begins the texts of the machine's replies, and each number among these is that of a transaction committed
+  -- by then. A crash at the moment of the departure or since leaves no map that is older than the one committed there.
+  -- So whatever lives follow, the first begins with such a map, and each other with one that the life before it may
+  -- have left.
   pub record IsKept (s : ℕ) (d : Departure) : Type 0 where
     pub told : IsTold s d
     pub texts : IsBeginning d.bytes (replies_text told.told.stream)
-    pub committed : AllByRecursion (IsCommitted (run (first_state served) told.before).machine.history) told.told.stream.replies
-    pub left : g.keeps_model → (c : List (List ℕ)) → g.left_since (device hub) d.moment c → Holds (first_state served) served.choices (length told.before) c
-    pub found : g.keeps_model → (lives : List (Life D g)) → FollowOn (g.left_since (device hub) d.moment) lives → LoseNothing (MayFind (first_state served) served.choices (length told.before)) lives
+    pub committed : AllByRecursion (IsCommitted (run (first_state served) told.before).machine.history)
+        told.told.stream.replies
+    pub left : g.keeps_model → (c : List (List ℕ)) → g.left_since (device hub) d.moment c
+        → Holds (first_state served) served.choices (length told.before) c
+    pub found : g.keeps_model → (lives : List (Life D g)) → FollowOn (g.left_since (device hub) d.moment) lives
+        → LoseNothing (MayFind (first_state served) served.choices (length told.before)) lives
 
--- The hub is on a run from an opening. In the state to which it has come each connection has the bytes of its session; what left over each
--- is told before.
-pub record Serving {D : Type 0} {g : Ghosts D} (hub : Hub D g) (slots : List (Option (Entry (BufferedStream Socket)))) (lingerers : List Lingerer) : Type 0 where
+-- The hub is on a run from an opening. In the state to which it has come each connection has the bytes of its session;
+-- what left over each is told before.
+pub record Serving {D : Type 0} {g : Ghosts D} (hub : Hub D g) (slots : List (Option (Entry (BufferedStream Socket))))
+    (lingerers : List Lingerer) : Type 0 where
   pub served : Served hub
   pub bytes : HaveBytes SocketsTell (traffic_through traffic_of) (present_state served) slots
   pub tells : SocketsTell → EntriesTell served slots
   pub lingerers_tell : SocketsTell → LingerersTell served lingerers
 
-abbrev pub IsServing : {D : Type 0} {g : Ghosts D} → Hub D g → List (Option (Entry (BufferedStream Socket))) → List Lingerer → Type 0
+abbrev pub IsServing : {D : Type 0} {g : Ghosts D} → Hub D g → List (Option (Entry (BufferedStream Socket)))
+    → List Lingerer → Type 0
 IsServing hub slots lingerers = ∥ Serving hub slots lingerers ∥₁
 
--- There is a run from an opening to this hub in which each departure of each connection is kept: of each in the table, which is that of its
--- session, and of each that lingers, as one of the session that it had.
-abbrev pub KeepsWhatLeft : {D : Type 0} {g : Ghosts D} → Hub D g → List (Option (Entry (BufferedStream Socket))) → List Lingerer → Type 0
+-- There is a run from an opening to this hub in which each departure of each connection is kept: of each in the table,
+-- which is that of its session, and of each that lingers, as one of the session that it had.
+abbrev pub KeepsWhatLeft : {D : Type 0} {g : Ghosts D} → Hub D g → List (Option (Entry (BufferedStream Socket)))
+    → List Lingerer → Type 0
 KeepsWhatLeft hub slots lingerers =
     ∥ ((served : Served hub)
-    × ((key : ℕ) (entry : Entry (BufferedStream Socket)) → slot_at slots key ≡ Some entry → (session_of entry.stream.inner ≡ entry.session) × AllByRecursion (IsKept served entry.session) (traffic_of entry.stream.inner).departed)
-    × AllByRecursion (λ l. AllByRecursion (IsKept served (session_of l.socket)) (traffic_of l.socket).departed) lingerers) ∥₁
+    × ((key : ℕ) (entry : Entry (BufferedStream Socket)) → slot_at slots key ≡ Some entry
+    → (session_of entry.stream.inner ≡ entry.session)
+    × AllByRecursion (IsKept served entry.session) (traffic_of entry.stream.inner).departed)
+    × AllByRecursion (λ l. AllByRecursion (IsKept served (session_of l.socket)) (traffic_of l.socket).departed)
+    lingerers) ∥₁
 
--- This holds of each session and of what its connection has moved, as a turn leaves it: of each entry after its drive, whether it stays or is
--- taken out; of each connection that lingered before the turn; and of each that was turned, whether it stays or is closed.
+-- This holds of each session and of what its connection has moved, as a turn leaves it: of each entry after its drive,
+-- whether it stays or is taken out; of each connection that lingered before the turn; and of each that was turned,
+-- whether it stays or is closed.
 pub record HoldsAtEnds (P : ℕ → Traffic → Type 0) (moment : ℕ) (driven : List (Option (Entry (BufferedStream Socket))))
     (lingered turned : List Lingerer) : Type 0 where
-  pub entries : (key : ℕ) (was entry : Entry (BufferedStream Socket)) → slot_at driven key ≡ Some was → EndsDrive SocketsTell traffic_of moment was entry → P entry.session (traffic_of entry.stream.inner)
+  pub entries : (key : ℕ) (was entry : Entry (BufferedStream Socket)) → slot_at driven key ≡ Some was
+      → EndsDrive SocketsTell traffic_of moment was entry → P entry.session (traffic_of entry.stream.inner)
   pub linger : AllByRecursion (λ l. P (session_of l.socket) (traffic_of l.socket)) lingered
   pub ends :
       AllByRecursion (λ l. (dropped : Dropped) (later : Lingerer) → DropsInput moment l dropped later

@@ -5,6 +5,7 @@ pub mod Leavings
 pub mod Lingerings
 pub mod Loops
 pub mod Numbers
+pub mod Order
 pub mod Outcomes
 pub mod Polls
 pub mod Sockets

@@ -1,14 +1,20 @@
 -- The connections that linger.
 use Rattle.std.specs.Prelude.{◌≡◌, ◌⊎◌, ℕ, ◌<◌, ◌||◌, min, length, List, [], ◌∷◌, ◌++◌, Bool, true, false}
 use Rattle.stream_driver.specs.Traffic.{DepartAt, Traffic, one_more}
-use Rattle.event_loop.specs.{declared.connections.Backlog.Backlog, declared.lingering.Dropped.Dropped, declared.lingering.Lingerer.Lingerer}
-use Rattle.event_loop.specs.declared.connections.Backlog.TheVariants.{Empty, More, Failed}
-use Rattle.event_loop.specs.declared.lingering.Dropped.TheVariants.{Blocked, All, Over}
-use Rattle.event_loop.specs.{declared.lingering.Lingering.Lingering, declared.socket.Socket.Socket, Sockets.SocketsTell, Sockets.traffic_of}
-use Rattle.event_loop.specs.declared.lingering.TheConstants.{LINGERING_MAX, LINGERING_BYTES, LINGERING_BYTES_A_TURN}
 use Rattle.event_loop.specs.Drops.{GivesAtMost, WhyDropped, left_after, newest}
+use Rattle.event_loop.specs.Sockets.{IsHalfClosed, IsRefused, SocketsTell, traffic_of}
+use Rattle.event_loop.specs.declared.connections.Backlog.{Backlog}
+use Rattle.event_loop.specs.declared.connections.Backlog.TheVariants.{Empty, More, Failed}
+use Rattle.event_loop.specs.declared.connections.TheConstants.{LINGERER}
+use Rattle.event_loop.specs.declared.lingering.Dropped.{Dropped}
+use Rattle.event_loop.specs.declared.lingering.Dropped.TheVariants.{Blocked, All, Over}
+use Rattle.event_loop.specs.declared.lingering.Lingerer.{Lingerer}
+use Rattle.event_loop.specs.declared.lingering.Lingering.{Lingering}
+use Rattle.event_loop.specs.declared.lingering.TheConstants.{LINGERING_MAX, LINGERING_BYTES, LINGERING_BYTES_A_TURN}
+use Rattle.event_loop.specs.declared.socket.Socket.{Socket}
 
--- those that linger, oldest first; whether there may be input of which no poll will tell; and how often the system refused to let one linger
+-- those that linger, oldest first; whether there may be input of which no poll will tell; and how often the system
+-- refused to let one linger
 pub record Lingerers : Type 0 where
   pub all : List Lingerer
   pub has_more : Bool
@@ -28,15 +34,19 @@ pub record IsInOrder (t : Traffic) : Type 0 where
 -- with one more, of which there may be input
 abbrev pub with_one_more : Socket → Lingerers → Lingerers
 with_one_more socket old =
-    record old { all = newest LINGERING_MAX old.all (record { socket = socket; left = LINGERING_BYTES }); has_more = true }
+    record old {
+      all = newest LINGERING_MAX old.all (record { socket = socket; left = LINGERING_BYTES });
+      has_more = true;
+    }
 
 -- A connection whose session has left lingers, if it is in order and the system doesn't refuse, which is counted, and
--- else is closed.
+-- else is closed. One that lingers is shut down for writing, and the poll tells under the token of those that linger.
 abbrev pub Leaves : Socket → Lingerers → Lingerers → Type 0
 Leaves socket old new =
     ((IsInOrder (traffic_of socket) → ⊥) × (new ≡ old))
     ⊎ (IsInOrder (traffic_of socket)
-    × ((new ≡ record old { refused = one_more old.refused }) ⊎ (new ≡ with_one_more socket old)))
+    × ((IsRefused × (new ≡ record old { refused = one_more old.refused }))
+    ⊎ (IsHalfClosed LINGERER socket.socket × (new ≡ with_one_more socket old))))
 
 -- ---- what a turn makes of them
 
@@ -46,7 +56,8 @@ most_of lingerer = min lingerer.left LINGERING_BYTES_A_TURN
 
 -- what came in was dropped, at this moment of the device
 pub record DropsInput (moment : ℕ) (old : Lingerer) (dropped : Dropped) (new : Lingerer) : Type 0 where
-  pub given : SocketsTell → GivesAtMost dropped (most_of old) (length (traffic_of old.socket).given) (length (traffic_of new.socket).given)
+  pub given : SocketsTell → GivesAtMost dropped (most_of old) (length (traffic_of old.socket).given)
+      (length (traffic_of new.socket).given)
   pub taken : SocketsTell → (traffic_of new.socket).taken ≡ (traffic_of old.socket).taken
   pub departed : SocketsTell → DepartAt moment (traffic_of old.socket) (traffic_of new.socket)
   pub connection : (traffic_of new.socket).connection ≡ (traffic_of old.socket).connection
@@ -73,16 +84,18 @@ module _ (moment : ℕ) where
   FirstTurned [] old new = new ≡ old
   FirstTurned (first ∷ others) old new =
       (Ends first × (new ≡ record old { all = others }))
-      ⊎ ((dropped : Dropped) × (later : Lingerer) × Stays first dropped later × (new ≡ record old { all = others ++ later ∷ []; has_more = old.has_more || is_all dropped }))
+      ⊎ ((dropped : Dropped) × (later : Lingerer) × Stays first dropped later
+      × (new ≡ record old { all = others ++ later ∷ []; has_more = old.has_more || is_all dropped }))
 
-  -- Each ends or stays, and those that stay keep their order. Of them there may be more input, of which no poll will tell, where as much was
-  -- dropped of one as was asked for.
+  -- Each ends or stays, and those that stay keep their order. Of them there may be more input, of which no poll will
+  -- tell, where as much was dropped of one as was asked for.
   abbrev pub AllTurned : List Lingerer → List Lingerer → Bool → Type 0
   AllTurned [] new more = (new ≡ []) × (more ≡ false)
   AllTurned (first ∷ others) new more =
       (Ends first × AllTurned others new more)
       ⊎ ((dropped : Dropped) × (later : Lingerer) × (rest : List Lingerer) × (of_rest : Bool)
-      × Stays first dropped later × AllTurned others rest of_rest × (new ≡ later ∷ rest) × (more ≡ (is_all dropped || of_rest)))
+      × Stays first dropped later × AllTurned others rest of_rest × (new ≡ later ∷ rest)
+      × (more ≡ (is_all dropped || of_rest)))
 
   -- all of them, where they are to be read
   abbrev pub TurnedIf : Bool → Lingerers → Lingerers → Type 0

@@ -1,13 +1,29 @@
--- The hub of a loop, and its sessions.
+-- The hub of a loop, its sessions, and where it listens.
+use Rattle.std.specs.declared.net.SocketAddr.{SocketAddr}
 use Rattle.sector.specs.declared.device.Sectors.{Ghosts}
 use Rattle.sessions.specs.declared.hub.Hub.{Hub}
+use Rattle.socket_calls.specs.HappenedCalls.{IsAddressOf, ListensAt, TellsOfAccepts}
 use Rattle.stream_driver.specs.Entries.{HaveSessions}
-use Rattle.event_loop.specs.{declared.server.EventLoop.EventLoop, Tables.HaveEntries}
+use Rattle.event_loop.specs.Sockets.{read_interests}
+use Rattle.event_loop.specs.Tables.{HaveEntries}
+use Rattle.event_loop.specs.declared.server.EventLoop.{EventLoop}
+use Rattle.event_loop.specs.declared.server.TheConstants.{LISTENER}
 
 abbrev pub hub_of : {D : Type 0} {g : Ghosts D} → EventLoop D g → Hub D g
 hub_of events = events.hub
 
--- The sessions of the hub are those of the entries that aren't gone, each of one entry: none is lost, and none is made up.
+-- The sessions of the hub are those of the entries that aren't gone, each of one entry: none is lost, and none is made
+-- up.
 pub record HasItsSessions {D : Type 0} {g : Ghosts D} (events : EventLoop D g) : Type 0 where
   pub have : HaveSessions events.hub events.table.slots
   pub all : HaveEntries events.hub events.table.slots
+
+-- It listens at this address, and the poll tells under the listener's token of connections that wait, and of nothing
+-- else.
+pub record ListensFor {D : Type 0} {g : Ghosts D} (events : EventLoop D g) (address : SocketAddr) : Type 0 where
+  pub listens : ListensAt events.port.listener address
+  pub told : TellsOfAccepts events.port.listener LISTENER read_interests
+
+-- the system said that its listener has this address
+abbrev pub IsAt : {D : Type 0} {g : Ghosts D} → EventLoop D g → SocketAddr → Type 0
+IsAt events address = IsAddressOf events.port.listener address

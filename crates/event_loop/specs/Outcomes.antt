@@ -1,16 +1,23 @@
 -- What the system's answers to calls that don't wait are told as.
+use Rattle.std.specs.IoError.{error_kind}
 use Rattle.std.specs.Prelude.{◌≡◌, ◌≢◌, ◌⊎◌, ◌<◌, ℕ, Result, Ok, Err}
-use Rattle.std.specs.{IoError.error_kind, declared.io.Error.Error, declared.io.ErrorKind.TheVariants.WouldBlock, declared.net.SocketAddr.SocketAddr}
-use Rattle.mio.specs.declared.net.stream.TcpStream.{TcpStream}
-use Rattle.stream_driver.specs.{declared.answers.ReadAnswer.ReadAnswer, declared.answers.WriteAnswer.WriteAnswer}
+use Rattle.std.specs.declared.io.Error.{Error}
+use Rattle.std.specs.declared.io.ErrorKind.TheVariants.{WouldBlock}
+use Rattle.std.specs.declared.net.SocketAddr.{SocketAddr}
+use Rattle.socket_calls.specs.declared.counted.AcceptedSocket.{AcceptedSocket}
+use Rattle.stream_driver.specs.declared.answers.ReadAnswer.{ReadAnswer}
 use Rattle.stream_driver.specs.declared.answers.ReadAnswer.TheVariants.{Moved, Blocked, Failed, Ended}
-use Rattle.stream_driver.specs.declared.answers.WriteAnswer.TheVariants.{Moved as Wrote, Blocked as WriteBlocked, Failed as WriteFailed}
+use Rattle.stream_driver.specs.declared.answers.WriteAnswer.{WriteAnswer}
+use Rattle.stream_driver.specs.declared.answers.WriteAnswer.TheVariants.{Moved as Wrote, Blocked as WriteBlocked}
+use Rattle.stream_driver.specs.declared.answers.WriteAnswer.TheVariants.{Failed as WriteFailed}
 use Rattle.event_loop.specs.declared.listener.AcceptAnswer.{AcceptAnswer}
-use Rattle.event_loop.specs.declared.listener.AcceptAnswer.TheVariants.{Taken, Blocked as AcceptBlocked, Failed as AcceptFailed}
+use Rattle.event_loop.specs.declared.listener.AcceptAnswer.TheVariants.{Taken, Blocked as AcceptBlocked}
+use Rattle.event_loop.specs.declared.listener.AcceptAnswer.TheVariants.{Failed as AcceptFailed}
 
 -- a call that would have waited blocked, and any other that gave an error failed
 abbrev pub ErrsAs : {A : Type 0} → Error → (blocked failed : A) → A → Type 0
-ErrsAs error blocked failed answer = ((error_kind error ≡ WouldBlock) × (answer ≡ blocked)) ⊎ ((error_kind error ≢ WouldBlock) × (answer ≡ failed))
+ErrsAs error blocked failed answer =
+    ((error_kind error ≡ WouldBlock) × (answer ≡ blocked)) ⊎ ((error_kind error ≢ WouldBlock) × (answer ≡ failed))
 
 -- bytes moved, or none did
 abbrev pub MovesAs : {A : Type 0} → ℕ → (none some : A) → A → Type 0
@@ -24,6 +31,6 @@ abbrev pub WritesAs : Result ℕ Error → WriteAnswer → Type 0
 WritesAs (Ok n) answer = MovesAs n WriteFailed (Wrote n) answer
 WritesAs (Err error) answer = ErrsAs error WriteBlocked WriteFailed answer
 
-abbrev pub AcceptsAs : Result (TcpStream × SocketAddr) Error → AcceptAnswer → Type 0
+abbrev pub AcceptsAs : Result (AcceptedSocket × SocketAddr) Error → AcceptAnswer → Type 0
 AcceptsAs (Ok taken) answer = answer ≡ Taken taken.0
 AcceptsAs (Err error) answer = ErrsAs error AcceptBlocked AcceptFailed answer

@@ -1,18 +1,28 @@
--- The premise that sockets tell the bytes that they move, over the open facts of a connection and the calls that were really made of it.
-use Rattle.std.specs.Prelude.{◌≡◌, ℕ, List, [], ◌∷◌, ◌++◌, map}
+-- The premise that sockets tell the bytes that they move, over the open facts of a connection and the calls that were
+-- really made of it.
+use Rattle.std.specs.Prelude.{◌≡◌, ℕ, List, [], ◌∷◌, ◌++◌, map, true, false}
+use Rattle.std.specs.declared.io.Error.{Error}
+use Rattle.mio.specs.declared.interest.Interest.{Interest}
+use Rattle.mio.specs.declared.token.Token.{Token}
+use Rattle.socket_calls.specs.HappenedCalls.{AsksWhetherThere, EndedWriting, SendsAtOnce, WasAnswered}
+use Rattle.socket_calls.specs.HappenedCalls.{WasReceived, WasRegistered, WasReregistered, WasSent}
 use Rattle.socket_calls.specs.OpenFacts.{departed, given, taken, next}
-use Rattle.socket_calls.specs.{HappenedCalls.SendsAtOnce, HappenedCalls.WasReceived, HappenedCalls.WasSent, declared.counted.CountedSocket.CountedSocket}
-use Rattle.stream_driver.specs.{declared.buffered.BufferedStream.BufferedStream, Buffers.IsNew, Counts.counted_with}
+use Rattle.socket_calls.specs.declared.counted.CountedSocket.{CountedSocket}
+use Rattle.stream_driver.specs.Buffers.{IsNew}
+use Rattle.stream_driver.specs.Counts.{counted_with}
 use Rattle.stream_driver.specs.Traffic.{Departure, Traffic, IsUncalled}
+use Rattle.stream_driver.specs.declared.buffered.BufferedStream.{BufferedStream}
 use Rattle.event_loop.specs.declared.socket.Socket.{Socket}
 
--- Nothing has moved over a connection of which no call was made, and each call that the run really made of one moved the bytes that it
--- gave or took, and no others; those that a write took left at the moment of the device that it was shown. It is neither claimed nor
--- denied: which bytes moved, and which calls were made, is open.
+-- Nothing has moved over a connection of which no call was made, and each call that the run really made of one moved
+-- the bytes that it gave or took, and no others; those that a write took left at the moment of the device that it was
+-- shown. It is neither claimed nor denied: which bytes moved, and which calls were made, is open.
 pub record SocketsTell : Type 0 where
   pub begins : (s : CountedSocket) → s.calls ≡ 0 → (given s ≡ []) × (departed s ≡ [])
-  pub received : (s : CountedSocket) (bytes : List ℕ) → WasReceived s bytes → (given (next s) ≡ given s ++ bytes) × (departed (next s) ≡ departed s)
-  pub sent : (s : CountedSocket) (bytes : List ℕ) (moment : ℕ) → WasSent s bytes moment → (given (next s) ≡ given s) × (departed (next s) ≡ departed s ++ (taken s ++ bytes, moment) ∷ [])
+  pub received : (s : CountedSocket) (bytes : List ℕ) → WasReceived s bytes
+      → (given (next s) ≡ given s ++ bytes) × (departed (next s) ≡ departed s)
+  pub sent : (s : CountedSocket) (bytes : List ℕ) (moment : ℕ) → WasSent s bytes moment
+      → (given (next s) ≡ given s) × (departed (next s) ≡ departed s ++ (taken s ++ bytes, moment) ∷ [])
 
 abbrev pub departure_of : List ℕ × ℕ → Departure
 departure_of d = record { bytes = d.0; moment = d.1 }
@@ -23,8 +33,39 @@ session_of s = s.socket.connection
 
 -- the bytes of a socket's connection, what left at which moment, its counts, its last call, and its number
 abbrev pub traffic_of : Socket → Traffic
-traffic_of s = counted_with s.counts (given s.socket) (taken s.socket) (map departure_of (departed s.socket)) s.socket.connection
+traffic_of s = counted_with s.counts (given s.socket) (taken s.socket) (map departure_of (departed s.socket))
+    s.socket.connection
 
--- the stream of a connection for this session, of which no call was made, of which nothing is held, and which sends what it takes at once
-abbrev pub IsNewSocket : ℕ → BufferedStream Socket → Type 0
-IsNewSocket session b = (inner : Socket) × IsUncalled SocketsTell session (traffic_of inner) × IsNew inner b × SendsAtOnce inner.socket
+-- It sends what it takes at once. A peer that is silent for two minutes is probed, and again each half minute, and
+-- where it answers none of four probes the connection ends.
+pub record HasItsOptions (s : CountedSocket) : Type 0 where
+  pub sends_at_once : SendsAtOnce s
+  pub asks : AsksWhetherThere s 120 30 4
+
+-- what comes in, urgent bytes among it, and room for what goes
+abbrev pub all_interests : Interest
+all_interests = record { priority = true; writable = true; readable = true }
+
+-- The poll tells of it under the key of its place in the table.
+abbrev pub HasItsPlace : ℕ → CountedSocket → Type 0
+HasItsPlace key s = WasRegistered s (record { 0 = key }) all_interests
+
+-- the stream at this place of the table of a connection for this session, of which no call was made, of which nothing
+-- is held, and which has its options
+abbrev pub IsNewSocket : (key session : ℕ) → BufferedStream Socket → Type 0
+IsNewSocket key session b =
+    (inner : Socket) × IsUncalled SocketsTell session (traffic_of inner) × IsNew inner b × HasItsOptions inner.socket
+    × HasItsPlace key inner.socket
+
+-- what comes in alone
+abbrev pub read_interests : Interest
+read_interests = record { priority = false; writable = false; readable = true }
+
+-- a call of the system answered an error
+abbrev pub IsRefused : Type 0
+IsRefused = (error : Error) × WasAnswered error
+
+-- It was shut down for writing, and from then on the poll tells under this token of what comes in, and of nothing else.
+pub record IsHalfClosed (token : Token) (s : CountedSocket) : Type 0 where
+  pub ended : EndedWriting s
+  pub registered : WasReregistered s token read_interests

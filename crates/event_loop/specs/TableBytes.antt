@@ -2,11 +2,20 @@
 use Rattle.std.specs.Prelude.{◌≡◌, ◌≢◌, ℕ, ◌++◌, List, Option, Some}
 use Rattle.model.specs.Map.{Bytes}
 use Rattle.sector.specs.declared.device.Sectors.{Ghosts}
-use Rattle.sessions.specs.{declared.events.Status.TheVariants.Open, declared.hub.Hub.Hub, Laws.IsLawful, StandsFor.StandsFor}
+use Rattle.sessions.specs.Laws.{IsLawful}
 use Rattle.sessions.specs.SessionStreams.{HubState, SessionStream, replies_text, requests_text, stream_of}
-use Rattle.stream_driver.specs.{declared.buffered.BufferedStream.BufferedStream, declared.entries.Entry.Entry, declared.entries.EntryState.TheVariants.Gone}
-use Rattle.stream_driver.specs.{Buffers.traffic_through, Sessions.Leads, Traffic.Traffic}
-use Rattle.event_loop.specs.{declared.socket.Socket.Socket, Sockets.SocketsTell, Sockets.traffic_of, Tables.slot_at}
+use Rattle.sessions.specs.StandsFor.{StandsFor}
+use Rattle.sessions.specs.declared.events.Status.TheVariants.{Open}
+use Rattle.sessions.specs.declared.hub.Hub.{Hub}
+use Rattle.stream_driver.specs.Buffers.{traffic_through}
+use Rattle.stream_driver.specs.Sessions.{Leads}
+use Rattle.stream_driver.specs.Traffic.{Traffic}
+use Rattle.stream_driver.specs.declared.buffered.BufferedStream.{BufferedStream}
+use Rattle.stream_driver.specs.declared.entries.Entry.{Entry}
+use Rattle.stream_driver.specs.declared.entries.EntryState.TheVariants.{Gone}
+use Rattle.event_loop.specs.Sockets.{SocketsTell, traffic_of}
+use Rattle.event_loop.specs.Tables.{slot_at}
+use Rattle.event_loop.specs.declared.socket.Socket.{Socket}
 
 module _ {T : Type 0} (tells : Type 0) (traffic : T → Traffic) where
   -- all that the stream gave was received, and all that was sent the stream took
@@ -19,15 +28,19 @@ module _ {T : Type 0} (tells : Type 0) (traffic : T → Traffic) where
 
   -- so it is of each entry that isn't gone
   abbrev pub HaveBytes : HubState → List (Option (Entry T)) → Type 0
-  HaveBytes h slots = (key : ℕ) (entry : Entry T) → slot_at slots key ≡ Some entry → entry.state ≢ Gone → HasItsBytes h entry
+  HaveBytes h slots = (key : ℕ) (entry : Entry T) → slot_at slots key ≡ Some entry → entry.state ≢ Gone
+      → HasItsBytes h entry
 
--- what led from one hub to the other kept the connections' bytes those of their sessions, in each state that the first stood for
-abbrev pub KeepBytes : {D : Type 0} {g : Ghosts D} → Hub D g → List (Option (Entry (BufferedStream Socket))) → Hub D g → List (Option (Entry (BufferedStream Socket))) → Type 0
+-- what led from one hub to the other kept the connections' bytes those of their sessions, in each state that the first
+-- stood for
+abbrev pub KeepBytes : {D : Type 0} {g : Ghosts D} → Hub D g → List (Option (Entry (BufferedStream Socket))) → Hub D g
+    → List (Option (Entry (BufferedStream Socket))) → Type 0
 KeepBytes hub slots later new =
-    Leads hub later (λ h k. HaveBytes SocketsTell (traffic_through traffic_of) h.hub slots → HaveBytes SocketsTell (traffic_through traffic_of) k.hub new)
+    Leads hub later (λ h k. HaveBytes SocketsTell (traffic_through traffic_of) h.hub slots
+    → HaveBytes SocketsTell (traffic_through traffic_of) k.hub new)
 
--- What came in over a connection is the spellings of its session's requests, and the beginning of one; what went over it, with what its
--- stream holds and what is pending, is the texts of the machine's replies to them.
+-- What came in over a connection is the spellings of its session's requests, and the beginning of one; what went over
+-- it, with what its stream holds and what is pending, is the texts of the machine's replies to them.
 pub record SpeaksFor (stream : BufferedStream Socket) (st : SessionStream) : Type 0 where
   pub rest : Bytes
   pub inbox : st.now.status ≡ Open → rest ≡ st.now.inbox
@@ -35,7 +48,9 @@ pub record SpeaksFor (stream : BufferedStream Socket) (st : SessionStream) : Typ
   pub went : replies_text st ≡ (traffic_through traffic_of stream).taken ++ st.now.pending
 
 -- The hub stands for a lawful state, of whose sessions the connections speak.
-abbrev pub ConnectionsSpeak : {D : Type 0} {g : Ghosts D} → Hub D g → List (Option (Entry (BufferedStream Socket))) → Type 0
+abbrev pub ConnectionsSpeak : {D : Type 0} {g : Ghosts D} → Hub D g → List (Option (Entry (BufferedStream Socket)))
+    → Type 0
 ConnectionsSpeak hub slots =
-    ∥ ((h : HubState) × StandsFor hub h × IsLawful h × ((key : ℕ) (entry : Entry (BufferedStream Socket)) → slot_at slots key ≡ Some entry → entry.state ≢ Gone
+    ∥ ((h : HubState) × StandsFor hub h × IsLawful h
+    × ((key : ℕ) (entry : Entry (BufferedStream Socket)) → slot_at slots key ≡ Some entry → entry.state ≢ Gone
     → (st : SessionStream) × (stream_of h entry.session ≡ Some st) × SpeaksFor entry.stream st)) ∥₁

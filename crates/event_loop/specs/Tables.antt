@@ -1,16 +1,27 @@
 -- The table of connections: what a turn makes of it, and its sessions.
-use Rattle.std.specs.Prelude.{◌≡◌, ◌≢◌, ◌⊎◌, ℕ, ◌+◌, ◌-◌, ◌^◌, ◌<◌, ◌≤◌, ◌==◌, ◌||◌, Bool, true, false, cond, List, [], ◌∷◌, ◌++◌, Option, Some, None, count_by, is_some, slice_index_or}
 use Rattle.std.proofs.Common.{inl, inr}
 use Rattle.std.specs.List.{list_any}
+use Rattle.std.specs.Prelude.{◌≡◌, ◌≢◌, ◌⊎◌, ℕ, ◌+◌, ◌-◌, ◌^◌, ◌<◌, ◌≤◌, ◌==◌, ◌||◌, Bool, true, false, cond, List}
+use Rattle.std.specs.Prelude.{[], ◌∷◌, ◌++◌, Option, Some, None, count_by, is_some, slice_index_or}
+use Rattle.mio.specs.Event.{event_token, is_priority, is_read_closed}
+use Rattle.mio.specs.declared.event.event.Event.{Event}
 use Rattle.slab.specs.Slab.{Slab, entries}
-use Rattle.mio.specs.{declared.event.event.Event.Event, Event.event_token, Event.is_priority, Event.is_read_closed}
 use Rattle.sector.specs.declared.device.Sectors.{Ghosts}
-use Rattle.sessions.specs.{declared.events.Outcome.Outcome, declared.events.Outcome.TheVariants.Done, declared.events.Status.TheVariants.Absent, declared.hub.Hub.Hub}
-use Rattle.sessions.specs.{SessionStreams.HubEvent, SessionStreams.Joins, SessionStreams.Choice, StandsFor.HubLeads, StandsFor.status_of}
-use Rattle.event_loop.specs.{declared.connections.Backlog.Backlog, Accepts.Accepts, Accepts.TurnAccepts, Accepts.more}
-use Rattle.stream_driver.specs.{declared.entries.EntryState.EntryState, declared.entries.Entry.Entry, declared.buffered.BufferedStream.BufferedStream, Traffic.Traffic}
+use Rattle.sessions.specs.SessionStreams.{HubEvent, Joins, Choice}
+use Rattle.sessions.specs.StandsFor.{HubLeads, status_of}
+use Rattle.sessions.specs.declared.events.Outcome.{Outcome}
+use Rattle.sessions.specs.declared.events.Outcome.TheVariants.{Done}
+use Rattle.sessions.specs.declared.events.Status.TheVariants.{Absent}
+use Rattle.sessions.specs.declared.hub.Hub.{Hub}
+use Rattle.stream_driver.specs.Entries.{EndsDrive, is_over}
+use Rattle.stream_driver.specs.Sessions.{Adds, Leads}
+use Rattle.stream_driver.specs.Traffic.{Traffic}
+use Rattle.stream_driver.specs.declared.buffered.BufferedStream.{BufferedStream}
+use Rattle.stream_driver.specs.declared.entries.Entry.{Entry}
+use Rattle.stream_driver.specs.declared.entries.EntryState.{EntryState}
 use Rattle.stream_driver.specs.declared.entries.EntryState.TheVariants.{Idle, Ready, Gone}
-use Rattle.stream_driver.specs.{Entries.EndsDrive, Entries.is_over, Sessions.Adds, Sessions.Leads}
+use Rattle.event_loop.specs.Accepts.{Accepts, TurnAccepts, more}
+use Rattle.event_loop.specs.declared.connections.Backlog.{Backlog}
 
 -- no session is present, and none has joined
 abbrev pub HasNobody : {D : Type 0} {g : Ghosts D} → Hub D g → Type 0
@@ -38,7 +49,8 @@ module _ {D : Type 0} {g : Ghosts D} where
   IsTried hub later next = (outcome : Outcome) × (outcome ≢ Done) × HubLeads hub later (Joins next) outcome
 
   -- what happened to the hub as a connection was turned away: its session was to join, or nothing
-  abbrev pub join_tried : (hub later : Hub D g) (next : ℕ) → (later ≡ hub) ⊎ IsTried hub later next → List (HubEvent × Choice)
+  abbrev pub join_tried : (hub later : Hub D g) (next : ℕ) → (later ≡ hub) ⊎ IsTried hub later next
+      → List (HubEvent × Choice)
   join_tried hub later next (inl same) = []
   join_tried hub later next (inr tried) = (Joins next, tried.2.0) ∷ []
 
@@ -49,26 +61,29 @@ module _ {T : Type 0} where
 
   -- each entry with this session is gone
   abbrev pub IsWithoutEntry : ℕ → List (Option (Entry T)) → Type 0
-  IsWithoutEntry s slots = (key : ℕ) (entry : Entry T) → slot_at slots key ≡ Some entry → entry.session ≡ s → entry.state ≡ Gone
+  IsWithoutEntry s slots = (key : ℕ) (entry : Entry T) → slot_at slots key ≡ Some entry → entry.session ≡ s
+      → entry.state ≡ Gone
 
   module _ {D : Type 0} {g : Ghosts D} where
     -- a session for which there is no entry, or one that is gone, is absent: each session that is present has an entry
     abbrev pub HaveEntries : Hub D g → List (Option (Entry T)) → Type 0
     HaveEntries hub slots = (s : ℕ) → IsWithoutEntry s slots → status_of hub s ≡ Absent
 
-    -- A connection that was turned away: the table is as it was, and no session has joined. Memory, registration or an option of its socket
-    -- was refused; or there are 128 entries, or no number is left, or the hub refused its session.
-    pub record TurnsAway (hub : Hub D g) (next : ℕ) (slots : List (Option (Entry T))) (later : Hub D g) (then : ℕ) (new : List (Option (Entry T))) : Type 0 where
+    -- A connection that was turned away: the table is as it was, and no session has joined. Memory, registration or an
+    -- option of its socket was refused; or there are 128 entries, or no number is left, or the hub refused its session.
+    pub record TurnsAway (hub : Hub D g) (next : ℕ) (slots : List (Option (Entry T))) (later : Hub D g) (then : ℕ)
+        (new : List (Option (Entry T))) : Type 0 where
       pub slots_are : new ≡ slots
       pub next_is : then ≡ next
       pub hub_is : (later ≡ hub) ⊎ IsTried hub later next
       pub is_refused : Bool
       pub why : is_refused ≡ false → (128 ≤ count_by is_some slots) ⊎ ((next ≡ 2 ^ 64 - 1) ⊎ IsTried hub later next)
 
-    module _ (IsNew : ℕ → T → Type 0) where
-      -- a connection that was let in: its session, the next number, has joined, and has an entry of its own that is ready, whose stream is new
-      -- and made for that session
-      pub record LetsIn (hub : Hub D g) (next : ℕ) (slots : List (Option (Entry T))) (later : Hub D g) (then : ℕ) (new : List (Option (Entry T))) : Type 0 where
+    module _ (IsNew : (key session : ℕ) → T → Type 0) where
+      -- a connection that was let in: its session, the next number, has joined, and has an entry of its own that is
+      -- ready, whose stream is new and made for that place and that session
+      pub record LetsIn (hub : Hub D g) (next : ℕ) (slots : List (Option (Entry T))) (later : Hub D g) (then : ℕ)
+          (new : List (Option (Entry T))) : Type 0 where
         pub key : ℕ
         pub entry : Entry T
         pub key_is : key < 128
@@ -77,61 +92,81 @@ module _ {T : Type 0} where
         pub others : (other : ℕ) → other ≢ key → slot_at new other ≡ slot_at slots other
         pub session : entry.session ≡ next
         pub state : entry.state ≡ Ready
-        pub fresh : IsNew entry.session entry.stream
+        pub fresh : IsNew key entry.session entry.stream
         pub next_is : then ≡ next + 1
         pub joined : HubLeads hub later (Joins next) Done
 
       abbrev pub Admits : Hub D g → ℕ → List (Option (Entry T)) → Hub D g → ℕ → List (Option (Entry T)) → Type 0
-      Admits hub next slots later then new = TurnsAway hub next slots later then new ⊎ LetsIn hub next slots later then new
+      Admits hub next slots later then new =
+          TurnsAway hub next slots later then new ⊎ LetsIn hub next slots later then new
 
       -- what happened to the hub as a connection came: the join of its session, or nothing
-      abbrev pub join_of : (hub : Hub D g) (next : ℕ) (slots : List (Option (Entry T))) (later : Hub D g) (then : ℕ) (new : List (Option (Entry T))) → Admits hub next slots later then new → List (HubEvent × Choice)
+      abbrev pub join_of : (hub : Hub D g) (next : ℕ) (slots : List (Option (Entry T))) (later : Hub D g) (then : ℕ)
+          (new : List (Option (Entry T))) → Admits hub next slots later then new → List (HubEvent × Choice)
       join_of hub next slots later then new (inl away) = join_tried hub later next away.hub_is
       join_of hub next slots later then new (inr within) = (Joins next, within.joined.0) ∷ []
 
       -- how many connections were turned away as memory, registration or an option was refused
-      abbrev pub refusals_in : (hub : Hub D g) (next : ℕ) (slots : List (Option (Entry T))) (later : Hub D g) (then : ℕ) (new : List (Option (Entry T))) → Admits hub next slots later then new → ℕ
+      abbrev pub refusals_in : (hub : Hub D g) (next : ℕ) (slots : List (Option (Entry T))) (later : Hub D g) (then : ℕ)
+          (new : List (Option (Entry T))) → Admits hub next slots later then new → ℕ
       refusals_in hub next slots later then new (inl away) = cond away.is_refused 1 0
       refusals_in hub next slots later then new (inr within) = 0
 
       -- a connection came, and nothing else happened to the hub; a refusal was counted
       abbrev pub Comes : Hub D g → ℕ → List (Option (Entry T)) → ℕ → Hub D g → ℕ → List (Option (Entry T)) → ℕ → Type 0
       Comes hub next slots refused later then new counted =
-          (admits : Admits hub next slots later then new) × Leads hub later (λ h k. Adds h (join_of hub next slots later then new admits) k) × (counted ≡ more (refusals_in hub next slots later then new admits) refused)
+          (admits : Admits hub next slots later then new)
+          × Leads hub later (λ h k. Adds h (join_of hub next slots later then new admits) k)
+          × (counted ≡ more (refusals_in hub next slots later then new admits) refused)
 
 -- so many connections came one after another, and each was let in or turned away
-pub data AdmitsEach {T D : Type 0} {g : Ghosts D} (IsNew : ℕ → T → Type 0) (hub : Hub D g) (next : ℕ) (slots : List (Option (Entry T))) : ℕ → Hub D g → ℕ → List (Option (Entry T)) → Type 0 where
+pub data AdmitsEach {T D : Type 0} {g : Ghosts D} (IsNew : (key session : ℕ) → T
+    → Type 0) (hub : Hub D g) (next : ℕ) (slots : List (Option (Entry T))) : ℕ → Hub D g → ℕ → List (Option (Entry T))
+    → Type 0 where
   Nobody : AdmitsEach IsNew hub next slots 0 hub next slots
-  OneMore : (count : ℕ) (mid later : Hub D g) (number then : ℕ) (between new : List (Option (Entry T))) → AdmitsEach IsNew hub next slots count mid number between
+  OneMore : (count : ℕ) (mid later : Hub D g) (number then : ℕ) (between new : List (Option (Entry T)))
+      → AdmitsEach IsNew hub next slots count mid number between
       → Admits IsNew mid number between later then new → AdmitsEach IsNew hub next slots (count + 1) later then new
 
 module _ {T D : Type 0} {g : Ghosts D} where
   -- what happened to the hub as they came
-  abbrev pub joins_of : {IsNew : ℕ → T → Type 0} {hub : Hub D g} {next : ℕ} {slots : List (Option (Entry T))} {count : ℕ} {later : Hub D g} {then : ℕ} {new : List (Option (Entry T))}
+  abbrev pub joins_of : {IsNew : (key session : ℕ) → T
+      → Type 0} {hub : Hub D g} {next : ℕ} {slots : List (Option (Entry T))} {count : ℕ} {later : Hub D g} {then : ℕ}
+      {new : List (Option (Entry T))}
       → AdmitsEach IsNew hub next slots count later then new → List (HubEvent × Choice)
   joins_of Nobody = []
-  joins_of {IsNew} (OneMore count mid later number then between new each admits) = joins_of each ++ join_of IsNew mid number between later then new admits
+  joins_of {IsNew} (OneMore count mid later number then between new each admits) =
+      joins_of each ++ join_of IsNew mid number between later then new admits
 
   -- how many of them were refused
-  abbrev pub refusals_of : {IsNew : ℕ → T → Type 0} {hub : Hub D g} {next : ℕ} {slots : List (Option (Entry T))} {count : ℕ} {later : Hub D g} {then : ℕ} {new : List (Option (Entry T))}
+  abbrev pub refusals_of : {IsNew : (key session : ℕ) → T
+      → Type 0} {hub : Hub D g} {next : ℕ} {slots : List (Option (Entry T))} {count : ℕ} {later : Hub D g} {then : ℕ}
+      {new : List (Option (Entry T))}
       → AdmitsEach IsNew hub next slots count later then new → ℕ
   refusals_of Nobody = 0
-  refusals_of {IsNew} (OneMore count mid later number then between new each admits) = refusals_of each + refusals_in IsNew mid number between later then new admits
+  refusals_of {IsNew} (OneMore count mid later number then between new each admits) =
+      refusals_of each + refusals_in IsNew mid number between later then new admits
 
   -- so many connections came, and nothing else happened to the hub; the refusals were counted
-  abbrev pub ComeEach : (ℕ → T → Type 0) → Hub D g → ℕ → List (Option (Entry T)) → ℕ → ℕ → Hub D g → ℕ → List (Option (Entry T)) → ℕ → Type 0
+  abbrev pub ComeEach : (ℕ → ℕ → T → Type 0) → Hub D g → ℕ → List (Option (Entry T)) → ℕ → ℕ → Hub D g → ℕ
+      → List (Option (Entry T)) → ℕ → Type 0
   ComeEach IsNew hub next slots refused count later then new counted =
-      (each : AdmitsEach IsNew hub next slots count later then new) × Leads hub later (λ h k. Adds h (joins_of each) k) × (counted ≡ more (refusals_of each) refused)
+      (each : AdmitsEach IsNew hub next slots count later then new) × Leads hub later (λ h k. Adds h (joins_of each) k)
+      × (counted ≡ more (refusals_of each) refused)
 
   -- so it is of the connections that one turn accepts
-  abbrev pub AcceptsInto : (ℕ → T → Type 0) → Hub D g → ℕ → List (Option (Entry T)) → ℕ → Accepts → Backlog → Hub D g → ℕ → List (Option (Entry T)) → ℕ → Accepts → Type 0
+  abbrev pub AcceptsInto : (ℕ → ℕ → T → Type 0) → Hub D g → ℕ → List (Option (Entry T)) → ℕ → Accepts → Backlog
+      → Hub D g → ℕ → List (Option (Entry T)) → ℕ → Accepts → Type 0
   AcceptsInto IsNew hub next slots refused old backlog later then new counted accepts =
       TurnAccepts (λ n. ComeEach IsNew hub next slots refused n later then new counted) old backlog accepts
 
 module _ {T : Type 0} where
   -- an entry that the poll told of: one that waited is to be driven, and is it to be read until its stream blocks?
   abbrev pub told : Bool → Entry (BufferedStream T) → Entry (BufferedStream T)
-  told reads_on entry = record entry { state = readied entry.state; stream = record entry.stream { reads_on = reads_on || entry.stream.reads_on } }
+  told reads_on entry = record entry {
+    state = readied entry.state;
+    stream = record entry.stream { reads_on = reads_on || entry.stream.reads_on };
+  }
 
   -- a slot after an event that tells of it, or of another
   abbrev pub told_slot : Bool → Bool → Option (Entry (BufferedStream T)) → Option (Entry (BufferedStream T))
@@ -139,7 +174,8 @@ module _ {T : Type 0} where
   told_slot true reads_on None = None
   told_slot false reads_on slot = slot
 
-  -- urgent bytes, at which a read ends early, or the end of what comes: the stream is to be read until it blocks or ends
+  -- urgent bytes, at which a read ends early, or the end of what comes: the stream is to be read until it blocks or
+  -- ends
   abbrev pub after_event : Event → ℕ → Option (Entry (BufferedStream T)) → Option (Entry (BufferedStream T))
   after_event event key slot = told_slot ((event_token event).0 == key) (is_priority event || is_read_closed event) slot
 
@@ -152,10 +188,15 @@ module _ {T : Type 0} where
   abbrev pub unless_over : Entry (BufferedStream T) → Option (Entry (BufferedStream T))
   unless_over entry = cond (is_over entry) None (Some entry)
 
-  -- the end of a turn at a slot, at this moment of the device: the drive of its entry has ended, and the entry is taken out if it is over
-  abbrev pub EndsTurn : Type 0 → (T → Traffic) → ℕ → Option (Entry (BufferedStream T)) → Option (Entry (BufferedStream T)) → Type 0
+  -- the end of a turn at a slot, at this moment of the device: the drive of its entry has ended, and the entry is taken
+  -- out if it is over
+  abbrev pub EndsTurn : Type 0 → (T → Traffic) → ℕ → Option (Entry (BufferedStream T))
+      → Option (Entry (BufferedStream T)) → Type 0
   EndsTurn tells traffic moment None new = new ≡ None
-  EndsTurn tells traffic moment (Some old) new = (entry : Entry (BufferedStream T)) × EndsDrive tells traffic moment old entry × (new ≡ unless_over entry)
+  EndsTurn tells traffic moment (Some old) new =
+      (entry : Entry (BufferedStream T)) × EndsDrive tells traffic moment old entry × (new ≡ unless_over entry)
 
-  abbrev pub EachEnds : Type 0 → (T → Traffic) → ℕ → List (Option (Entry (BufferedStream T))) → List (Option (Entry (BufferedStream T))) → Type 0
-  EachEnds tells traffic moment slots later = (key : ℕ) → EndsTurn tells traffic moment (slot_at slots key) (slot_at later key)
+  abbrev pub EachEnds : Type 0 → (T → Traffic) → ℕ → List (Option (Entry (BufferedStream T)))
+      → List (Option (Entry (BufferedStream T))) → Type 0
+  EachEnds tells traffic moment slots later = (key : ℕ)
+      → EndsTurn tells traffic moment (slot_at slots key) (slot_at later key)

@@ -1,37 +1,70 @@
 -- What one turn of the loop does to its hub and its table.
-use Rattle.std.specs.Prelude.{◌≡◌, ◌==◌, ◌||◌, ℕ, ◌+◌, ◌≤◌, Bool, true, false, List, [], Option, Result}
-use Rattle.std.specs.{declared.io.Error.Error, declared.time.Duration.Duration, List.list_any}
-use Rattle.mio.specs.{declared.token.Token.Token, Event.event_token, declared.event.event.Event.Event, Events.items, Events.capacity as events_capacity}
+use Rattle.std.specs.List.{list_any}
+use Rattle.std.specs.Prelude.{◌≡◌, ◌==◌, ◌||◌, ◌⊎◌, ℕ, ◌+◌, ◌<◌, ◌≤◌, Bool, true, false, List, [], Option, Result}
+use Rattle.std.specs.declared.io.Error.{Error}
+use Rattle.std.specs.declared.time.Duration.{Duration}
+use Rattle.mio.specs.Event.{event_token}
+use Rattle.mio.specs.Events.{items, capacity as events_capacity}
+use Rattle.mio.specs.declared.event.event.Event.{Event}
+use Rattle.mio.specs.declared.token.Token.{Token}
 use Rattle.sector.specs.declared.device.Sectors.{Ghosts}
-use Rattle.sessions.specs.{declared.hub.Hub.Hub, Laws.GivesBack, Laws.HasRun, Lives.Served, SessionStreams.HubEvent, SessionStreams.Choice, StandsFor.device}
-use Rattle.stream_driver.specs.{declared.buffered.BufferedStream.BufferedStream, declared.entries.Entry.Entry, Buffers.traffic_through, Entries.DrivenAll}
-use Rattle.stream_driver.specs.{Sessions.Adds, Sessions.Leads, Sessions.Point, Traffic.Traffic, Sends.DrivesTelling}
-use Rattle.event_loop.specs.{declared.server.EventLoop.EventLoop, declared.server.TheConstants.LISTENER, declared.socket.Socket.Socket, declared.listener.Port.Port}
-use Rattle.event_loop.specs.{declared.connections.Backlog.Backlog, declared.connections.TheConstants.LINGERER}
-use Rattle.event_loop.specs.{Accepts.Accepts}
-use Rattle.event_loop.specs.declared.connections.Backlog.TheVariants.{Empty, More, Failed}
-use Rattle.event_loop.specs.{Leavings.EndAll, Leavings.LingerOn, Lingerings.lingers_in, Lingerings.unless_failed}
-use Rattle.event_loop.specs.Polls.{after_wait, polls_of}
-use Rattle.event_loop.specs.{Waits.nanos_of, Waits.own_limit, Waits.shorter, Departures.AreKept, Departures.HoldsAtEnds}
+use Rattle.sessions.specs.Laws.{GivesBack, HasRun}
+use Rattle.sessions.specs.Lives.{Served}
+use Rattle.sessions.specs.SessionStreams.{HubEvent, Choice}
+use Rattle.sessions.specs.StandsFor.{device}
+use Rattle.sessions.specs.declared.hub.Hub.{Hub}
+use Rattle.stream_driver.specs.Buffers.{traffic_through}
+use Rattle.stream_driver.specs.Entries.{DrivenAll}
+use Rattle.stream_driver.specs.Sends.{DrivesTelling}
+use Rattle.stream_driver.specs.Sessions.{Adds, Leads, Point}
+use Rattle.stream_driver.specs.Traffic.{Traffic}
+use Rattle.stream_driver.specs.declared.buffered.BufferedStream.{BufferedStream}
+use Rattle.stream_driver.specs.declared.entries.Entry.{Entry}
+use Rattle.event_loop.specs.Accepts.{Accepts}
+use Rattle.event_loop.specs.Departures.{AreKept, HoldsAtEnds}
+use Rattle.event_loop.specs.Leavings.{EndAll, LingerOn}
+use Rattle.event_loop.specs.Lingerings.{lingers_in, unless_failed}
+use Rattle.event_loop.specs.Order.{AreNext, after_turn, behind, is_passed, is_ready_slot}
+use Rattle.event_loop.specs.Polls.{WasAskedOnce, after_wait, polls_of}
 use Rattle.event_loop.specs.Sockets.{IsNewSocket, SocketsTell, traffic_of}
 use Rattle.event_loop.specs.Tables.{AcceptsInto, EndsTurn, after_poll, is_any_ready, joins_of, slot_at}
+use Rattle.event_loop.specs.Waits.{nanos_of, own_limit, shorter}
+use Rattle.event_loop.specs.declared.connections.Backlog.{Backlog}
+use Rattle.event_loop.specs.declared.connections.Backlog.TheVariants.{Empty, More, Failed}
+use Rattle.event_loop.specs.declared.connections.TheConstants.{LINGERER}
+use Rattle.event_loop.specs.declared.listener.Port.{Port}
+use Rattle.event_loop.specs.declared.order.Turns.{Turns}
+use Rattle.event_loop.specs.declared.server.EventLoop.{EventLoop}
+use Rattle.event_loop.specs.declared.server.TheConstants.{LISTENER}
+use Rattle.event_loop.specs.declared.socket.Socket.{Socket}
 
--- The drives of a turn in which the poll told of these events. The entries that waited and that it told of became ready. Each that is
--- ready was driven once, by rising key, and no other event came to the hub. What their streams hold was written, and those that are
--- over were taken out.
-pub record DrivesReady {T D : Type 0} {g : Ghosts D} (tells : Type 0) (traffic : T → Traffic) (events : List Event) (hub : Hub D g) (slots : List (Option (Entry (BufferedStream T)))) (later : Hub D g) (new : List (Option (Entry (BufferedStream T)))) : Type 0 where
+-- a slot is ready as the poll told, unless it takes turns and it is another's
+abbrev pub IsTurnOf : {T D : Type 0} {g : Ghosts D} → Hub D g → Turns → ℕ
+    → (polled ready : Option (Entry (BufferedStream T))) → Type 0
+IsTurnOf hub turns key polled ready = ready ≡ after_turn (is_passed hub turns key polled) polled
+
+-- The drives of a turn in which the poll told of these events. The entries that waited and that it told of became
+-- ready. Of those that are ready and take turns, one that writes and one that reads at most have this one, and the
+-- others are passed over. Each other that is ready was driven once, by rising key, and no other event came to the hub.
+-- What their streams hold was written, and those that are over were taken out.
+pub record DrivesReady {T D : Type 0} {g : Ghosts D} (tells : Type 0) (traffic : T
+    → Traffic) (events : List Event) (last : Turns) (hub : Hub D g) (slots : List (Option (Entry (BufferedStream T))))
+    (next : Turns) (later : Hub D g) (new : List (Option (Entry (BufferedStream T)))) : Type 0 where
+  pub turn_of : AreNext hub (λ key. after_poll events key (slot_at slots key)) last next
   pub ready : List (Option (Entry (BufferedStream T)))
-  pub told : (key : ℕ) → slot_at ready key ≡ after_poll events key (slot_at slots key)
+  pub told : (key : ℕ) → IsTurnOf hub next key (after_poll events key (slot_at slots key)) (slot_at ready key)
   pub driven : List (Option (Entry (BufferedStream T)))
-  pub drives : DrivesTelling (traffic_through traffic) tells hub ready later driven (λ h k. DrivenAll tells (traffic_through traffic) h ready k driven)
+  pub drives : DrivesTelling (traffic_through traffic) tells hub ready later driven
+      (λ h k. DrivenAll tells (traffic_through traffic) h ready k driven)
   pub ended : (key : ℕ) → EndsTurn tells traffic (g.moment (device later)) (slot_at driven key) (slot_at new key)
 
 -- what the listener has answered so far
 abbrev pub answers_of : Port → Accepts
-answers_of port = record { taken = port.taken; blocked = port.blocked; failed = port.failed }
+answers_of port =
+    record { asked = port.listener.accepts; taken = port.taken; blocked = port.blocked; failed = port.failed }
 
--- the hub, the table, the number of the next session, the listener, those that linger and the refusals are as they were, and what is known
--- to be due
+-- the hub, the table, the number of the next session, the listener, those that linger and the refusals are as they
+-- were, and so is what is known to be due and who had the last turns
 pub record IsUntouched {D : Type 0} {g : Ghosts D} (old new : EventLoop D g) : Type 0 where
   pub hub : new.hub ≡ old.hub
   pub table : new.table ≡ old.table
@@ -41,8 +74,10 @@ pub record IsUntouched {D : Type 0} {g : Ghosts D} (old new : EventLoop D g) : T
   pub due : new.due ≡ old.due
   pub lingering : new.lingering ≡ old.lingering
   pub refused : new.refused ≡ old.refused
+  pub turns : new.turns ≡ old.turns
 
--- what no open transaction needs has gone, a step of it, and whether more is due is known; but for that all is as it was
+-- what no open transaction needs has gone, a step of it, and whether more is due is known; but for that all is as it
+-- was
 pub record IsGivenBack {D : Type 0} {g : Ghosts D} (old new : EventLoop D g) : Type 0 where
   pub hub : GivesBack old.hub new.hub new.due
   pub table : new.table ≡ old.table
@@ -55,11 +90,13 @@ pub record IsGivenBack {D : Type 0} {g : Ghosts D} (old new : EventLoop D g) : T
 -- where a turn accepts, each connection that it took was let in or turned away, and no other event came to the hub
 abbrev pub Accepted : {D : Type 0} {g : Ghosts D} → Bool → EventLoop D g → EventLoop D g → Type 0
 Accepted true old new =
-    AcceptsInto IsNewSocket old.hub old.next old.table.slots old.refused (answers_of old.port) new.backlog new.hub new.next new.table.slots new.refused (answers_of new.port)
+    AcceptsInto IsNewSocket old.hub old.next old.table.slots old.refused (answers_of old.port) new.backlog new.hub
+    new.next new.table.slots new.refused (answers_of new.port)
 Accepted false old new = IsUntouched old new
 
 -- what happened to the hub as it accepted
-abbrev pub accepted_joins : {D : Type 0} {g : Ghosts D} (accepts : Bool) (old new : EventLoop D g) → Accepted accepts old new → List (HubEvent × Choice)
+abbrev pub accepted_joins : {D : Type 0} {g : Ghosts D} (accepts : Bool) (old new : EventLoop D g)
+    → Accepted accepts old new → List (HubEvent × Choice)
 accepted_joins true old new accepted = joins_of accepted.became.0
 accepted_joins false old new untouched = []
 
@@ -67,7 +104,8 @@ accepted_joins false old new untouched = []
 abbrev pub DrivesAndEnds :
     {D : Type 0} {g : Ghosts D} → Type 0 → (Socket → Traffic) → EventLoop D g → EventLoop D g → Type 0
 DrivesAndEnds {D} {g} tells traffic old new =
-    (drives : DrivesReady tells traffic (items old.poller.events) old.hub old.table.slots new.hub new.table.slots)
+    (drives : DrivesReady tells traffic (items old.poller.events) old.turns old.hub old.table.slots new.turns new.hub
+    new.table.slots)
     × EndAll (g.moment (device new.hub)) drives.driven (lingers_in old.lingering) new.table.slots
     (lingers_in new.lingering)
 
@@ -81,13 +119,16 @@ accepts_now Empty events = is_told_of LISTENER events
 accepts_now More events = true
 accepts_now Failed events = true
 
--- One turn: the drives, by the events that the poll told of, then the accepts, and then a step of what no open transaction needs is given
--- back. The events of these drives, followed by the joins of these accepts, are one run of the hub: lawful at each moment, with the
--- device's failures counted, and what a crash leaves known. After the drives it turned those that linger; they were
--- closed where an accept failed.
-pub record IsTurn {D : Type 0} {g : Ghosts D} (tells : Type 0) (traffic : Socket → Traffic) (old new : EventLoop D g) : Type 0 where
+-- One turn: the drives, by the events that the poll told of, then the accepts, and then a step of what no open
+-- transaction needs is given back. The events of these drives, followed by the joins of these accepts, are one run of
+-- the hub: lawful at each moment, with the device's failures counted, and what a crash leaves known. After the drives
+-- it turned those that linger; they were closed where an accept failed.
+pub record IsTurn {D : Type 0} {g : Ghosts D} (tells : Type 0) (traffic : Socket
+    → Traffic) (old new : EventLoop D g) : Type 0 where
   pub driven : EventLoop D g
-  pub drives : DrivesReady tells traffic (items new.poller.events) old.hub old.table.slots driven.hub driven.table.slots
+  pub drives : DrivesReady tells traffic (items new.poller.events) old.turns old.hub old.table.slots driven.turns
+      driven.hub driven.table.slots
+  pub turns_are : new.turns ≡ driven.turns
   pub next_is : driven.next ≡ old.next
   pub port_is : driven.port ≡ old.port
   pub backlog_is : driven.backlog ≡ old.backlog
@@ -99,12 +140,14 @@ pub record IsTurn {D : Type 0} {g : Ghosts D} (tells : Type 0) (traffic : Socket
   pub accepts : Accepted (accepts_now old.backlog (items new.poller.events)) driven accepted
   pub lingerers_are : lingers_in accepted.lingering ≡ unless_failed accepted.backlog (lingers_in driven.lingering)
   pub gives_back : IsGivenBack accepted new
-  pub run : Leads old.hub new.hub (λ h l. (k : Point) × DrivenAll tells (traffic_through traffic) h drives.ready k drives.driven
+  pub run : Leads old.hub new.hub (λ h l. (k : Point)
+      × DrivenAll tells (traffic_through traffic) h drives.ready k drives.driven
       × Adds k (accepted_joins (accepts_now old.backlog (items new.poller.events)) driven accepted accepts) l)
 
--- There is a run from an opening to the hub after this turn in which each departure over each connection is kept, also where the turn took
--- the connection out or closed it: as its drive ended, or as it was turned.
-abbrev pub KeepsWhatLeaves : {D : Type 0} {g : Ghosts D} (old new : EventLoop D g) → IsTurn SocketsTell traffic_of old new → Type 0
+-- There is a run from an opening to the hub after this turn in which each departure over each connection is kept, also
+-- where the turn took the connection out or closed it: as its drive ended, or as it was turned.
+abbrev pub KeepsWhatLeaves : {D : Type 0} {g : Ghosts D} (old new : EventLoop D g)
+    → IsTurn SocketsTell traffic_of old new → Type 0
 KeepsWhatLeaves {D} {g} old new turn =
     ∥ ((served : Served new.hub)
     × HoldsAtEnds (AreKept served) (g.moment (device turn.driven.hub)) turn.drives.driven old.lingering.queue.items
@@ -116,7 +159,23 @@ LeavingsAreKept old new = (turn : IsTurn SocketsTell traffic_of old new) → Soc
 
 -- what a turn does to its hub is a run of the hub
 abbrev pub TurnsAreRuns : {D : Type 0} {g : Ghosts D} → Type 0 → (Socket → Traffic) → EventLoop D g → Type 0
-TurnsAreRuns {D} {g} tells traffic events = (old new : EventLoop D g) → IsTurn tells traffic old new → HasRun old.hub new.hub
+TurnsAreRuns {D} {g} tells traffic events = (old new : EventLoop D g) → IsTurn tells traffic old new
+    → HasRun old.hub new.hub
+
+-- In a turn a session that is ready once the poll told is driven, or it is ready still at the end of the turn, and the
+-- next of those that take turns is nearer to it: by at least one place of the 128 of the table.
+pub record IsDrivenSoon {D : Type 0} {g : Ghosts D} (tells : Type 0) (traffic : Socket
+    → Traffic) (old new : EventLoop D g) (turn : IsTurn tells traffic old new) (key : ℕ) : Type 0 where
+  pub soon : (is_ready_slot (slot_at turn.drives.ready key) ≡ true)
+      ⊎ ((behind new.turns.next key < behind old.turns.next key) × (is_ready_slot (slot_at new.table.slots key) ≡ true))
+  pub bound : behind old.turns.next key ≤ 128
+
+-- so it is of each session, in each turn: so each is driven within 128 turns
+abbrev pub EachHasItsTurn : {D : Type 0} {g : Ghosts D} → Type 0 → (Socket → Traffic) → EventLoop D g → Type 0
+EachHasItsTurn {D} {g} tells traffic events =
+    (old new : EventLoop D g) (turn : IsTurn tells traffic old new) (key : ℕ)
+    → is_ready_slot (after_poll (items new.poller.events) key (slot_at old.table.slots key)) ≡ true
+    → IsDrivenSoon tells traffic old new turn key
 
 -- does the loop know of work: of a step that is due, of input to drop, of a session that is ready?
 abbrev pub has_work : {D : Type 0} {g : Ghosts D} → EventLoop D g → Bool
@@ -126,10 +185,12 @@ has_work events = events.due || events.lingering.has_more || is_any_ready events
 abbrev pub turn_waits : {D : Type 0} {g : Ghosts D} → EventLoop D g → Option Duration → Option ℕ
 turn_waits events timeout = shorter (own_limit events.backlog (has_work events)) (nanos_of timeout)
 
--- A turn polls once, so long. There is room for an event of each session, of each connection that lingers, and of the
--- listener.
-pub record Waits {D A : Type 0} {g : Ghosts D} (timeout : Option Duration) (old : EventLoop D g) (result : Result A Error)
+-- A turn polls once, so long, and the system's poll was asked for that wait. There is room for an event of each
+-- session, of each connection that lingers, and of the listener.
+pub record Waits {D A : Type 0} {g : Ghosts D} (timeout : Option Duration) (old : EventLoop D g)
+    (result : Result A Error)
     (new : EventLoop D g) : Type 0 where
   pub told : polls_of new.poller ≡ after_wait result (polls_of old.poller)
   pub waited : nanos_of new.poller.waited ≡ turn_waits old timeout
+  pub asked : WasAskedOnce old.poller.poll new.poller.waited new.poller.poll
   pub room : 128 + 64 + 1 ≤ events_capacity new.poller.events

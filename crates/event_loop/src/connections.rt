@@ -9,16 +9,17 @@ ghost use Rattle.event_loop.specs.Leavings.{EndAll, EndsAt};
 ghost use Rattle.event_loop.specs.Lingerings.{lingers_in};
 ghost use Rattle.event_loop.specs.Numbers.{AreBelow};
 ghost use Rattle.event_loop.specs.Sockets.{IsNewSocket, SocketsTell, traffic_of};
-ghost use Rattle.event_loop.specs.Tables.{AcceptsInto, Comes, EachEnds, HaveEntries, after_poll, is_any_ready, is_ready as is_ready_in, slot_at, told};
+ghost use Rattle.event_loop.specs.Tables.{AcceptsInto, Comes, EachEnds, HaveEntries, after_poll, is_any_ready};
+ghost use Rattle.event_loop.specs.Tables.{is_ready as is_ready_in, slot_at, told};
 
 use crate::lingering::Lingering;
 use crate::listener::{AcceptAnswer, Listener};
 use crate::socket::Socket;
-use mio::net::TcpStream;
-use mio::{Events, Interest, Poll, Token, event};
+use mio::{Events, Token, event};
 use sector::Sectors;
 use sessions::{Event, Hub, Outcome, SESSIONS_MAX};
 use slab::Slab;
+use socket_calls::{AcceptedSocket, CountedPoll};
 use std::alloc::Global;
 use stream_driver::{BufferedStream, Entry, EntryState, Stream, end_drive};
 
@@ -90,7 +91,7 @@ pub(crate) fn make_polled_ready(events: &Events, table: &mut Slab<Entry<Buffered
 // Ends the drive of the entry at a key, if there is one, and takes it out if it is over.
 fn end_drive_at<D: Sectors>(
     device: &D,
-    poll: &Poll,
+    poll: &CountedPoll,
     key: usize,
     table: &mut Slab<Entry<BufferedStream<Socket>>>,
     lingering: &mut Lingering,
@@ -104,7 +105,7 @@ fn end_drive_at<D: Sectors>(
         return;
     }
     if let Some(entry) = table.try_remove(key) {
-        lingering.begin(poll, entry.stream.into_inner(), LINGERER);
+        lingering.begin(poll, entry.stream.into_inner());
     }
 }
 
@@ -113,7 +114,7 @@ fn end_drive_at<D: Sectors>(
 /// Connections that ended in good order linger, and the others are closed. Takes no memory.
 pub(crate) fn end_drives<D: Sectors>(
     device: &D,
-    poll: &Poll,
+    poll: &CountedPoll,
     table: &mut Slab<Entry<BufferedStream<Socket>>>,
     lingering: &mut Lingering,
 )
@@ -133,7 +134,7 @@ pub(crate) fn end_drives<D: Sectors>(
 /// table, and takes the memory of the sessions and of their streams.
 pub fn accept_some<D: Sectors, L: Listener>(
     alloc: Global,
-    poll: &Poll,
+    poll: &CountedPoll,
     listener: &mut L,
     hub: &mut Hub<D>,
     next: &mut u64,
@@ -154,7 +155,9 @@ pub fn accept_some<D: Sectors, L: Listener>(
     hub.runs_follow();
     for _accepted in 0..SESSIONS_MAX {
         match listener.accept() {
-            AcceptAnswer::Taken(stream) => admit(alloc, poll, stream, hub, next, refused, table),
+            AcceptAnswer::Taken(accepted) => {
+                admit(alloc, poll, accepted, hub, next, refused, table)
+            }
             AcceptAnswer::Blocked => return Backlog::Empty,
             AcceptAnswer::Failed => return Backlog::Failed,
         }
@@ -162,35 +165,34 @@ pub fn accept_some<D: Sectors, L: Listener>(
     Backlog::More
 }
 
-// The stream of a connection under this number, of which the poll tells under this key. It wasn't read or written, and sends what it takes
-// at once. None where memory, registration or a socket's option is refused.
+// The stream of a connection under this number, of which the poll tells under this key. It wasn't read or written, sends what it takes
+// at once, and ends where its peer vanishes. None where memory, registration or a socket's option is refused.
 fn prepare(
     alloc: Global,
-    poll: &Poll,
-    mut stream: TcpStream,
+    poll: &CountedPoll,
+    accepted: AcceptedSocket,
     number: u64,
     key: usize,
 ) -> Option<BufferedStream<Socket>>
-    ensures { IfSome result (IsNewSocket number) }
+    ensures { IfSome result (IsNewSocket key number) }
 {
-    let interest = Interest::READABLE | Interest::WRITABLE | Interest::PRIORITY;
-    poll.registry()
-        .register(&mut stream, Token(key), interest)
-        .ok()?;
-    let socket = Socket::new(stream, number);
+    let mut socket = Socket::new(accepted, number);
+    socket.register(poll, Token(key)).ok()?;
     socket.send_at_once().ok()?;
+    socket.ask_whether_there().ok()?;
     BufferedStream::new(alloc, socket).ok()
 }
 
-// A place in the table for the stream of a connection under this number. None where memory, registration or a socket's option is refused.
+// A place in the table for the stream of a connection under this number, of which the poll tells under the key of that place. None where
+// memory, registration or a socket's option is refused.
 fn make_place(
     alloc: Global,
-    poll: &Poll,
-    stream: TcpStream,
+    poll: &CountedPoll,
+    accepted: AcceptedSocket,
     number: u64,
     table: &mut Slab<Entry<BufferedStream<Socket>>>,
 ) -> Option<BufferedStream<Socket>>
-    ensures fresh { IfSome result (IsNewSocket number) }
+    ensures fresh { IfSome result (IsNewSocket table.new.vacant_key number) }
     ensures place { OnSome result (HasRoomFor table.new 1 × (table.new.vacant_key < 128)) }
     ensures slots { table.new.slots ≡ table.old.slots }
 {
@@ -199,15 +201,15 @@ fn make_place(
         return None;
     }
     table.reserve(1).ok()?;
-    prepare(alloc, poll, stream, number, key)
+    prepare(alloc, poll, accepted, number, key)
 }
 
 // A connection becomes a session. One for which there is no place, or that memory, registration or a socket's option is refused for, is
 // closed.
 fn admit<D: Sectors>(
     alloc: Global,
-    poll: &Poll,
-    stream: TcpStream,
+    poll: &CountedPoll,
+    accepted: AcceptedSocket,
     hub: &mut Hub<D>,
     next: &mut u64,
     refused: &mut u64,
@@ -220,7 +222,7 @@ fn admit<D: Sectors>(
     if session == u64::MAX || table.len() >= SESSIONS_MAX {
         return;
     }
-    let Some(stream) = make_place(alloc, poll, stream, session, table) else {
+    let Some(stream) = make_place(alloc, poll, accepted, session, table) else {
         *refused = refused.saturating_add(1);
         return;
     };

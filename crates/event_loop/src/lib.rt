@@ -2,12 +2,13 @@
 //!
 //! What the system's sockets do is left open: which bytes they move is a premise (`specs/Sockets.antt`). What a turn makes of the hub and
 //! the table, given what the poll told, stands in `specs/Turns.antt`: which entries become ready, that each that is ready is driven, which
-//! go, and which come. A turn polls once, by `Poller::wait`; that this calls the system's poll is to be read there.
+//! go, and which come. A turn polls once, by `CountedPoll::wait`; that this calls the system's poll is to be read there.
 #![tactic(auto)]
 
 mod connections;
 mod lingering;
 mod listener;
+mod order;
 mod polling;
 mod server;
 mod socket;
@@ -18,4 +19,5 @@ pub use lingering::{Dropped, LINGERING_BYTES, LINGERING_BYTES_A_TURN, LINGERING_
 pub use listener::{AcceptAnswer, Listener, Port};
 pub use server::EventLoop;
 pub use socket::Socket;
+pub use socket_calls::{AcceptedSocket, CountedPoll};
 pub use waiting::RETRY_AFTER_MILLIS;

@@ -9,9 +9,10 @@ ghost use Rattle.event_loop.specs.declared.lingering.TheConstants.{LINGERING_MAX
 ghost use Rattle.stream_driver.specs.Traffic.{DepartAt};
 ghost use Rattle.event_loop.specs.Drops.{GivesAtMost, WhyDropped};
 
+use crate::connections::LINGERER;
 use crate::socket::Socket;
-use mio::{Poll, Token};
 use sector::Sectors;
+use socket_calls::CountedPoll;
 use std::alloc::{AllocError, Global};
 use std::collections::VecDeque;
 use stream_driver::{ReadAnswer, Stream};
@@ -131,13 +132,13 @@ impl Lingering {
     }
 
     /// A connection's session has left. It lingers where it ended in good order, and else is closed. Takes no memory.
-    pub(crate) fn begin(&mut self, poll: &Poll, mut socket: Socket, token: Token)
+    pub(crate) fn begin(&mut self, poll: &CountedPoll, mut socket: Socket)
         ensures { Leaves socket (lingers_in self.old) (lingers_in self.new) }
     {
         if !socket.is_in_order() {
             return;
         }
-        if socket.half_close(poll, token).is_err() {
+        if socket.half_close(poll, LINGERER).is_err() {
             self.refused = self.refused.saturating_add(1);
             return;
         }

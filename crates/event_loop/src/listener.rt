@@ -1,8 +1,10 @@
 //! What connections come from.
+ghost use Rattle.std.specs.Prelude.{◌≡◌, IfOk};
+ghost use Rattle.socket_calls.specs.HappenedCalls.{IsAddressOf};
 ghost use Rattle.event_loop.specs.Outcomes.{AcceptsAs};
 
 use crate::socket::would_wait;
-use mio::net::{TcpListener, TcpStream};
+use socket_calls::{AcceptedSocket, ListeningSocket};
 use std::io;
 use std::net::SocketAddr;
 
@@ -10,7 +12,7 @@ use std::net::SocketAddr;
 #[derive(Drop)]
 pub enum AcceptAnswer {
     /// A connection was taken.
-    Taken(TcpStream),
+    Taken(AcceptedSocket),
     /// None waits now.
     Blocked,
     /// The call failed.
@@ -19,13 +21,12 @@ pub enum AcceptAnswer {
 
 /// A source of connections whose calls don't wait.
 ///
-/// What it has answered is counted by three counts, one of each answer. A count is a u64: it rises with its answer, and once it stands at
+/// How often it was asked is counted, and what it has answered by three counts, one of each answer. A count is a u64: once it stands at
 /// 2^64 - 1 it stays.
 pub trait Listener {
-    ghost use Rattle.std.specs.Prelude.{◌≡◌};
     ghost use Rattle.event_loop.specs.Accepts.{Accepts, after_accept};
 
-    /// How often each answer was given.
+    /// How often it was asked, and how often each answer was given.
     ghost accepts: { Self → Accepts };
 
     /// Takes the next connection that waits, or answers why none came. Takes no memory.
@@ -36,18 +37,18 @@ pub trait Listener {
 /// A listening TCP socket. It leaves open which connections it gives.
 #[derive(Drop)]
 pub struct Port {
-    listener: TcpListener,
+    listener: ListeningSocket,
     taken: u64,
     blocked: u64,
     failed: u64,
 }
 
 // What an accept answers where the system answers so.
-fn accept_answer(outcome: io::Result<(TcpStream, SocketAddr)>) -> AcceptAnswer
+fn accept_answer(outcome: io::Result<(AcceptedSocket, SocketAddr)>) -> AcceptAnswer
     ensures { AcceptsAs outcome result }
 {
     match outcome {
-        Ok((stream, _address)) => AcceptAnswer::Taken(stream),
+        Ok((accepted, _address)) => AcceptAnswer::Taken(accepted),
         Err(error) if would_wait(&error) => AcceptAnswer::Blocked,
         Err(_) => AcceptAnswer::Failed,
     }
@@ -55,7 +56,9 @@ fn accept_answer(outcome: io::Result<(TcpStream, SocketAddr)>) -> AcceptAnswer
 
 impl Port {
     /// The listener, of which nothing has been counted. Takes no memory.
-    pub fn new(listener: TcpListener) -> Port {
+    pub fn new(listener: ListeningSocket) -> Port
+        ensures { result.listener ≡ listener }
+    {
         Port {
             listener,
             taken: 0,
@@ -65,13 +68,15 @@ impl Port {
     }
 
     /// The address that it listens at. A fault is the system's. Takes no memory.
-    pub fn address(&self) -> io::Result<SocketAddr> {
-        self.listener.local_addr()
+    pub fn address(&self) -> io::Result<SocketAddr>
+        ensures { IfOk result (λ address. IsAddressOf self.now.listener address) }
+    {
+        self.listener.address()
     }
 }
 
 impl Listener for Port {
-    ghost accepts = { λ p. record { taken = p.taken; blocked = p.blocked; failed = p.failed } };
+    ghost accepts = { λ p. record { asked = p.listener.accepts; taken = p.taken; blocked = p.blocked; failed = p.failed } };
 
     fn accept(&mut self) -> AcceptAnswer {
         let answer = accept_answer(self.listener.accept());

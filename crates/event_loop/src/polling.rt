@@ -2,9 +2,10 @@
 ghost use Rattle.std.specs.Prelude.{◌≡◌};
 ghost use Rattle.std.specs.Prelude.{IfOk};
 ghost use Rattle.mio.specs.Events.{capacity as events_capacity};
-ghost use Rattle.event_loop.specs.Polls.{after_wait, polls_of};
+ghost use Rattle.event_loop.specs.Polls.{WasAskedOnce, after_wait, polls_of};
 
-use mio::{Events, Poll};
+use mio::Events;
+use socket_calls::CountedPoll;
 use std::alloc::{AllocError, Global};
 use std::io;
 use std::time::Duration;
@@ -15,7 +16,7 @@ use std::time::Duration;
 /// stays. The kind of the last fault is kept. It leaves open of what it tells.
 #[derive(Drop)]
 pub(crate) struct Poller {
-    poll: Poll,
+    poll: CountedPoll,
     events: Events,
     told: u64,
     failed: u64,
@@ -27,7 +28,11 @@ pub(crate) struct Poller {
 
 impl Poller {
     /// A poll of which nothing has been counted. It takes the memory for so many events.
-    pub(crate) fn new(alloc: Global, poll: Poll, capacity: usize) -> Result<Poller, AllocError>
+    pub(crate) fn new(
+        alloc: Global,
+        poll: CountedPoll,
+        capacity: usize,
+    ) -> Result<Poller, AllocError>
         ensures room { IfOk result (λ poller. events_capacity poller.events ≡ capacity) }
     {
         Ok(Poller {
@@ -41,7 +46,7 @@ impl Poller {
     }
 
     /// Where sources are registered. Takes no memory.
-    pub(crate) fn poll(&self) -> &Poll {
+    pub(crate) fn poll(&self) -> &CountedPoll {
         &self.poll
     }
 
@@ -57,10 +62,11 @@ impl Poller {
     pub(crate) fn wait(&mut self, timeout: Option<Duration>) -> io::Result<()>
         ensures polls { polls_of self.new ≡ after_wait result (polls_of self.old) }
         ensures waited { self.new.waited ≡ timeout }
+        ensures asked { WasAskedOnce self.old.poll self.new.waited self.new.poll }
         ensures room { events_capacity self.new.events ≡ events_capacity self.old.events }
     {
         self.waited = timeout;
-        match self.poll.poll(&mut self.events, timeout) {
+        match self.poll.wait(&mut self.events, timeout) {
             Ok(()) => {
                 self.told = self.told.saturating_add(1);
                 self.fault = None;

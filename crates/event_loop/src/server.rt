@@ -1,10 +1,10 @@
 //! The loop.
-ghost use Rattle.std.specs.Prelude.{◌+◌, ◌≤◌};
+ghost use Rattle.std.specs.Prelude.{◌+◌, ◌<◌, ◌≤◌};
 ghost use Rattle.mio.specs.Events.{capacity as events_capacity};
 ghost use Rattle.stream_driver.specs.Sessions.{Stands};
 ghost use Rattle.stream_driver.specs.Entries.{HaveSessions};
 ghost use Rattle.event_loop.specs.Departures.{IsServing};
-ghost use Rattle.event_loop.specs.Numbers.{AreBelow};
+ghost use Rattle.event_loop.specs.Numbers.{AreBelow, HavePlaces};
 ghost use Rattle.event_loop.specs.Tables.{HaveEntries};
 
 use crate::connections::{
@@ -12,14 +12,15 @@ use crate::connections::{
 };
 use crate::lingering::{LINGERING_MAX, Lingering};
 use crate::listener::Port;
+use crate::order::{Turns, each_comes_nearer, next_turns, take_turns};
 use crate::polling::Poller;
 use crate::socket::Socket;
 use crate::waiting::longest_wait;
-use mio::net::TcpListener;
-use mio::{Interest, Poll, Token};
+use mio::{Interest, Token};
 use sector::Sectors;
 use sessions::{Hub, SESSIONS_MAX};
 use slab::Slab;
+use socket_calls::{CountedPoll, ListeningSocket};
 use std::alloc::Global;
 use std::io;
 use std::net::{Net, SocketAddr};
@@ -28,6 +29,9 @@ use stream_driver::{BufferedStream, Entry, Stream, drive_ready};
 
 /// The token of the listener, which no key of the table is.
 const LISTENER: Token = Token(usize::MAX);
+
+/// How many bytes a turn asks for once it has given back what is due.
+const SPARE_BYTES: usize = 2_040;
 
 /// A listener, its connections, and the hub of their sessions.
 #[derive(Drop)]
@@ -44,6 +48,11 @@ pub struct EventLoop<D: Sectors> {
     next: u64,
     /// How many connections were turned away as memory, registration or an option of the socket was refused. It stays at 2^64 - 1.
     refused: u64,
+    /// Who of those that take turns had the last.
+    turns: Turns,
+    /// A block that is asked for anew at the end of each turn. The C library (glibc's `malloc_consolidate`) joins its small free blocks
+    /// where it is asked for 1,024 bytes or more: so each turn has it join what its own step gave back, and no request pays for many.
+    spare: Option<Vec<u8>>,
     table: Slab<Entry<BufferedStream<Socket>>>,
     ghost room: { 128 + 64 + 1 ≤ events_capacity poller.events },
     ghost stands: { Stands hub },
@@ -51,6 +60,9 @@ pub struct EventLoop<D: Sectors> {
     ghost sessions: { HaveSessions hub table.slots },
     ghost entries: { HaveEntries hub table.slots },
     ghost numbers: { AreBelow next table.slots },
+    ghost places: { HavePlaces table.slots },
+    ghost next_place: { turns.next < 128 },
+    ghost beside_place: { turns.beside < 128 },
 }
 
 impl<D: Sectors> EventLoop<D> {
@@ -61,11 +73,12 @@ impl<D: Sectors> EventLoop<D> {
     ghost use Rattle.sessions.specs.StandsFor.{StandsFor, device};
     ghost use Rattle.event_loop.specs.Departures.{KeepsWhatLeft};
     ghost use Rattle.event_loop.specs.Lingerings.{lingers_in, unless_failed};
-    ghost use Rattle.event_loop.specs.Loops.{HasItsSessions, hub_of};
+    ghost use Rattle.event_loop.specs.Loops.{HasItsSessions, IsAt, ListensFor, hub_of};
     ghost use Rattle.event_loop.specs.Sockets.{SocketsTell, traffic_of};
     ghost use Rattle.event_loop.specs.TableBytes.{ConnectionsSpeak, KeepBytes};
-    ghost use Rattle.event_loop.specs.Turns.{Accepted, DrivesAndEnds, IsGivenBack, IsTurn, IsUntouched, LeavingsAreKept};
-    ghost use Rattle.event_loop.specs.Turns.{TurnsAreRuns, Waits};
+    ghost use Rattle.event_loop.specs.Turns.{Accepted, DrivesAndEnds, IsGivenBack, IsTurn, IsUntouched};
+    ghost use Rattle.event_loop.specs.Turns.{LeavingsAreKept};
+    ghost use Rattle.event_loop.specs.Turns.{EachHasItsTurn, TurnsAreRuns, Waits};
     ghost use Rattle.event_loop.specs.Turns.{accepts_now, has_work, is_told_of, turn_waits};
     ghost use Rattle.event_loop.specs.Waits.{nanos_of};
 
@@ -80,13 +93,13 @@ impl<D: Sectors> EventLoop<D> {
         hub: Hub<D>,
     ) -> io::Result<EventLoop<D>>
         requires { IsOpened hub }
-        ensures { IfOk result (λ events. hub_of events ≡ hub) }
+        ensures hub { IfOk result (λ events. hub_of events ≡ hub) }
+        ensures listens { IfOk result (λ events. ListensFor events address) }
     {
         hub.runs_follow();
-        let poll = Poll::new(rt)?;
-        let mut listener = TcpListener::bind(rt, address)?;
-        poll.registry()
-            .register(&mut listener, LISTENER, Interest::READABLE)?;
+        let poll = CountedPoll::new(rt)?;
+        let mut listener = ListeningSocket::bind(rt, address)?;
+        listener.register(&poll, LISTENER, Interest::READABLE)?;
         let poller = Poller::new(alloc, poll, SESSIONS_MAX + LINGERING_MAX + 1)?;
         let lingering = Lingering::new(alloc)?;
         Ok(EventLoop {
@@ -99,12 +112,16 @@ impl<D: Sectors> EventLoop<D> {
             due: false,
             next: 0,
             refused: 0,
+            turns: Turns::new(),
+            spare: None,
             table: Slab::new(alloc),
         })
     }
 
     /// The address that it listens at. A fault is the system's. Takes no memory.
-    pub fn address(&self) -> io::Result<SocketAddr> {
+    pub fn address(&self) -> io::Result<SocketAddr>
+        ensures { IfOk result (λ address. IsAt self.now address) }
+    {
         self.port.address()
     }
 
@@ -122,14 +139,22 @@ impl<D: Sectors> EventLoop<D> {
         self.hub.stopped()
     }
 
-    /// One turn: polls, drives each session that is ready once, writes what their streams hold, takes out those that have left and hold
-    /// nothing, and accepts at most 128 connections, which the next turn drives.
+    /// One turn: polls, drives each session that is ready and whose turn it is once, writes what their streams hold, takes out those that
+    /// have left and hold nothing, and accepts at most 128 connections, which the next turn drives.
+    ///
+    /// It is the turn of each that has written nothing and whose last drive was short, of one at most that writes, and of one at most whose
+    /// last drive was heavy, as it took more than `LIGHT_MAX` bytes. So nobody waits for more than one of each. Those write whose open
+    /// transaction has written, or whose last drive appended a record. Of the two kinds together the next by key, round the table, has its
+    /// turn, and beside it one of the other kind; the rest are ready in the next turn, which doesn't wait. So each is driven within as many
+    /// turns as the table has places (`each_has_its_turn`). An append ends the share of its stream, so what comes behind it in one piece
+    /// waits for a turn as well.
     ///
     /// It drives before it accepts: so an event of this poll can't be taken for one of a connection that came since under the same key,
     /// and the places of those that left are free for those that come.
     ///
     /// At its end it gives back what no open transaction needs, a step of it (`Hub::reclaim_step`). So turns go on with that, also where no
-    /// session sends anything, until nothing is due.
+    /// session sends anything, until nothing is due. Then it asks for a block of `SPARE_BYTES` in place of the last such; a refusal of that
+    /// changes nothing.
     ///
     /// It waits for no more than `timeout`, without end where none is given. It doesn't wait at all where a session is still ready, where
     /// 128 connections were accepted last time, or where the turn before it has left old versions or runs that are due, or more input to
@@ -146,14 +171,15 @@ impl<D: Sectors> EventLoop<D> {
     /// table, and what the sessions' requests grow.
     ///
     /// The hub's events are those of the drives, each of its own session over its own stream, and then the joins of the accepts, and no
-    /// others: which entries are ready is what the poll reported. No entry is taken out but one whose session has left. Before the turn and
-    /// after it the entries that aren't gone are those of the hub's sessions, so that none is lost or made up.
+    /// others: which entries are ready is what the poll reported and whose turn it is. No entry is taken out but one whose session has
+    /// left. Before the turn and after it the entries that aren't gone are those of the hub's sessions, so that none is lost or made up.
     ///
     /// Whatever the connections send, and however their bytes are cut and interleaved, these events are one run of the hub. So
     /// every reply between a transaction's begin and its commit or abort is what a private copy of the map committed at its begin
     /// answers to its own requests alone, and the committed transactions, run one at a time in one order, give the same replies and the
     /// same final map. (Serializable snapshot isolation as in Cahill, Röhm and Fekete, SIGMOD 2008.) All turns since the opening are one
-    /// run, in which the hub after each event is known: a crash at any later moment leaves no map that is older than the one committed there.
+    /// run, in which the hub after each event is known: a crash at any later moment leaves no map that is older than the one committed
+    /// there.
     ///
     /// What left over a connection by the end of its part in the turn is kept as `keeps_what_left` has it, also where the turn took the
     /// connection out or closed it.
@@ -183,6 +209,14 @@ impl<D: Sectors> EventLoop<D> {
     pub fn turns_are_runs(&self)
         ensures runs { TurnsAreRuns ⟦<Socket as Stream>⟧.tells ⟦<Socket as Stream>⟧.traffic self.now }
     {}
+
+    /// Does nothing, and takes no memory. Its contract says that a session that is ready is driven within as many turns as the table has
+    /// places: in each turn it is driven, or it is ready still and comes nearer.
+    pub fn each_has_its_turn(&self)
+        ensures soon { EachHasItsTurn ⟦<Socket as Stream>⟧.tells ⟦<Socket as Stream>⟧.traffic self.now }
+    {
+        each_comes_nearer();
+    }
 
     /// Does nothing, and takes no memory. Its contract says what the connections say, under the premise that sockets tell the bytes that
     /// they move: the hub stands for a lawful state in which, for each connection whose session has not left, what came in over it since
@@ -219,12 +253,14 @@ impl<D: Sectors> EventLoop<D> {
         self.due || self.lingering.has_more() || any_ready(&self.table)
     }
 
-    // Gives back what no open transaction needs, a step of it.
+    // Gives back what no open transaction needs, a step of it, and has the C library join what was freed.
     fn give_back(&mut self)
         ensures gives_back { IsGivenBack self.old self.new }
         ensures poller { self.new.poller ≡ self.old.poller }
+        ensures turns { self.new.turns ≡ self.old.turns }
     {
         self.due = self.hub.reclaim_step();
+        self.spare = Vec::with_capacity(self.alloc, SPARE_BYTES).ok();
     }
 
     // Accepts connections, where the listener may hold more or the last poll told of it.
@@ -232,6 +268,7 @@ impl<D: Sectors> EventLoop<D> {
         ensures accepts { Accepted (accepts_now self.old.backlog (items self.old.poller.events)) self.old self.new }
         ensures lingerers { lingers_in self.new.lingering ≡ unless_failed self.new.backlog (lingers_in self.old.lingering) }
         ensures poller { self.new.poller ≡ self.old.poller }
+        ensures turns { self.new.turns ≡ self.old.turns }
     {
         if self.accepts_now() {
             self.accept();
@@ -243,6 +280,7 @@ impl<D: Sectors> EventLoop<D> {
         ensures accepts { Accepted true self.old self.new }
         ensures lingerers { lingers_in self.new.lingering ≡ unless_failed self.new.backlog (lingers_in self.old.lingering) }
         ensures poller { self.new.poller ≡ self.old.poller }
+        ensures turns { self.new.turns ≡ self.old.turns }
     {
         self.backlog = accept_some(
             self.alloc,
@@ -258,7 +296,7 @@ impl<D: Sectors> EventLoop<D> {
         }
     }
 
-    // Drives the sessions that are ready, those that the last poll told of among them.
+    // Drives the sessions that are ready and whose turn it is, those that the last poll told of among them.
     fn drive(&mut self)
         ensures drives { DrivesAndEnds ⟦<Socket as Stream>⟧.tells ⟦<Socket as Stream>⟧.traffic self.old self.new }
         ensures poller { self.new.poller ≡ self.old.poller }
@@ -269,6 +307,8 @@ impl<D: Sectors> EventLoop<D> {
         ensures keeps { KeepBytes self.old.hub self.old.table.slots self.new.hub self.new.table.slots }
     {
         make_polled_ready(self.poller.events(), &mut self.table);
+        self.turns = next_turns(&self.hub, &self.table, self.turns);
+        take_turns(&self.hub, self.turns, &mut self.table);
         drive_ready(&mut self.hub, &mut self.table);
         end_drives(
             self.hub.device(),

@@ -7,12 +7,20 @@ ghost use Rattle.stream_driver.specs.Traffic.{ReadsWithin, WritesWithin, bytes_r
 ghost use Rattle.socket_calls.specs.OpenFacts.{moved};
 ghost use Rattle.event_loop.specs.Outcomes.{ReadsAs, WritesAs};
 
-use mio::net::TcpStream;
-use mio::{Poll, Token};
+use mio::{Interest, Token};
 use sector::Sectors;
-use socket_calls::CountedSocket;
+use socket_calls::{AcceptedSocket, CountedPoll, CountedSocket};
 use std::io::{self, ErrorKind};
 use stream_driver::{CallCounts, ReadAnswer, Stream, WriteAnswer};
+
+/// For how many seconds a peer is silent before the system asks whether it is still there.
+const SILENT_SECONDS: u32 = 120;
+
+/// How many seconds lie between two such probes.
+const SECONDS_BETWEEN_PROBES: u32 = 30;
+
+/// How many of them go without an answer where the peer is gone.
+const PROBES: u32 = 4;
 
 /// A TCP connection as a stream. That its calls move the bytes that its traffic tells is a premise of whoever relies on it: neither
 /// claimed here nor denied. An interrupted call, and a write that takes no byte, are `Failed`; a read that gives none is `Ended`.
@@ -24,19 +32,28 @@ pub struct Socket {
 
 impl Socket {
     ghost use Rattle.stream_driver.specs.Traffic.{IsUncalled};
-    ghost use Rattle.std.specs.Prelude.{OnOk};
-    ghost use Rattle.socket_calls.specs.HappenedCalls.{SendsAtOnce};
+    ghost use Rattle.std.specs.Prelude.{IfErr, OnOk};
+    ghost use Rattle.socket_calls.specs.HappenedCalls.{AsksWhetherThere, SendsAtOnce, WasAnswered, WasRegistered};
     ghost use Rattle.event_loop.specs.Lingerings.{IsInOrder};
-    ghost use Rattle.event_loop.specs.Sockets.{SocketsTell, traffic_of};
+    ghost use Rattle.event_loop.specs.Sockets.{IsHalfClosed, SocketsTell, all_interests, traffic_of};
 
     /// The connection under this number, of which nothing has been counted. Takes no memory.
-    pub fn new(stream: TcpStream, connection: u64) -> Socket
+    pub fn new(accepted: AcceptedSocket, connection: u64) -> Socket
         ensures { IsUncalled SocketsTell connection (traffic_of result) }
     {
         Socket {
-            socket: CountedSocket::new(stream, connection),
+            socket: CountedSocket::new(accepted, connection),
             counts: CallCounts::new(),
         }
+    }
+
+    /// Has the poll tell under this token of what comes in, urgent bytes among it, and of room for what goes. Answers the system's error.
+    pub(crate) fn register(&mut self, poll: &CountedPoll, token: Token) -> io::Result<()>
+        ensures same { self.new ≡ self.old }
+        ensures registered { OnOk result (WasRegistered self.old.socket token all_interests) }
+    {
+        let interests = Interest::READABLE | Interest::WRITABLE | Interest::PRIORITY;
+        self.socket.register(poll, token, interests)
     }
 
     /// Has the system send what a write takes at once. Answers the system's error.
@@ -44,6 +61,15 @@ impl Socket {
         ensures { OnOk result (SendsAtOnce self.now.socket) }
     {
         self.socket.send_at_once()
+    }
+
+    /// Has the system ask the peer whether it is still there once it was silent for two minutes, and again each half minute: a peer that
+    /// vanished is gone for good at the fourth probe without an answer, four minutes after its last byte. Answers the system's error.
+    pub(crate) fn ask_whether_there(&self) -> io::Result<()>
+        ensures { OnOk result (AsksWhetherThere self.now.socket 120 30 4) }
+    {
+        self.socket
+            .ask_whether_there(SILENT_SECONDS, SECONDS_BETWEEN_PROBES, PROBES)
     }
 
     /// Has no call failed, and no read ended?
@@ -55,10 +81,13 @@ impl Socket {
     }
 
     /// Shuts the connection down for writing once what was written has gone, and has the poll tell under this token of what still comes.
-    pub(crate) fn half_close(&mut self, poll: &Poll, token: Token) -> io::Result<()>
-        ensures { self.new ≡ self.old }
+    pub(crate) fn half_close(&mut self, poll: &CountedPoll, token: Token) -> io::Result<()>
+        ensures same { self.new ≡ self.old }
+        ensures half_closed { OnOk result (IsHalfClosed token self.old.socket) }
+        ensures error { IfErr result (λ e. WasAnswered e) }
     {
-        self.socket.half_close(poll, token)
+        self.socket.end_writing()?;
+        self.socket.reregister(poll, token, Interest::READABLE)
     }
 }
 
@@ -98,9 +127,16 @@ fn write_answer(outcome: io::Result<usize>) -> WriteAnswer
 }
 
 impl Stream for Socket {
+    ghost use Rattle.std.specs.Prelude.{false};
     ghost use Rattle.event_loop.specs.Sockets.{SocketsTell, traffic_of};
 
     ghost tells = { SocketsTell };
+
+    ghost takes_at_most = { λ most s. Unit {0} };
+
+    ghost keeps_share = { ⊥ };
+
+    ghost is_told = { λ s. false };
 
     ghost traffic = { traffic_of };
 
@@ -115,5 +151,9 @@ impl Stream for Socket {
         let answer = write_answer(self.socket.write(device, from));
         self.counts.note_write(answer);
         answer
+    }
+
+    fn end_share(&mut self, reply: usize) {
+        let _ = reply;
     }
 }

@@ -1,8 +1,10 @@
--- The calls that runs of the program really made of a file, the last argument saying whether the call succeeded. They are left open, as
--- the facts of a file are. The lemmas are to be cited only of the call that a proof is about, by the answers in `proofs/` of this crate.
+-- The calls that runs of the program really made of a file, the last argument saying whether the call succeeded. They
+-- are left open, as the facts of a file are. The lemmas are to be cited only of the call that a proof is about, by the
+-- answers in `proofs/` of this crate.
 use Rattle.std.specs.Prelude.{ℕ, Bool, List, Result, Ok, Err, IfErr}
 use Rattle.std.specs.declared.io.Error.{Error}
-use Rattle.file_calls.specs.{declared.counted.CountedFile.CountedFile, declared.opened.OpenedFile.OpenedFile}
+use Rattle.file_calls.specs.declared.counted.CountedFile.{CountedFile}
+use Rattle.file_calls.specs.declared.opened.OpenedFile.{OpenedFile}
 
 -- a call of the system answered this error
 pub WasAnswered : Error → Type 0
@@ -24,7 +26,8 @@ WasOpenedToRead file path = Unit {0}
 pub HadLength : OpenedFile → ℕ → Type 0
 HadLength file bytes = Unit {0}
 
--- once it was open the directory of this path was synced, and that succeeded
+-- once it was open the directory of this path was synced, and where the path is a symbolic link that of the file that
+-- it leads to, and that succeeded
 pub HadNameSettled : OpenedFile → List ℕ → Type 0
 HadNameSettled file path = Unit {0}
 
@@ -43,6 +46,10 @@ WasWritten file offset bytes ok = Unit {0}
 -- its next call was a sync
 pub WasSynced : CountedFile → Bool → Type 0
 WasSynced file ok = Unit {0}
+
+-- it was closed, and none was made since its last call
+pub WasClosed : CountedFile → Type 0
+WasClosed file = Unit {0}
 
 pub real_error : {A : Type 0} (answer : Result A Error) → IfErr answer (λ e. WasAnswered e)
 unfolding WasAnswered
@@ -84,3 +91,7 @@ real_write file offset bytes ok = tt
 pub real_sync : (file : CountedFile) (ok : Bool) → WasSynced file ok
 unfolding WasSynced
 real_sync file ok = tt
+
+pub real_close : (file : CountedFile) → WasClosed file
+unfolding WasClosed
+real_close file = tt

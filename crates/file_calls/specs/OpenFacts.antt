@@ -1,6 +1,6 @@
--- The facts of a file as it stands after so many calls: what a read may give, what a crash may leave, the moment, and what a crash since
--- a moment may have left. They are left open: no definition here but `next` unfolds, and no lemma is about one, so that nothing can be
--- shown of them nor refuted. For a file that no run had, nothing may be read or left.
+-- The facts of a file as it stands after so many calls: what a read may give, what a crash may leave, the moment, and
+-- what a crash since a moment may have left. They are left open: no definition here but `next` unfolds, and no lemma is
+-- about one, so that nothing can be shown of them nor refuted. For a file that no run had, nothing may be read or left.
 use Rattle.std.specs.Prelude.{ℕ, ◌+◌, ◌-◌, ◌^◌, List, min}
 use Rattle.file_calls.specs.declared.counted.CountedFile.{CountedFile}
 

@@ -6,8 +6,8 @@ use std::io::{self, ErrorKind, Read};
 use std::os::unix::fs::FileExt;
 
 /// An open file of so many sectors, with the number of calls that were made of it. `read`, `write`, `write_zeros`, `sync` and `sync_all`
-/// make one call and count it. Once the count is 2^64 - 1 it stays, and they fail (`Other`) without a call, so that no two calls are made at
-/// one count.
+/// make one call and count it. Once the count is 2^64 - 1 it stays, and they fail (`Other`) without a call, so that no two calls are made
+/// at one count.
 #[derive(Drop)]
 pub struct CountedFile {
     file: OpenedFile,
@@ -16,7 +16,7 @@ pub struct CountedFile {
 }
 
 impl CountedFile {
-    ghost use Rattle.file_calls.specs.HappenedCalls.{WasAnswered, WasRead, WasWritten, WasSynced};
+    ghost use Rattle.file_calls.specs.HappenedCalls.{WasAnswered, WasClosed, WasRead, WasWritten, WasSynced};
     ghost use Rattle.file_calls.specs.OpenFacts.{next};
 
     /// An opened file, of so many sectors, of which no call was made. Takes no memory.
@@ -101,6 +101,13 @@ impl CountedFile {
     {
         self.count_call()?;
         self.file.file.sync_all()
+    }
+
+    /// Closes it, as its last call left it. Takes no memory.
+    pub fn close(self)
+        ensures { WasClosed self }
+    {
+        drop(self);
     }
 
     /// Counts a call; `Other` where no more can be counted.

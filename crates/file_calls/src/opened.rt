@@ -2,10 +2,11 @@
 ghost use Rattle.std.specs.Prelude.{IfErr, IfOk, OnOk};
 
 use std::fs::{self, File, OpenFile, OpenOptions};
-use std::io;
+use std::io::{self, ErrorKind};
 use std::os::fd::AsRawFd;
 use std::path::Path;
 use std::rt::Files;
+use std::str;
 use std::time::{Clock, SystemTime};
 
 /// A file that was opened, with the moment at which that was done.
@@ -17,7 +18,8 @@ pub struct OpenedFile {
 }
 
 impl OpenedFile {
-    ghost use Rattle.file_calls.specs.HappenedCalls.{WasAnswered, WasMade, WasOpened, WasOpenedToRead, HadLength, HadNameSettled, HadCopiesDropped};
+    ghost use Rattle.file_calls.specs.HappenedCalls.{WasAnswered, WasMade, WasOpened, WasOpenedToRead, HadLength};
+    ghost use Rattle.file_calls.specs.HappenedCalls.{HadNameSettled, HadCopiesDropped};
 
     /// Makes a new file, to be read and written. Answers the system's error, also where a file of this name exists. Takes no memory.
     pub fn make<R: Files<File = File> + Clock>(rt: &R, path: &str) -> io::Result<OpenedFile>
@@ -71,16 +73,18 @@ impl OpenedFile {
         Ok(self.file.metadata()?.len())
     }
 
-    /// Settles the names in the directory of this path, under which it was opened. Answers the system's error. Takes no memory.
+    /// Settles the names in the directory of this path, under which it was opened, and where that is a symbolic link those in the directory
+    /// of the file that it leads to as well. Answers the system's error. Takes no memory.
     pub fn settle_name<R: Files<File = File>>(&self, rt: &R, path: &str) -> io::Result<()>
         ensures settled { OnOk result (HadNameSettled self.now path.now) }
         ensures error { IfErr result (λ e. WasAnswered e) }
     {
-        let directory = match Path::new(path).parent() {
-            Some(parent) if !parent.as_str().is_empty() => parent,
-            _ => Path::new("."),
-        };
-        File::open(rt, directory)?.sync_all()
+        sync_directory_of(rt, path)?;
+        if !fs::symlink_metadata(rt, path)?.is_symlink() {
+            return Ok(());
+        }
+        let mut resolved = [0u8; libc::PATH_MAX];
+        sync_directory_of(rt, without_links(path, &mut resolved)?)
     }
 
     /// Asks the system to drop its copies of the file's pages, so that what is read next comes from the device; pages that wait to be
@@ -95,5 +99,26 @@ impl OpenedFile {
         } else {
             Err(io::Error::from_raw_os_error(advised))
         }
+    }
+}
+
+/// Syncs the directory in which this path names something. Answers the system's error.
+fn sync_directory_of<R: Files<File = File>>(rt: &R, path: &str) -> io::Result<()> {
+    let directory = match Path::new(path).parent() {
+        Some(parent) if !parent.as_str().is_empty() => parent,
+        _ => Path::new("."),
+    };
+    File::open(rt, directory)?.sync_all()
+}
+
+/// The path of the same file in which no name is a link. Answers the system's error, and `InvalidFilename` where it is no UTF-8.
+fn without_links<'a>(path: &str, resolved: &'a mut [u8; libc::PATH_MAX]) -> io::Result<&'a str> {
+    if os::realpath(path.as_bytes(), resolved) < 0 {
+        return Err(io::Error::from_raw_os_error(os::errno()));
+    }
+    let length = os::name_length(resolved);
+    match str::from_utf8(&resolved[..length]) {
+        Ok(name) => Ok(name),
+        Err(_) => Err(io::Error::from(ErrorKind::InvalidFilename)),
     }
 }

@@ -1,5 +1,13 @@
 -- The parts of a request, written one after the other.
-use Rattle.resp.proofs.Words.{common_steps, ◌≡◌, ℕ, ◌+◌, ◌<◌, ◌≤◌, List, ◌∷◌, ◌++◌, length, get_or, take, drop, map, sym, ap, ◌∙◌, append_assoc, arith, length-append, flat_map, Bor, decimal, append-nil, map-append, take_more, take-append-drop, flat_map-append, crlf, bulk, array_of_bulks}
+use Rattle.std.proofs.Common.{◌≡◌, ℕ, ◌+◌, ◌<◌, ◌≤◌, List, ◌∷◌, ◌++◌, length, get_or, take, drop, map, sym, ap, ◌∙◌}
+use Rattle.std.proofs.Common.{append_assoc, arith, length-append}
+use Rattle.std.proofs.lemmas.Grind.{common_steps}
+use Rattle.std.proofs.lemmas.List.{append-nil, map-append, take_more, take-append-drop}
+use Rattle.std.proofs.lemmas.List.Concat.{flat_map-append}
+use Rattle.std.specs.Borrow.{Bor}
+use Rattle.std.specs.Fmt.{decimal}
+use Rattle.std.specs.List.{flat_map}
+use Rattle.model.specs.Grammar.{crlf, bulk, array_of_bulks}
 
 -- the bytes of the parts
 abbrev pub bytes_of : List (Bor (List ℕ)) → List (List ℕ)
@@ -9,7 +17,8 @@ bytes_of parts = map (λ part. part.now) parts
 abbrev pub parts_text : ℕ → List (Bor (List ℕ)) → List ℕ
 parts_text n parts = (42 ∷ decimal n ++ crlf) ++ flat_map bulk (bytes_of parts)
 
-pub parts_more : (n : ℕ) (parts : List (Bor (List ℕ))) (i : ℕ) (d : Bor (List ℕ)) → i < length parts → parts_text n (take (i + 1) parts) ≡ parts_text n (take i parts) ++ bulk (get_or parts i d).now
+pub parts_more : (n : ℕ) (parts : List (Bor (List ℕ))) (i : ℕ) (d : Bor (List ℕ)) → i < length parts
+    → parts_text n (take (i + 1) parts) ≡ parts_text n (take i parts) ++ bulk (get_or parts i d).now
 parts_more n parts i d lt = grind (arith, common_steps, take_more, map-append, flat_map-append, append-nil, append_assoc)
 
 -- the line and all the parts are the request
@@ -27,4 +36,10 @@ parts_front n parts i =
     ap (λ (ps : List (Bor (List ℕ))). flat_map bulk (bytes_of ps)) (sym (take-append-drop i parts))
     ∙ ap (flat_map bulk) (map-append now front behind)
     ∙ flat_map-append bulk (bytes_of front) (bytes_of behind) in
-    omega (arith, ap length whole, length-append (flat_map bulk (bytes_of front)) (flat_map bulk (bytes_of behind)), length-append line (flat_map bulk (bytes_of parts)), length-append line (flat_map bulk (bytes_of front)))
+    omega (
+      arith,
+      ap length whole,
+      length-append (flat_map bulk (bytes_of front)) (flat_map bulk (bytes_of behind)),
+      length-append line (flat_map bulk (bytes_of parts)),
+      length-append line (flat_map bulk (bytes_of front)),
+    )

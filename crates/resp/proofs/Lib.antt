@@ -8,4 +8,4 @@ pub mod GivenPairs
 pub mod GivenParts
 pub mod Lent
 pub mod Limits
-pub mod Words
+pub mod Replies

@@ -1,9 +1,14 @@
 -- The number whose decimal some digits are.
-use Rattle.resp.proofs.Words.{common_steps, ◌≡◌, ℕ, zero, suc, ◌<◌, ◌≤◌, ◌^◌, List, Some, None, refl, sym, ap, ◌∙◌, arith, decimal, decimal_injective, cases_Bool}
-use Rattle.std.specs.Prelude.{Result, Ok, Err}
-use Rattle.std.proofs.lemmas.Slice.Eq.{bytes_eq-Decides}
-use Rattle.model.specs.{declared.refusals.Refusal.Refusal, CommandTable.number_up_to, CommandTable.or_limit, CommandTable.limit_in}
 use Rattle.model.specs.declared.refusals.Refusal.TheVariants as refusals
+use Rattle.std.proofs.Common.{◌≡◌, ℕ, zero, suc, ◌<◌, ◌≤◌, ◌^◌, List, Some, None, refl, sym, ap, ◌∙◌, arith}
+use Rattle.std.proofs.lemmas.Bool.{cases_Bool}
+use Rattle.std.proofs.lemmas.Fmt.{decimal_injective}
+use Rattle.std.proofs.lemmas.Grind.{common_steps}
+use Rattle.std.proofs.lemmas.Slice.Eq.{bytes_eq-Decides}
+use Rattle.std.specs.Fmt.{decimal}
+use Rattle.std.specs.Prelude.{Result, Ok, Err}
+use Rattle.model.specs.CommandTable.{number_up_to, or_limit, limit_in}
+use Rattle.model.specs.declared.refusals.Refusal.{Refusal}
 
 number_found : (most n : ℕ) (digits : List ℕ) → most < 2 ^ 64 → 1 ≤ n → n ≤ most → digits ≡ decimal n → number_up_to most digits ≡ Some n
 unfolding number_up_to
@@ -14,7 +19,8 @@ number_found (suc most) n digits small some le e =
 number_absent : (most : ℕ) (digits : List ℕ) → ((n : ℕ) → 1 ≤ n → n ≤ most → digits ≡ decimal n → ⊥) → number_up_to most digits ≡ None
 unfolding number_up_to
 number_absent zero digits none = refl
-number_absent (suc most) digits none = grind (arith, common_steps, cases_Bool, bytes_eq-Decides, number_absent most digits (λ n some le e. none n some (omega arith) e))
+number_absent (suc most) digits none =
+    grind (arith, common_steps, cases_Bool, bytes_eq-Decides, number_absent most digits (λ n some le e. none n some (omega arith) e))
 
 abbrev given : ℕ → Result ℕ Refusal
 given n = Ok n

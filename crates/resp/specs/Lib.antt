@@ -3,3 +3,4 @@ pub mod Reading
 pub mod Answers
 pub mod Meaning
 pub mod Writing
+pub mod Replies

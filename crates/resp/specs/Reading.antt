@@ -1,7 +1,9 @@
 -- What a reader of the front of some bytes answers, measured by a grammar, which says which texts have which values.
+use Rattle.std.specs.Borrow.{Bor}
+use Rattle.std.specs.Fmt.{decimal}
 use Rattle.std.specs.Prelude.{◌≡◌, ℕ, ◌≤◌, List, ◌++◌, length, Result, Ok, Err}
-use Rattle.std.specs.{Borrow.Bor, Fmt.decimal}
-use Rattle.model.specs.{Bounds.value_max, Grammar.crlf, Grammar.bulk, Grammar.IsPart}
+use Rattle.model.specs.Bounds.{value_max}
+use Rattle.model.specs.Grammar.{crlf, bulk, IsPart}
 pub use Rattle.resp.specs.declared.decoding.Stop.{Stop}
 pub use Rattle.resp.specs.declared.decoding.Stop.TheVariants.{More, Bad}
 

@@ -1,10 +1,20 @@
 -- What a writer of some text leaves.
-use Rattle.std.specs.Prelude.{◌≡◌, ℕ, ◌+◌, ◌≤◌, Option, List, [], ◌++◌, length, vec_len, vec_capacity, Result, OnOk, OnErr, IsOk}
-use Rattle.std.specs.{Global.Vec, List.flat_map, Borrow.Bor, Fmt.decimal, Iterator.AlwaysYields}
-use Rattle.model.specs.{declared.refusals.Memory.Memory, declared.refusals.Refusal.Refusal, declared.keys.KeyRef.KeyRef, declared.commands.Reply.Reply}
-use Rattle.model.specs.{declared.refusals.Refusal.TheVariants.Overwritten, declared.refusals.Refusal.TheVariants.Pivot, KeyBytes.pair_bytes, Operations.Response.Pairs}
 use Rattle.model.specs.declared.commands.Reply.TheVariants as replies
+use Rattle.std.specs.Borrow.{Bor}
+use Rattle.std.specs.Fmt.{decimal}
+use Rattle.std.specs.Global.{Vec}
+use Rattle.std.specs.Iterator.{AlwaysYields}
+use Rattle.std.specs.List.{flat_map}
+use Rattle.std.specs.Prelude.{◌≡◌, ℕ, ◌+◌, ◌≤◌, Option, List, [], ◌++◌, length, vec_len, vec_capacity, Result, OnOk}
+use Rattle.std.specs.Prelude.{OnErr, IsOk}
+use Rattle.model.specs.KeyBytes.{pair_bytes}
+use Rattle.model.specs.Operations.Response.{Pairs}
 use Rattle.model.specs.ReplyText.{reply_text, hex_text}
+use Rattle.model.specs.declared.commands.Reply.{Reply}
+use Rattle.model.specs.declared.keys.KeyRef.{KeyRef}
+use Rattle.model.specs.declared.refusals.Memory.{Memory}
+use Rattle.model.specs.declared.refusals.Refusal.{Refusal}
+use Rattle.model.specs.declared.refusals.Refusal.TheVariants.{Overwritten, Pivot}
 
 -- the text stands at the end of new, or new has what old had; it is never refused where old has the room
 pub record Appends (old new : Vec ℕ) (text : List ℕ) (result : Result (Unit {0}) Memory) : Type 0 where
@@ -24,11 +34,13 @@ detail (Pivot n) = decimal n
 detail other = []
 
 -- every run of calls from pairs gives lent pairs with these bytes, n of them, and then `None`
-abbrev pub GivesPairs : {S : Type 0} → (S → Option (KeyRef × Bor (List ℕ)) → S → Type 0) → S → ℕ → List (List ℕ × List ℕ) → Type 0
+abbrev pub GivesPairs : {S : Type 0} → (S → Option (KeyRef × Bor (List ℕ)) → S → Type 0) → S → ℕ
+    → List (List ℕ × List ℕ) → Type 0
 GivesPairs steps pairs n all = (length all ≡ n) × AlwaysYields steps pair_bytes pairs all
 
 -- so it is of the text of the n pairs that the calls give
-abbrev pub OfText : {S : Type 0} → (S → Option (KeyRef × Bor (List ℕ)) → S → Type 0) → S → ℕ → (List ℕ → Type 0) → Type 0
+abbrev pub OfText : {S : Type 0} → (S → Option (KeyRef × Bor (List ℕ)) → S → Type 0) → S → ℕ → (List ℕ → Type 0)
+    → Type 0
 OfText steps pairs n P = (all : List (List ℕ × List ℕ)) → GivesPairs steps pairs n all → P (reply_text (Pairs all))
 
 -- any reply but a value

@@ -4,7 +4,8 @@ ghost use Rattle.std.specs.Str.{str_eq_ignore_ascii_case};
 ghost use Rattle.model.specs.KeyBytes.{key_bytes, end_bytes};
 ghost use Rattle.model.specs.Operations.{operation_of, IsFit};
 ghost use Rattle.resp.specs.Meaning.{Means};
-ghost use Rattle.model.specs.CommandTable.{arity, key_in, end_in, limit_in, alone_in, get_in, set_in, del_in, range_in, command_in};
+ghost use Rattle.model.specs.CommandTable.{arity, key_in, end_in, limit_in, alone_in, get_in, set_in, del_in};
+ghost use Rattle.model.specs.CommandTable.{range_in, command_in};
 
 use crate::decoding::read_decimal;
 use crate::parts::Request;

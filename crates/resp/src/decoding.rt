@@ -1,5 +1,6 @@
 //! The request at the front of the input.
-ghost use Rattle.std.specs.Prelude.{◌≡◌, ◌≤◌, ◌<◌, ◌+◌, ◌^◌, ◌↔◌, ◌∷◌, ◌++◌, [], ℕ, List, length, take, slice_index, MatchOption, EachIndex};
+ghost use Rattle.std.specs.Prelude.{◌≡◌, ◌≤◌, ◌<◌, ◌+◌, ◌^◌, ◌↔◌, ◌∷◌, ◌++◌, [], ℕ, List, length, take, slice_index};
+ghost use Rattle.std.specs.Prelude.{MatchOption, EachIndex};
 ghost use Rattle.std.specs.Fmt.{decimal};
 ghost use Rattle.model.specs.Grammar.{crlf, bulk, IsRequest, Spells, FrontSpells, IsProperBeginning, OneSpelling};
 ghost use Rattle.resp.specs.Reading.{Reads, Passes, LengthLine, CountLine, PartText};

@@ -1,4 +1,4 @@
-//! The wire format: requests are decoded, read as commands, and replies are written.
+//! The wire format: requests are decoded and read as commands, and replies are written, each so that it is read in one way.
 #![tactic(auto)]
 
 mod commands;
@@ -10,5 +10,5 @@ pub use commands::command;
 pub use decoding::{Decoded, decode, one_spelling, read_decimal};
 pub use parts::Request;
 pub use writing::{
-    BRIEF_MAX, write_array_line, write_pair, write_pairs, write_reply, write_request,
+    BRIEF_MAX, one_reading, write_array_line, write_pair, write_pairs, write_reply, write_request,
 };

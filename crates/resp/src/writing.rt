@@ -1,5 +1,6 @@
 //! The text of a reply.
-ghost use Rattle.std.specs.Prelude.{◌≡◌, ◌≤◌, ◌<◌, ◌+◌, ◌*◌, ◌++◌, ◌∷◌, [], ℕ, List, length, map, vec_len, vec_capacity, OnOk, OnErr, IsOk, codes};
+ghost use Rattle.std.specs.Prelude.{◌≡◌, ◌≤◌, ◌<◌, ◌+◌, ◌*◌, ◌++◌, ◌∷◌, [], ℕ, List, length, map, vec_len};
+ghost use Rattle.std.specs.Prelude.{vec_capacity, OnOk, OnErr, IsOk, codes};
 ghost use Rattle.std.specs.List.{flat_map};
 ghost use Rattle.std.specs.Iterator.{IsFinite};
 ghost use Rattle.std.specs.Fmt.{decimal};
@@ -8,6 +9,7 @@ ghost use Rattle.model.specs.Key.{IsKey};
 ghost use Rattle.model.specs.Operations.{response_of};
 ghost use Rattle.model.specs.Operations.Response.{Refused};
 ghost use Rattle.model.specs.ReplyText.{reply_text, refusal_text, hex_text};
+ghost use Rattle.resp.specs.Replies.{FirstReplies, OneReading};
 ghost use Rattle.resp.specs.Writing.{Appends, GivesPairs, IsBrief, OfText, joined, detail};
 
 use model::{KeyRef, Memory, Refusal, Reply};
@@ -204,3 +206,10 @@ pub fn write_request(out: &mut Vec<u8>, parts: &[&[u8]]) -> Result<(), Memory>
     }
     Ok(())
 }
+
+/// No reply's text begins another's, whatever follows either of them, and each is the text of one reply alone. So a client that reads one
+/// reply after another finds what was answered, and never takes the first bytes of one for another.
+pub fn one_reading()
+    ensures replies { OneReading }
+    ensures stream { FirstReplies }
+{}

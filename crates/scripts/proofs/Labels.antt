@@ -1,5 +1,7 @@
 -- The session of a label.
-use Rattle.scripts.proofs.Words.{◌≡◌, ℕ, ◌∷◌, [], ◌++◌, length, Some, None, sym, ap, ◌∙◌, Joins, Scene, place_of, session_at, session_of, welcome, with_label, IsCrowded, after}
+use Rattle.std.proofs.Common.{◌≡◌, ℕ, ◌∷◌, [], ◌++◌, length, Some, None, sym, ap, ◌∙◌}
+use Rattle.sessions.specs.SessionStreams.{Joins}
+use Rattle.scripts.specs.Transcript.{Scene, place_of, session_at, session_of, welcome, with_label, IsCrowded, after}
 
 module _ (scene : Scene) (label : ℕ) where
   module _ (s : ℕ) (known : place_of scene.labels label ≡ Some s) where

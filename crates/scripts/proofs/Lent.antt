@@ -1,5 +1,10 @@
 -- The words of a line, lent from its text, and the parts that they stand for.
-use Rattle.scripts.proofs.Words.{◌≡◌, ◌<◌, ◌≤◌, ◌+◌, ◌-◌, [], ◌∷◌, ◌++◌, List, ℕ, length, take, drop, map, set, get_or, ap, sym, refl, ◌∙◌, arith, Bor, take_more, take_all, length-map, length-set, map-append, take-map, drop-take, lent, lent_more, part_of}
+use Rattle.std.proofs.Common.{◌≡◌, ◌<◌, ◌≤◌, ◌+◌, ◌-◌, [], ◌∷◌, ◌++◌, List, ℕ, length, take, drop, map, set, get_or}
+use Rattle.std.proofs.Common.{ap, sym, refl, ◌∙◌, arith}
+use Rattle.std.proofs.lemmas.List.{take_more, take_all, length-map, length-set, map-append, take-map, drop-take}
+use Rattle.std.specs.Borrow.{Bor}
+use Rattle.resp.proofs.Lent.{lent, lent_more}
+use Rattle.scripts.specs.Lines.{part_of}
 
 -- what a word stands for
 abbrev pub lent_part : Bor (List ℕ) → List ℕ
@@ -10,7 +15,8 @@ pub record ArePartsTo (words parts : List (Bor (List ℕ))) (i : ℕ) : Type 0 w
   pub long : length parts ≡ length words
   pub front : take i (map lent parts) ≡ map lent_part (take i words)
 
-pub parts_more : (words parts : List (Bor (List ℕ))) (i : ℕ) (d part : Bor (List ℕ)) → ArePartsTo words parts i → i < length words → part.now ≡ part_of (get_or words i d).now → ArePartsTo words (set parts i part) (i + 1)
+pub parts_more : (words parts : List (Bor (List ℕ))) (i : ℕ) (d part : Bor (List ℕ)) → ArePartsTo words parts i → i < length words
+    → part.now ≡ part_of (get_or words i d).now → ArePartsTo words (set parts i part) (i + 1)
 parts_more words parts i d part h lt e = record {
   long = length-set parts i part ∙ h.long;
   front =
@@ -33,7 +39,8 @@ parts_of_words [] = refl
 parts_of_words (word ∷ words) = ap (λ (parts : List (List ℕ)). lent_part word ∷ parts) (parts_of_words words)
 
 -- the parts behind the first stand in place of the words behind the first
-pub parts_behind : (words parts : List (Bor (List ℕ))) (count : ℕ) (view : List (List ℕ)) → map lent parts ≡ map lent_part words → take count (map lent words) ≡ view → 1 ≤ count
+pub parts_behind : (words parts : List (Bor (List ℕ))) (count : ℕ) (view : List (List ℕ)) → map lent parts ≡ map lent_part words
+    → take count (map lent words) ≡ view → 1 ≤ count
     → map lent (take (count - 1) (drop 1 parts)) ≡ map part_of (drop 1 view)
 parts_behind words parts count view are seen some =
     let k = count - 1 in

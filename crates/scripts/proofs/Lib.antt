@@ -6,4 +6,3 @@ pub mod Steps
 pub mod Reading
 pub mod Runs
 pub mod Writing
-pub mod Words

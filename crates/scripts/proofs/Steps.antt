@@ -1,7 +1,11 @@
 -- The events of a script, and what they leave to choose.
-use Rattle.scripts.proofs.Words.{◌≡◌, ◌≢◌, ℕ, false, refl, ap, Bytes, HubState, Joins, Receives, Sends, More, Choice, join, hub_step, granted}
-use Rattle.sessions.specs.{declared.events.Outcome.Outcome, Calls.is_memory}
+use Rattle.std.proofs.Common.{◌≡◌, ◌≢◌, ℕ, false, refl, ap}
+use Rattle.model.specs.Map.{Bytes}
+use Rattle.sessions.specs.Calls.{is_memory}
+use Rattle.sessions.specs.SessionStreams.{HubState, Joins, Receives, Sends, More, Choice, join, hub_step}
+use Rattle.sessions.specs.declared.events.Outcome.{Outcome}
 use Rattle.sessions.specs.declared.events.Outcome.TheVariants.{Done, Unknown, Crowded, Idle, NoRoom, BadCount, Memory}
+use Rattle.scripts.specs.Transcript.{granted}
 
 pub receives_alike : (h : HubState) (s : ℕ) (piece : Bytes) (c d : Choice) → hub_step h (Receives s piece) c ≡ hub_step h (Receives s piece) d
 unfolding hub_step

@@ -1,8 +1,11 @@
 -- The lines of a text, taken off its front.
-use Rattle.scripts.proofs.Words.{◌≡◌, ◌-◌, List, ℕ, suc, [], ◌∷◌, length, take, get_or, Bool, true, false, cond, ltb, ap, sym, refl, ◌∙◌, arith, onto_first, take_through, drop_through, strip_last, first_piece, lines_of}
-use Rattle.std.proofs.Common.{eqb}
-use Rattle.std.specs.Prelude.{◌≢◌}
+use Rattle.std.proofs.Common.{◌≡◌, ◌-◌, List, ℕ, suc, [], ◌∷◌, length, take, get_or, Bool, true, false, cond, ltb, ap}
+use Rattle.std.proofs.Common.{sym, refl, ◌∙◌, arith, eqb}
 use Rattle.std.proofs.lemmas.Bool.{lt-ltb}
+use Rattle.std.specs.Io.BufRead.{take_through, drop_through, strip_last, first_piece}
+use Rattle.std.specs.List.{onto_first}
+use Rattle.std.specs.Prelude.{◌≢◌}
+use Rattle.scripts.specs.Lines.{lines_of}
 
 onto_both : (b : Bool) (x : ℕ) (xs ys : List ℕ) → cond b (x ∷ xs) (x ∷ ys) ≡ x ∷ cond b xs ys
 onto_both true x xs ys = refl
@@ -25,7 +28,8 @@ strip_by true x y ys = strip_more x y []
 strip_by false x y ys = strip_more x y ys
 
 first_by : (b : Bool) (x y : ℕ) (ys : List ℕ) → eqb x 10 ≡ b → lines_of (y ∷ ys) ≡ first_piece 10 (y ∷ ys) ∷ lines_of (drop_through 10 (y ∷ ys))
-    → cond b ([] ∷ lines_of (y ∷ ys)) (onto_first x (lines_of (y ∷ ys))) ≡ strip_last 10 (cond b (x ∷ []) (x ∷ take_through 10 (y ∷ ys))) ∷ lines_of (cond b (y ∷ ys) (drop_through 10 (y ∷ ys)))
+    → cond b ([] ∷ lines_of (y ∷ ys)) (onto_first x (lines_of (y ∷ ys)))
+    ≡ strip_last 10 (cond b (x ∷ []) (x ∷ take_through 10 (y ∷ ys))) ∷ lines_of (cond b (y ∷ ys) (drop_through 10 (y ∷ ys)))
 first_by true x y ys e more = ap (λ (line : List ℕ). line ∷ lines_of (y ∷ ys)) (sym (one_byte true x e))
 first_by false x y ys e more =
     ap (onto_first x) more ∙ ap (λ (line : List ℕ). line ∷ lines_of (drop_through 10 (y ∷ ys))) (sym (strip_by (eqb y 10) x y (take_through 10 ys)))

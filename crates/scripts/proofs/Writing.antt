@@ -1,5 +1,9 @@
 -- What a writer took so far.
-use Rattle.scripts.proofs.Words.{◌≡◌, ℕ, [], ◌∷◌, ◌++◌, length, take, drop, Option, refl, sym, ap, subst, ◌∙◌, append_assoc, arith, append-nil, take-append-drop, Appends, Keeps, Bytes}
+use Rattle.std.proofs.Common.{◌≡◌, ℕ, [], ◌∷◌, ◌++◌, length, take, drop, Option, refl, sym, ap, subst, ◌∙◌}
+use Rattle.std.proofs.Common.{append_assoc, arith}
+use Rattle.std.proofs.lemmas.List.{append-nil, take-append-drop}
+use Rattle.std.specs.Io.KnownBytes.{Appends, Keeps}
+use Rattle.model.specs.Map.{Bytes}
 use Rattle.scripts.proofs.Runs.{appends_nothing, appends_then, keeps_on}
 
 -- it took the first bytes, and `rest` is left
@@ -10,7 +14,8 @@ pub written_none : (held : Option Bytes) (bytes : Bytes) → Written held held b
 written_none held bytes = ([], refl, appends_nothing held)
 
 -- it took more of them
-pub written_more : (a b c : Option Bytes) (bytes rest left : Bytes) (n : ℕ) → left ≡ drop n rest → Appends b c (take n rest) → Written a b bytes rest → Written a c bytes left
+pub written_more : (a b c : Option Bytes) (bytes rest left : Bytes) (n : ℕ) → left ≡ drop n rest → Appends b c (take n rest) → Written a b bytes rest
+    → Written a c bytes left
 written_more a b c bytes rest left n is more w = (
   w.0 ++ take n rest,
   w.1 ∙ ap (λ l. w.0 ++ l) (sym (take-append-drop n rest)) ∙ sym (append_assoc w.0 (take n rest) (drop n rest)) ∙ ap (λ l. w.0 ++ take n rest ++ l) (sym is),

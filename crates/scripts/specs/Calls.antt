@@ -1,13 +1,19 @@
 -- What the calls of a script do.
-use Rattle.std.specs.Prelude.{◌≡◌, ◌≢◌, ℕ, ◌+◌, Bool, true, false, List, [], ◌++◌, length, Option, Some, None, IfSome, Result, Ok, Err, IfOk, MatchResult}
-use Rattle.std.specs.{Io.BufRead.first_piece, Io.BufRead.drop_through, Io.KnownBytes.Appends}
-use Rattle.sector.specs.declared.device.Sectors.{Ghosts}
+use Rattle.std.specs.Io.BufRead.{first_piece, drop_through}
+use Rattle.std.specs.Io.KnownBytes.{Appends}
+use Rattle.std.specs.Prelude.{◌≡◌, ◌≢◌, ℕ, ◌+◌, Bool, true, false, List, [], ◌++◌, length, Option, Some, None, IfSome}
+use Rattle.std.specs.Prelude.{Result, Ok, Err, IfOk, MatchResult}
 use Rattle.model.specs.Map.{Bytes}
-use Rattle.sessions.specs.{declared.hub.Hub.Hub, StandsFor.StandsFor, StandsFor.status_in}
+use Rattle.sector.specs.declared.device.Sectors.{Ghosts}
 use Rattle.sessions.specs.SessionStreams.{HubState, Serves, Front, IsPossible, hub_step, stream_of}
-use Rattle.scripts.specs.{declared.faults.ScriptFault.ScriptFault, declared.playing.Script.Script, Lines.ScriptLine, Lines.IsLine, Lines.lines_of}
+use Rattle.sessions.specs.StandsFor.{StandsFor, status_in}
+use Rattle.sessions.specs.declared.hub.Hub.{Hub}
+use Rattle.scripts.specs.Lines.{ScriptLine, IsLine, lines_of}
+use Rattle.scripts.specs.Transcript.{Scene, granted, session_of, with_label, IsCrowded, AppendsPart, PrintsIn}
+use Rattle.scripts.specs.Transcript.{TextPrints, Transcript, IsBad, NamesOneTooMany}
+use Rattle.scripts.specs.declared.faults.ScriptFault.{ScriptFault}
 use Rattle.scripts.specs.declared.faults.ScriptFault.TheVariants.{BadLine, Crowded, File, Log, Memory}
-use Rattle.scripts.specs.Transcript.{Scene, granted, session_of, with_label, IsCrowded, AppendsPart, PrintsIn, TextPrints, Transcript, IsBad, NamesOneTooMany}
+use Rattle.scripts.specs.declared.playing.Script.{Script}
 
 -- the code's script is at this scene
 pub record IsAt {D : Type 0} {g : Ghosts D} (script : Script D g) (scene : Scene) : Type 0 where
@@ -20,7 +26,8 @@ AtScene script So = (scene : Scene) → IsAt script scene → So scene
 
 -- the first line was read without its end, and what is behind it is left; or there was none
 abbrev pub ReadsLine : Bytes → Bool → Bytes → Option Bytes → Type 0
-ReadsLine script true text left = (script ≢ []) × (text ≡ first_piece 10 script) × (left ≡ Some (drop_through 10 script))
+ReadsLine script true text left =
+    (script ≢ []) × (text ≡ first_piece 10 script) × (left ≡ Some (drop_through 10 script))
 ReadsLine script false text left = script ≡ []
 
 -- a line of a reader was read, where the bytes that it has left are known
@@ -29,12 +36,14 @@ ReadsNext known result text left = IfSome known (λ script. IfOk result (λ some
 
 -- the session of a label was found, or there is no place for one more
 abbrev pub Finds : {D : Type 0} {g : Ghosts D} → Scene → ℕ → Option ℕ → Script D g → Type 0
-Finds old label (Some s) script = (s ≡ session_of old.labels label) × (IsCrowded old label → ⊥) × IsAt script (with_label old label)
+Finds old label (Some s) script =
+    (s ≡ session_of old.labels label) × (IsCrowded old label → ⊥) × IsAt script (with_label old label)
 Finds old label None script = IsCrowded old label × IsAt script old
 
 -- it was looked for: memory may be refused where it has a place
 abbrev pub LooksFor : {D : Type 0} {g : Ghosts D} → Scene → ℕ → Result (Option ℕ) ScriptFault → Script D g → Type 0
-LooksFor old label result script = MatchResult result (λ found. Finds old label found script) (λ fault. (fault ≡ Memory) × (IsCrowded old label → ⊥))
+LooksFor old label result script =
+    MatchResult result (λ found. Finds old label found script) (λ fault. (fault ≡ Memory) × (IsCrowded old label → ⊥))
 
 -- a request of the session was served, where memory was granted
 pub record Served {D : Type 0} {g : Ghosts D} (hub : Hub D g) (old : HubState) (s : ℕ) : Type 0 where
@@ -49,10 +58,12 @@ ServesOrNot old s result hub = MatchResult result (λ _. Served hub old s) (λ f
 
 -- the bytes were written, or a beginning of them was and the writer failed
 abbrev pub Writes : Bytes → Result (Unit {0}) ScriptFault → Option Bytes → Option Bytes → Type 0
-Writes bytes result before after = MatchResult result (λ _. Appends before after bytes) (λ fault. (fault ≡ File) × AppendsPart before after bytes)
+Writes bytes result before after =
+    MatchResult result (λ _. Appends before after bytes) (λ fault. (fault ≡ File) × AppendsPart before after bytes)
 
 -- a line, and what it printed behind what the writer held
-pub record Answers {D : Type 0} {g : Ghosts D} (script : Script D g) (before after : Option Bytes) (Prints : Scene → Bytes → Type 0) : Type 0 where
+pub record Answers {D : Type 0} {g : Ghosts D} (script : Script D g) (before after : Option Bytes) (Prints : Scene
+    → Bytes → Type 0) : Type 0 where
   pub scene : Scene
   pub printed : Bytes
   pub at : IsAt script scene
@@ -74,7 +85,8 @@ Ends Memory before after Prints = after ≡ before
 Ends other before after Prints = ⊥
 
 -- a line of this session was answered, or why it was not
-abbrev pub RunsLine : {D : Type 0} {g : Ghosts D} → Scene → ℕ → ScriptLine → Result (Unit {0}) ScriptFault → Script D g → Option Bytes → Option Bytes → Type 0
+abbrev pub RunsLine : {D : Type 0} {g : Ghosts D} → Scene → ℕ → ScriptLine → Result (Unit {0}) ScriptFault → Script D g
+    → Option Bytes → Option Bytes → Type 0
 RunsLine here s line result script before after =
     let Prints : Scene → Bytes → Type 0 = PrintsIn (status_in (stream_of here.hub s)) here s line in
     MatchResult result (λ _. Answers script before after Prints) (λ fault. Ends fault before after Prints)
@@ -84,7 +96,8 @@ abbrev pub IsGood : Scene → Bytes → Type 0
 IsGood scene text = (line : ScriptLine) × IsLine text line × (IsCrowded scene line.label → ⊥)
 
 -- the text of a line of this number was run, or why it was not
-abbrev pub Runs : {D : Type 0} {g : Ghosts D} → Scene → ℕ → Bytes → Result (Unit {0}) ScriptFault → Script D g → Option Bytes → Option Bytes → Type 0
+abbrev pub Runs : {D : Type 0} {g : Ghosts D} → Scene → ℕ → Bytes → Result (Unit {0}) ScriptFault → Script D g
+    → Option Bytes → Option Bytes → Type 0
 Runs old number text (Ok done) script before after = Answers script before after (TextPrints old text)
 Runs old number text (Err (BadLine n)) script before after = (n ≡ number) × IsBad old text × (after ≡ before)
 Runs old number text (Err (Crowded n)) script before after = (n ≡ number) × NamesOneTooMany old text × (after ≡ before)
@@ -93,7 +106,8 @@ Runs old number text (Err File) script before after = PrintsPart before after (T
 Runs old number text (Err (Log fault)) script before after = ⊥
 
 -- some lines were run, and the others are still to be read
-pub record RunSoFar {D : Type 0} {g : Ghosts D} (first : Scene) (texts : List Bytes) (number : ℕ) (script : Script D g) (left : Option Bytes) (before after : Option Bytes) : Type 0 where
+pub record RunSoFar {D : Type 0} {g : Ghosts D} (first : Scene) (texts : List Bytes) (number : ℕ) (script : Script D g)
+    (left : Option Bytes) (before after : Option Bytes) : Type 0 where
   pub done : List Bytes
   pub rest : Bytes
   pub left_is : left ≡ Some rest

@@ -1,7 +1,10 @@
 -- The lines of a script, and those that are printed.
-use Rattle.std.specs.Prelude.{◌≡◌, ◌≢◌, ℕ, ◌≤◌, ◌==◌, ◌&&◌, not, List, [], ◌∷◌, ◌++◌, length, map, if◌then◌else◌, codes, bytes_eq}
-use Rattle.std.specs.{List.filter, List.slice_split, List.onto_first, Fmt.decimal}
-use Rattle.model.specs.{Grammar.array_of_bulks, Map.Bytes}
+use Rattle.std.specs.Fmt.{decimal}
+use Rattle.std.specs.List.{filter, slice_split, onto_first}
+use Rattle.std.specs.Prelude.{◌≡◌, ◌≢◌, ℕ, ◌≤◌, ◌==◌, ◌&&◌, not, List, [], ◌∷◌, ◌++◌, length, map, if◌then◌else◌}
+use Rattle.std.specs.Prelude.{codes, bytes_eq}
+use Rattle.model.specs.Grammar.{array_of_bulks}
+use Rattle.model.specs.Map.{Bytes}
 
 -- the lines of a text: each ends with a line feed, which the last may lack
 abbrev pub lines_of : Bytes → List Bytes

@@ -1,13 +1,18 @@
 -- What a script prints: a run of the sessions over a store of its own.
-use Rattle.std.specs.Prelude.{◌≡◌, ◌≢◌, ℕ, ◌+◌, ◌≤◌, ◌==◌, Bool, false, List, [], ◌∷◌, ◌++◌, length, take, position, Option, Some, None, IfSome, Result, Ok, Err, ◌⊎◌}
 use Rattle.std.specs.Io.KnownBytes.{Appends}
-use Rattle.model.specs.{Machine.opened, Map.Bytes}
-use Rattle.sessions.specs.{declared.events.Status.Status, declared.events.Status.TheVariants.Open, Laws.IsLawful}
-use Rattle.sessions.specs.SessionStreams.{HubState, HubEvent, Joins, Receives, Serves, Sends, Front, More, Choice, IsPossible, hub_over, hub_step, stream_of}
+use Rattle.std.specs.Prelude.{◌≡◌, ◌≢◌, ℕ, ◌+◌, ◌≤◌, ◌==◌, Bool, false, List, [], ◌∷◌, ◌++◌, length, take, position}
+use Rattle.std.specs.Prelude.{Option, Some, None, IfSome, Result, Ok, Err, ◌⊎◌}
+use Rattle.model.specs.Machine.{opened}
+use Rattle.model.specs.Map.{Bytes}
+use Rattle.sessions.specs.Laws.{IsLawful}
+use Rattle.sessions.specs.SessionStreams.{HubState, HubEvent, Joins, Receives, Serves, Sends, Front, More, Choice}
+use Rattle.sessions.specs.SessionStreams.{IsPossible, hub_over, hub_step, stream_of}
 use Rattle.sessions.specs.StandsFor.{status_in, room_in, pending_in}
+use Rattle.sessions.specs.declared.events.Status.{Status}
+use Rattle.sessions.specs.declared.events.Status.TheVariants.{Open}
+use Rattle.scripts.specs.Lines.{ScriptLine, IsLine, IsNoLine, frame_of, lines_of, printed_line}
 use Rattle.scripts.specs.declared.faults.ScriptFault.{ScriptFault}
 use Rattle.scripts.specs.declared.faults.ScriptFault.TheVariants.{BadLine, Crowded, File, Log, Memory}
-use Rattle.scripts.specs.Lines.{ScriptLine, IsLine, IsNoLine, frame_of, lines_of, printed_line}
 
 -- a script under way: its sessions, and the labels that have come, each once. The session of a label is its place
 pub record Scene : Type 0 where
@@ -42,7 +47,8 @@ session_of labels label = session_at (place_of labels label) labels
 -- a session joins for a label that is new
 abbrev pub welcome : Option ℕ → Scene → ℕ → Scene
 welcome (Some s) scene label = scene
-welcome None scene label = record { hub = after scene.hub (Joins (length scene.labels)); labels = scene.labels ++ label ∷ [] }
+welcome None scene label =
+    record { hub = after scene.hub (Joins (length scene.labels)); labels = scene.labels ++ label ∷ [] }
 
 abbrev pub with_label : Scene → ℕ → Scene
 with_label scene label = welcome (place_of scene.labels label) scene label
@@ -68,7 +74,8 @@ pub record Serving (s : ℕ) (old new : HubState) (reply : Bytes) : Type 0 where
 -- a session that is open is answered, and for another nothing is printed
 abbrev pub PrintsIn : Status → Scene → ℕ → ScriptLine → Scene → Bytes → Type 0
 PrintsIn Open here s line new printed =
-    (reply : Bytes) × Serving s (received here.hub s (frame_of line.words)) new.hub reply × (new.labels ≡ here.labels) × (printed ≡ printed_line line.label reply)
+    (reply : Bytes) × Serving s (received here.hub s (frame_of line.words)) new.hub reply × (new.labels ≡ here.labels)
+    × (printed ≡ printed_line line.label reply)
 PrintsIn other here s line new printed = (new ≡ here) × (printed ≡ [])
 
 abbrev pub LinePrints : Scene → ScriptLine → Scene → Bytes → Type 0
@@ -79,7 +86,8 @@ LinePrints old line new printed =
 
 -- ---- scripts
 
--- a text without its line's end: an empty one is skipped, and another is a line of a label that has a session or gets one
+-- a text without its line's end: an empty one is skipped, and another is a line of a label that has a session or gets
+-- one
 abbrev pub TextPrints : Scene → Bytes → Scene → Bytes → Type 0
 TextPrints old [] new printed = (new ≡ old) × (printed ≡ [])
 TextPrints old (byte ∷ bytes) new printed =
@@ -89,7 +97,8 @@ TextPrints old (byte ∷ bytes) new printed =
 pub data Transcript (first : Scene) : List Bytes → Scene → Bytes → Type 0 where
   Begun : Transcript first [] first []
   Continued : (texts : List Bytes) (mid : Scene) (printed : Bytes) (text : Bytes) (last : Scene) (more : Bytes)
-      → Transcript first texts mid printed → TextPrints mid text last more → Transcript first (texts ++ text ∷ []) last (printed ++ more)
+      → Transcript first texts mid printed → TextPrints mid text last more
+      → Transcript first (texts ++ text ∷ []) last (printed ++ more)
 
 -- why no more than these texts were run: the next one, whose number this is
 abbrev pub IsBad : Scene → Bytes → Type 0
@@ -98,7 +107,8 @@ IsBad scene text = (text ≢ []) × IsNoLine text
 abbrev pub NamesOneTooMany : Scene → Bytes → Type 0
 NamesOneTooMany scene text = (line : ScriptLine) × IsLine text line × IsCrowded scene line.label
 
-pub record StopsAt (first : Scene) (texts : List Bytes) (number : ℕ) (printed : Bytes) (Why : Scene → Bytes → Type 0) : Type 0 where
+pub record StopsAt (first : Scene) (texts : List Bytes) (number : ℕ) (printed : Bytes) (Why : Scene → Bytes
+    → Type 0) : Type 0 where
   pub before : List Bytes
   pub text : Bytes
   pub behind : List Bytes
@@ -135,14 +145,21 @@ pub record BreaksOff (first : Scene) (texts : List Bytes) (printed : Bytes) : Ty
   pub prints : TextPrints scene text new (part ++ rest)
   pub printed_is : printed ≡ front ++ part
 
--- A script ends once all was printed, with sessions of which the laws hold; or before a line that is none or names one session too
--- many; or out of memory before some line, or where reading or writing fails, or before the first line where the log fails.
+-- A script ends once all was printed, with sessions of which the laws hold; or before a line that is none or names one
+-- session too many; or out of memory before some line, or where reading or writing fails, or before the first line
+-- where the log fails.
 abbrev pub Plays : Scene → List Bytes → Result (Unit {0}) ScriptFault → Option Bytes → Option Bytes → Type 0
-Plays first texts (Ok done) before after = (printed : Bytes) × (last : Scene) × Transcript first texts last printed × IsLawful last.hub × Appends before after printed
-Plays first texts (Err (BadLine number)) before after = (printed : Bytes) × StopsAt first texts number printed IsBad × Appends before after printed
-Plays first texts (Err (Crowded number)) before after = (printed : Bytes) × StopsAt first texts number printed NamesOneTooMany × Appends before after printed
-Plays first texts (Err Memory) before after = (printed : Bytes) × RunsSome first texts printed × Appends before after printed
-Plays first texts (Err File) before after = (printed : Bytes) × (RunsSome first texts printed ⊎ BreaksOff first texts printed) × Appends before after printed
+Plays first texts (Ok done) before after =
+    (printed : Bytes) × (last : Scene) × Transcript first texts last printed × IsLawful last.hub
+    × Appends before after printed
+Plays first texts (Err (BadLine number)) before after =
+    (printed : Bytes) × StopsAt first texts number printed IsBad × Appends before after printed
+Plays first texts (Err (Crowded number)) before after =
+    (printed : Bytes) × StopsAt first texts number printed NamesOneTooMany × Appends before after printed
+Plays first texts (Err Memory) before after =
+    (printed : Bytes) × RunsSome first texts printed × Appends before after printed
+Plays first texts (Err File) before after =
+    (printed : Bytes) × (RunsSome first texts printed ⊎ BreaksOff first texts printed) × Appends before after printed
 Plays first texts (Err (Log fault)) before after = Appends before after []
 
 -- the bytes that a reader has left, if they are known, are played as a script

@@ -84,7 +84,8 @@ impl From<io::Error> for ScriptFault {
     ghost use Rattle.std.specs.declared.io.ErrorKind.TheVariants.{OutOfMemory};
     ghost use Rattle.scripts.specs.declared.faults.ScriptFault.TheVariants.{File, Memory};
 
-    ghost from_gives = { λ error fault. ((error_kind error ≡ OutOfMemory) × (fault ≡ Memory)) ⊎ ((error_kind error ≢ OutOfMemory) × (fault ≡ File)) };
+    ghost from_gives = { λ error fault.
+        ((error_kind error ≡ OutOfMemory) × (fault ≡ Memory)) ⊎ ((error_kind error ≢ OutOfMemory) × (fault ≡ File)) };
 
     fn from(error: io::Error) -> ScriptFault {
         match error.kind() {

@@ -1,5 +1,6 @@
 //! The lines of a script, and those that are printed.
-ghost use Rattle.std.specs.Prelude.{◌≡◌, ◌≤◌, ◌<◌, ◌++◌, ◌∷◌, [], List, ℕ, length, take, drop, map, slice_index_or, MatchOption, OnOk, IsTrue, false};
+ghost use Rattle.std.specs.Prelude.{◌≡◌, ◌≤◌, ◌<◌, ◌++◌, ◌∷◌, [], List, ℕ, length, take, drop, map, slice_index_or};
+ghost use Rattle.std.specs.Prelude.{MatchOption, OnOk, IsTrue, false};
 ghost use Rattle.resp.specs.Writing.{Appends};
 ghost use Rattle.scripts.specs.Lines.{IsLine, IsNoLine, words_of, part_of, frame_of, on_one_line, printed_line};
 

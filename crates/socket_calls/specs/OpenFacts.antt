@@ -1,5 +1,6 @@
--- The facts of a connection as it stands after so many calls: the bytes that came over it and those that went. They are left open: no
--- definition here but `next`, `moved`, `latest` and `taken` unfolds, and no lemma is about one, so that nothing can be shown of them nor refuted.
+-- The facts of a connection as it stands after so many calls: the bytes that came over it and those that went. They are
+-- left open: no definition here but `next`, `moved`, `latest` and `taken` unfolds, and no lemma is about one, so that
+-- nothing can be shown of them nor refuted.
 use Rattle.std.specs.Prelude.{ℕ, ◌+◌, ◌-◌, ◌^◌, List, [], ◌∷◌, Result, Ok, Err, min}
 use Rattle.socket_calls.specs.declared.counted.CountedSocket.{CountedSocket}
 

@@ -1,15 +1,32 @@
 //! The calls of a connection, each counted.
 ghost use Rattle.std.specs.Prelude.{◌≡◌, ◌≢◌, ◌↔◌, ◌-◌, ◌^◌, IsErr, take};
 ghost use Rattle.std.specs.Io.{ReadsAtMost, WritesAtMost};
+ghost use Rattle.libc.specs.Net.{SockOption};
 
+use crate::polled::CountedPoll;
+use libc::net as c;
 use mio::net::TcpStream;
-use mio::{Interest, Poll, Token};
+use mio::{Interest, Token};
 use sector::Sectors;
 use std::io::{self, ErrorKind, Read, Write};
 use std::net::Shutdown;
+use std::os::fd::AsRawFd;
 
-/// A TCP connection, with the number of reads and writes that were made of it. `read` and `write` make one call and count it. Once the count
-/// is 2^64 - 1 it stays, and they fail (`Other`) without a call, so that no two calls are made at one count.
+/// A TCP connection that was accepted, of which no call was made. It can be counted or closed, and nothing else.
+#[derive(Drop)]
+pub struct AcceptedSocket {
+    stream: TcpStream,
+}
+
+impl AcceptedSocket {
+    /// The connection. Takes no memory.
+    pub fn new(stream: TcpStream) -> AcceptedSocket {
+        AcceptedSocket { stream }
+    }
+}
+
+/// A TCP connection, with the number of reads and writes that were made of it. `read` and `write` make one call and count it. Once the
+/// count is 2^64 - 1 it stays, and they fail (`Other`) without a call, so that no two calls are made at one count.
 #[derive(Drop)]
 pub struct CountedSocket {
     stream: TcpStream,
@@ -19,21 +36,50 @@ pub struct CountedSocket {
 }
 
 impl CountedSocket {
-    ghost use Rattle.std.specs.Prelude.{OnOk};
-    ghost use Rattle.socket_calls.specs.HappenedCalls.{SendsAtOnce};
-    ghost use Rattle.socket_calls.specs.HappenedCalls.{WasReceived, WasSent};
+    ghost use Rattle.std.specs.Prelude.{IfErr, OnOk};
+    ghost use Rattle.socket_calls.specs.HappenedCalls.{AsksWhetherThere, EndedWriting, SendsAtOnce, WasAnswered};
+    ghost use Rattle.socket_calls.specs.HappenedCalls.{WasReceived, WasRegistered, WasReregistered, WasSent};
     ghost use Rattle.socket_calls.specs.OpenFacts.{moved, next};
 
     /// The connection under this number, of which no call was made. Takes no memory.
-    pub fn new(stream: TcpStream, connection: u64) -> CountedSocket
+    pub fn new(accepted: AcceptedSocket, connection: u64) -> CountedSocket
         ensures calls { result.calls ≡ 0 }
         ensures connection { result.connection ≡ connection }
     {
         CountedSocket {
-            stream,
+            stream: accepted.stream,
             connection,
             calls: 0,
         }
+    }
+
+    /// Has a poll tell of the connection under this token, of what these interests name. Answers the system's error. It is no counted call.
+    pub fn register(
+        &mut self,
+        poll: &CountedPoll,
+        token: Token,
+        interests: Interest,
+    ) -> io::Result<()>
+        ensures same { self.new ≡ self.old }
+        ensures registered { OnOk result (WasRegistered self.old token interests) }
+    {
+        poll.registry().register(&mut self.stream, token, interests)
+    }
+
+    /// Has the poll that tells of the connection do so under this token from now on, and of what these interests name alone. Answers the
+    /// system's error. It is no counted call.
+    pub fn reregister(
+        &mut self,
+        poll: &CountedPoll,
+        token: Token,
+        interests: Interest,
+    ) -> io::Result<()>
+        ensures same { self.new ≡ self.old }
+        ensures registered { OnOk result (WasReregistered self.old token interests) }
+        ensures error { IfErr result (λ e. WasAnswered e) }
+    {
+        poll.registry()
+            .reregister(&mut self.stream, token, interests)
     }
 
     /// Has the system send what a write takes at once, also where something is still to be acknowledged (TCP_NODELAY). Answers the system's
@@ -42,6 +88,30 @@ impl CountedSocket {
         ensures { OnOk result (SendsAtOnce self.now) }
     {
         self.stream.set_nodelay(true)
+    }
+
+    /// Has the system ask a peer whether it is still there (SO_KEEPALIVE): once it was silent for so many seconds, and again after each so
+    /// many more. Where it answers none of so many probes, the connection ends with an error. Answers the system's error. It is no counted
+    /// call.
+    pub fn ask_whether_there(&self, silent: u32, between: u32, probes: u32) -> io::Result<()>
+        ensures { OnOk result (AsksWhetherThere self.now silent between probes) }
+    {
+        self.set_option(c::IPPROTO_TCP, c::TCP_KEEPIDLE, silent)?;
+        self.set_option(c::IPPROTO_TCP, c::TCP_KEEPINTVL, between)?;
+        self.set_option(c::IPPROTO_TCP, c::TCP_KEEPCNT, probes)?;
+        self.set_option(c::SOL_SOCKET, c::SO_KEEPALIVE, 1)
+    }
+
+    /// Sets an option of the connection to a number. Answers the system's error.
+    fn set_option(&self, level: i32, name: i32, value: u32) -> io::Result<()>
+        requires { SockOption level name }
+    {
+        let mut bytes = [0u8; 16];
+        bytes[..4].copy_from_slice(&value.to_ne_bytes());
+        if unsafe { c::setsockopt(self.stream.as_raw_fd(), level, name, &bytes, 4) } < 0 {
+            return Err(io::Error::from_raw_os_error(os::errno()));
+        }
+        Ok(())
     }
 
     /// Reads some bytes, and says how many. Answers the system's error. Takes no memory.
@@ -68,13 +138,12 @@ impl CountedSocket {
         self.stream.write(from)
     }
 
-    /// Shuts the connection down for writing once what was written has gone, and has the poll tell under this token of what still comes.
-    pub fn half_close(&mut self, poll: &Poll, token: Token) -> io::Result<()>
-        ensures { self.new ≡ self.old }
+    /// Shuts the connection down for writing once what was written has gone. Answers the system's error. It is no counted call.
+    pub fn end_writing(&self) -> io::Result<()>
+        ensures ended { OnOk result (EndedWriting self.now) }
+        ensures error { IfErr result (λ e. WasAnswered e) }
     {
-        self.stream.shutdown(Shutdown::Write)?;
-        poll.registry()
-            .reregister(&mut self.stream, token, Interest::READABLE)
+        self.stream.shutdown(Shutdown::Write)
     }
 
     /// Counts a call; `Other` where no more can be counted.

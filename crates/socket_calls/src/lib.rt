@@ -1,9 +1,13 @@
-//! A connection with the calls that are made of it, and what is left open of it.
+//! A connection, a poll and a socket that listens, with the calls that are made of them, and what is left open of them.
 //!
 //! What a call of the system did is an open word, and `proofs/` shows of each call that it happened by the lemmas of `HappenedCalls`.
 //! Only the crate `event_loop` lists this one: a crate that doesn't cannot name those lemmas.
 #![tactic(auto)]
 
 mod counted;
+mod listening;
+mod polled;
 
-pub use counted::CountedSocket;
+pub use counted::{AcceptedSocket, CountedSocket};
+pub use listening::ListeningSocket;
+pub use polled::CountedPoll;

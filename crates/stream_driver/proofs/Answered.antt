@@ -1,5 +1,7 @@
 -- Calls of a stream follow one another.
-use Rattle.stream_driver.proofs.Words.{◌≡◌, refl, ◌∙◌, arith, Call, Traffic, SameCounts, after_call, AllMoved, EndsWith}
+use Rattle.std.proofs.Common.{◌≡◌, refl, ◌∙◌, arith}
+use Rattle.stream_driver.specs.Traffic.{Traffic, SameCounts, after_call, AllMoved, EndsWith}
+use Rattle.stream_driver.specs.Types.{Call}
 
 pub none_called : (t : Traffic) → AllMoved t t
 none_called t = (refl, refl, refl, refl, refl, refl)

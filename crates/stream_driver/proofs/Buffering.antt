@@ -1,11 +1,22 @@
 -- A buffer that holds nothing has room.
-use Rattle.stream_driver.proofs.Words.{◌≡◌, ◌≢◌, inl, inr, ℕ, ◌-◌, ◌<◌, ◌≤◌, ◌⊎◌, ◌↔◌, not, true, false, List, [], ◌++◌, append_assoc, Bool, length, take, drop, vec_len, refl, sym, ap, subst, ◌∙◌, arith, AllByRecursion, common_steps, append-nil, take-append-drop, all-each, ReadAnswer, Moved, WriteAnswer, Wrote, WriteBlocked, WriteFailed, Read, Write, HeldBytes, Flushed, All, FlushedBlocked as Blocked, FlushedFailed as Failed, BufferedStream, held_in, BehindEnds, BehindMoved, FlushFails, GivesSome, KeepsBytes, ShortAfter, TakesSome, WasRead, WhyGave, WhyGaveSome, WhyTook, WhyTookSome, traffic_through, ReadFails, RoomFails, StaysFailed, WhyRoom, WriteFails, WritesHeld, AllMoved, Departure, DepartAt, EndsWith, IsBeginning, ReadsWithin, Traffic, WritesWithin, bytes_read, bytes_written, all-append}
+use Rattle.std.proofs.Common.{◌≡◌, ◌≢◌, inl, inr, ℕ, ◌-◌, ◌<◌, ◌≤◌, ◌⊎◌, ◌↔◌, not, true, false, List, [], ◌∷◌, ◌++◌}
+use Rattle.std.proofs.Common.{append_assoc, Bool, length, take, drop, vec_len, refl, sym, ap, subst, ◌∙◌, arith}
 use Rattle.std.proofs.Common.{length-drop}
-use Rattle.std.proofs.lemmas.List.{length-take-le, take-take}
-use Rattle.stream_driver.specs.Types.{Blocked as ReadBlocked}
-use Rattle.stream_driver.specs.Buffers.{room_in, Flushes, WhyFlushed}
+use Rattle.std.proofs.lemmas.Grind.{common_steps}
+use Rattle.std.proofs.lemmas.List.{append-nil, take-append-drop, length-take-le, take-take}
+use Rattle.std.specs.List.{AllByRecursion}
+use Rattle.model.proofs.Elements.{all-each, all-append}
 use Rattle.stream_driver.proofs.Answered.{ends_then, moved_then, none_called}
 use Rattle.stream_driver.proofs.Carry.{grown}
+use Rattle.stream_driver.specs.Buffers.{held_in, BehindEnds, BehindMoved, FlushFails, GivesSome, KeepsBytes}
+use Rattle.stream_driver.specs.Buffers.{ShortAfter, TakesSome, WasRead, WhyGave, WhyGaveSome, WhyTook, WhyTookSome}
+use Rattle.stream_driver.specs.Buffers.{traffic_through, ReadFails, RoomFails, StaysFailed, WhyRoom, WriteFails}
+use Rattle.stream_driver.specs.Buffers.{HasFailed, KeepsTurn, WritesHeld, room_in, Flushes, WhyFlushed}
+use Rattle.stream_driver.specs.Traffic.{AllMoved, Departure, DepartAt, EndsWith, IsBeginning, ReadsWithin, Traffic}
+use Rattle.stream_driver.specs.Traffic.{WritesWithin, bytes_read, bytes_written}
+use Rattle.stream_driver.specs.Types.{ReadAnswer, Moved, WriteAnswer, Wrote, WriteBlocked, WriteFailed, Read, Write}
+use Rattle.stream_driver.specs.Types.{HeldBytes, Flushed, All, FlushedBlocked as Blocked, FlushedFailed as Failed}
+use Rattle.stream_driver.specs.Types.{BufferedStream, Blocked as ReadBlocked, Failed as ReadFailed}
 
 empty_room : (h : HeldBytes) → held_in h ≡ [] → 0 < room_in h
 empty_room h e =
@@ -19,7 +30,8 @@ pub room_after : {T : Type 0} (traffic : T → Traffic) (answer : Flushed) (a b 
 room_after traffic answer a b e = grind (arith, empty_room)
 
 -- a read that moved bytes is short where they are fewer than it asked for, unless such a read means nothing
-pub short_moved : (n len : ℕ) (was now short : Bool) → now ≡ was → ((n < len) × (short ≡ not now)) ⊎ ((len ≤ n) × (short ≡ false)) → (short ≡ true) ↔ ((n < len) × (was ≡ false))
+pub short_moved : (n len : ℕ) (was now short : Bool) → now ≡ was → ((n < len) × (short ≡ not now)) ⊎ ((len ≤ n) × (short ≡ false)) → (short ≡ true)
+    ↔ ((n < len) × (was ≡ false))
 short_moved n len was now short same how = (λ on. (grind (arith, common_steps), grind (arith, common_steps)), λ p. grind (arith, common_steps))
 
 -- a write that was to take so many bytes
@@ -31,7 +43,8 @@ took_most answer most within = grind arith
 
 -- ---- what left
 
-pub beginnings_then : (moment : ℕ) (all more later : List ℕ) → later ≡ all ++ more → (ds : List Departure) → AllByRecursion (λ d. (d.moment ≡ moment) × IsBeginning d.bytes all) ds
+pub beginnings_then : (moment : ℕ) (all more later : List ℕ) → later ≡ all ++ more → (ds : List Departure)
+    → AllByRecursion (λ d. (d.moment ≡ moment) × IsBeginning d.bytes all) ds
     → AllByRecursion (λ d. (d.moment ≡ moment) × IsBeginning d.bytes later) ds
 beginnings_then moment all more later e ds = all-each (λ d. (d.moment ≡ moment) × IsBeginning d.bytes all) _ ds
     (λ d h. (h.0, record { rest = h.1.rest ++ more; all_is = e ∙ ap (λ l. l ++ more) h.1.all_is ∙ append_assoc d.bytes h.1.rest more }))
@@ -48,7 +61,8 @@ module _ {moment : ℕ} {a b : Traffic} where
 
     pub departed_then : (more : List ℕ) → c.taken ≡ b.taken ++ more → DepartAt moment a b → DepartAt moment b c → DepartAt moment a c
     departed_then more taken p q =
-        let each = all-append (λ d. (d.moment ≡ moment) × IsBeginning d.bytes c.taken) p.departures q.departures (beginnings_then moment b.taken more c.taken taken p.departures p.each) q.each in
+        let each = all-append (λ d. (d.moment ≡ moment)
+        × IsBeginning d.bytes c.taken) p.departures q.departures (beginnings_then moment b.taken more c.taken taken p.departures p.each) q.each in
         search (grown a.departed b.departed b.departed c.departed p.departures q.departures p.departed_are refl q.departed_are, each)
 
 -- between two writes of what is held
@@ -59,7 +73,8 @@ FlushedSoFar tells traffic moment a b = KeepsBytes tells traffic moment a b × S
 
 module _ {T : Type 0} where
   -- some of it left
-  stays_moved : (a b c : BufferedStream T) (n : ℕ) → StaysFailed a b → 0 < n → n ≤ length (held_in b.held) → held_in c.held ≡ drop n (held_in b.held) → c.has_failed ≡ false → StaysFailed a c
+  stays_moved : (a b c : BufferedStream T) (n : ℕ) → StaysFailed a b → 0 < n → n ≤ length (held_in b.held) → held_in c.held ≡ drop n (held_in b.held)
+      → c.has_failed ≡ false → StaysFailed a c
   stays_moved a b c n s some fits held failed =
       let left : length (held_in c.held) ≡ length (held_in b.held) - n = ap length held ∙ length-drop n (held_in b.held) in
       inr (grind arith, failed)
@@ -71,11 +86,27 @@ module _ {T : Type 0} where
   write_fails : (old new : BufferedStream T) (answer : WriteAnswer) → held_in new.held ≡ [] → RoomFails old All new → WriteFails old answer new
   write_fails old new answer none stays = grind arith
 
+  same_turn : {b : BufferedStream T} → KeepsTurn b b
+  same_turn = record { share = refl; appended = refl; heavy = refl }
+
+  turn_then : {a b c : BufferedStream T} → KeepsTurn a b → KeepsTurn b c → KeepsTurn a c
+  turn_then p q = record { share = q.share ∙ p.share; appended = q.appended ∙ p.appended; heavy = q.heavy ∙ p.heavy }
+
+  -- what has failed to leave, if there is any
+  fails_with : (b : BufferedStream T) → b.has_failed ≡ true → (held : List ℕ) → held_in b.held ≡ held
+      → HasFailed b ⊎ ((held_in b.held ≡ []) × StaysFailed b b)
+  fails_with b failed [] is = inr (is, inl (refl, refl))
+  fails_with b failed (x ∷ xs) is = inl (grind (arith, common_steps), failed)
+
+  stays_failed : (b : BufferedStream T) → b.has_failed ≡ true → HasFailed b ⊎ ((held_in b.held ≡ []) × StaysFailed b b)
+  stays_failed b failed = fails_with b failed (held_in b.held) refl
+
   read_fails : (old new : BufferedStream T) (answer : ReadAnswer) → held_in new.held ≡ [] → StaysFailed old new → ReadFails old answer new
   read_fails old new answer none stays = grind arith
 
   -- a read that moved nothing
-  pub short_still : (old new : BufferedStream T) (len : ℕ) (answer : ReadAnswer) → ((n : ℕ) → answer ≢ Moved n) → new.is_short ≡ old.is_short → ShortAfter old len answer new
+  pub short_still : (old new : BufferedStream T) (len : ℕ) (answer : ReadAnswer) → ((n : ℕ) → answer ≢ Moved n) → new.is_short ≡ old.is_short
+      → ShortAfter old len answer new
   short_still old new len answer differs same = grind arith
 
   -- a call of a buffered stream is of the connection of the stream behind
@@ -88,11 +119,13 @@ module _ {T : Type 0} where
 
     pub gave_same : (answer : ReadAnswer) → WhyGave traffic old answer new → (traffic new.inner).connection ≡ (traffic old.inner).connection
     gave_same answer (inl pauses) = ap (λ (i : T). (traffic i).connection) pauses.0.inner_is
-    gave_same answer (inr why) = gave_some_same answer why.1
+    gave_same answer (inr (inl stops)) = ap (λ (i : T). (traffic i).connection) stops.0.inner_is
+    gave_same answer (inr (inr why)) = gave_some_same answer why.1
 
     pub took_same : (answer : WriteAnswer) → WhyTook traffic old answer new → (traffic new.inner).connection ≡ (traffic old.inner).connection
     took_same answer (inl pauses) = ap (λ (i : T). (traffic i).connection) pauses.0.inner_is
-    took_same answer (inr why) = took_some_same answer why.1
+    took_same answer (inr (inl stops)) = ap (λ (i : T). (traffic i).connection) stops.0.inner_is
+    took_same answer (inr (inr why)) = took_some_same answer why.1
 
     pub flushed_same : (answer : Flushed) → WhyFlushed traffic old answer new → (traffic new.inner).connection ≡ (traffic old.inner).connection
     flushed_same answer why = grind arith
@@ -104,71 +137,132 @@ module _ {T : Type 0} where
     why_took answer ends = grind arith
 
     -- what left in a call of the stream behind
-    left_behind : {moment : ℕ} → DepartAt moment (traffic old.inner) (traffic new.inner) → DepartAt moment (traffic_through traffic old) (traffic_through traffic new)
-    left_behind {moment} p = search (p.departed_are, beginnings_then moment (traffic new.inner).taken (held_in new.held) (traffic_through traffic new).taken refl p.departures p.each)
+    left_behind : {moment : ℕ} → DepartAt moment (traffic old.inner) (traffic new.inner)
+        → DepartAt moment (traffic_through traffic old) (traffic_through traffic new)
+    left_behind {moment} p =
+        search (
+          p.departed_are,
+          beginnings_then moment (traffic new.inner).taken (held_in new.held) (traffic_through traffic new).taken refl p.departures
+              p.each,
+        )
 
   pub takes_why : (traffic : T → Traffic) (old mid : BufferedStream T) {inner : T} (answer : WriteAnswer) → BehindMoved traffic old mid
       → EndsWith (Write answer) (traffic mid.inner) (traffic inner) → WhyTookSome traffic old answer (record mid { inner = inner })
   takes_why traffic old mid {inner} answer moved answered =
-      why_took traffic old (record mid { inner = inner }) answer (ends_then (Write answer) (traffic old.inner) (traffic mid.inner) (traffic inner) moved answered)
+      why_took traffic old (record mid { inner = inner }) answer
+      (ends_then (Write answer) (traffic old.inner) (traffic mid.inner) (traffic inner) moved answered)
 
   module _ {tells : Type 0} {traffic : T → Traffic} {moment : ℕ} where
     kept_then : {a b c : BufferedStream T} → KeepsBytes tells traffic moment a b → KeepsBytes tells traffic moment b c → KeepsBytes tells traffic moment a c
     kept_then {a} {b} p q =
-        let departed = λ (t : tells). departed_then [] (q.taken t ∙ sym (append-nil ((traffic b.inner).taken ++ held_in b.held))) (p.departed t) (q.departed t) in
-        assumption (λ (t : tells). q.given t ∙ p.given t, λ (t : tells). q.taken t ∙ p.taken t, departed, q.counts ∙ p.counts, q.short ∙ p.short, q.drained ∙ p.drained, q.reads_on ∙ p.reads_on, q.share ∙ p.share)
+        let departed = λ (t : tells). departed_then [] (q.taken t
+        ∙ sym (append-nil ((traffic b.inner).taken ++ held_in b.held))) (p.departed t) (q.departed t) in
+        assumption (
+          λ (t : tells). q.given t ∙ p.given t,
+          λ (t : tells). q.taken t ∙ p.taken t,
+          departed,
+          q.counts ∙ p.counts,
+          q.short ∙ p.short,
+          q.drained ∙ p.drained,
+          q.reads_on ∙ p.reads_on,
+          turn_then p.turn q.turn,
+        )
 
     pub flushed_none : (b : BufferedStream T) → FlushedSoFar tells traffic moment b b
-    flushed_none b = (record { given = λ t. refl; taken = λ t. refl; departed = λ t. none_departed refl; counts = refl; short = refl; drained = refl; reads_on = refl; share = refl }, inl (refl, refl), none_called (traffic b.inner))
+    flushed_none b = (
+      record {
+        given = λ t. refl;
+        taken = λ t. refl;
+        departed = λ t. none_departed refl;
+        counts = refl;
+        short = refl;
+        drained = refl;
+        reads_on = refl;
+        turn = same_turn;
+      },
+      inl (refl, refl),
+      none_called (traffic b.inner),
+    )
 
     module _ {a b : BufferedStream T} (so_far : FlushedSoFar tells traffic moment a b) {c : BufferedStream T} where
       pub flushed_more : {n : ℕ} → WritesHeld tells traffic moment b (Wrote n) c → FlushedSoFar tells traffic moment a c
-      flushed_more {n} w = (kept_then so_far.0 w.kept, stays_moved a b c n so_far.1 w.why.0 w.why.1 w.why.2 w.why.3, moved_then (traffic a.inner) (traffic b.inner) (traffic c.inner) so_far.2 w.why.4)
+      flushed_more {n} w = (
+        kept_then so_far.0 w.kept,
+        stays_moved a b c n so_far.1 w.why.0 w.why.1 w.why.2 w.why.3,
+        moved_then (traffic a.inner) (traffic b.inner) (traffic c.inner) so_far.2 w.why.4,
+      )
 
       pub flushed_blocked : WritesHeld tells traffic moment b WriteBlocked c → Flushes tells traffic moment a Blocked c
-      flushed_blocked w = record { kept = kept_then so_far.0 w.kept; why = ends_then (Write WriteBlocked) (traffic a.inner) (traffic b.inner) (traffic c.inner) so_far.2 w.why.1; failed = rw (w.why.0, w.why.2) so_far.1 }
+      flushed_blocked w = record {
+        kept = kept_then so_far.0 w.kept;
+        why = ends_then (Write WriteBlocked) (traffic a.inner) (traffic b.inner) (traffic c.inner) so_far.2 w.why.1;
+        failed = rw (w.why.0, w.why.2) so_far.1;
+      }
 
       pub flushed_failed : held_in b.held ≢ [] → WritesHeld tells traffic moment b WriteFailed c → Flushes tells traffic moment a Failed c
-      flushed_failed some w = record { kept = kept_then so_far.0 w.kept; why = ends_then (Write WriteFailed) (traffic a.inner) (traffic b.inner) (traffic c.inner) so_far.2 w.why.1; failed = (λ none. some (sym w.why.0 ∙ none), w.why.2) }
+      flushed_failed some w = record {
+        kept = kept_then so_far.0 w.kept;
+        why = ends_then (Write WriteFailed) (traffic a.inner) (traffic b.inner) (traffic c.inner) so_far.2 w.why.1;
+        failed =
+            (λ none. some (sym w.why.0 ∙ none), w.why.2);
+      }
 
-    module _ {old : BufferedStream T} {inner : T} (given : tells → (traffic inner).given ≡ (traffic old.inner).given) (departed : tells → DepartAt moment (traffic old.inner) (traffic inner)) where
+    module _ {old : BufferedStream T} {inner : T} (given : tells → (traffic inner).given ≡ (traffic old.inner).given) (departed : tells
+        → DepartAt moment (traffic old.inner) (traffic inner)) where
       keeps : (held : HeldBytes) (failed : Bool) → (tells → (traffic inner).taken ++ held_in held ≡ (traffic old.inner).taken ++ held_in old.held)
           → KeepsBytes tells traffic moment old (record old { inner = inner; held = held; has_failed = failed })
-      keeps held failed taken = assumption (λ (t : tells). left_behind traffic old (record old { inner = inner; held = held; has_failed = failed }) (departed t))
+      keeps held failed taken =
+          assumption (λ (t : tells). left_behind traffic old (record old { inner = inner; held = held; has_failed = failed }) (departed t))
 
       -- some of what is held left
-      pub wrote_held : {n : ℕ} (held : HeldBytes) {from : List ℕ} → AllMoved (traffic old.inner) (traffic inner) → from ≡ held_in old.held → (0 < n) × (n ≤ length from) → held_in held ≡ drop n (held_in old.held) → (tells → (traffic inner).taken ≡ (traffic old.inner).taken ++ take n from)
+      pub wrote_held : {n : ℕ} (held : HeldBytes) {from : List ℕ} → AllMoved (traffic old.inner) (traffic inner) → from ≡ held_in old.held
+          → (0 < n) × (n ≤ length from) → held_in held ≡ drop n (held_in old.held) → (tells → (traffic inner).taken ≡ (traffic old.inner).taken ++ take n from)
           → WritesHeld tells traffic moment old (Wrote n) (record old { inner = inner; held = held; has_failed = false })
       wrote_held {n} held moved is fits rest taken =
           let kept = keeps held false (λ t. rw (taken t, rest, is, append_assoc, take-append-drop)) in
           record { kept = kept; why = (fits.0, subst (λ l. n ≤ length l) is fits.1, rest, refl, moved) }
 
       -- none of it left
-      pub kept_held : (failed : Bool) → (tells → (traffic inner).taken ≡ (traffic old.inner).taken ++ []) → KeepsBytes tells traffic moment old (record old { inner = inner; has_failed = failed })
+      pub kept_held : (failed : Bool) → (tells → (traffic inner).taken ≡ (traffic old.inner).taken ++ [])
+          → KeepsBytes tells traffic moment old (record old { inner = inner; has_failed = failed })
       kept_held failed taken = keeps old.held failed (λ t. ap (λ l. l ++ held_in old.held) (taken t ∙ append-nil (traffic old.inner).taken))
 
     -- a call of the stream behind after what is held was written
-    left_then : (a b c : BufferedStream T) (more : List ℕ) → KeepsBytes tells traffic moment a b → tells → (traffic_through traffic c).taken ≡ (traffic_through traffic b).taken ++ more
+    left_then : (a b c : BufferedStream T) (more : List ℕ) → KeepsBytes tells traffic moment a b → tells
+        → (traffic_through traffic c).taken ≡ (traffic_through traffic b).taken ++ more
         → DepartAt moment (traffic b.inner) (traffic c.inner) → DepartAt moment (traffic_through traffic a) (traffic_through traffic c)
     left_then a b c more p t taken q = departed_then more taken (p.departed t) (left_behind traffic b c q)
 
     -- the stream behind was read once nothing was held
-    pub gives_some : {old mid : BufferedStream T} {inner : T} (short : Bool) {before after : List ℕ} (answer : ReadAnswer) → Flushes tells traffic moment old All mid → ReadsWithin answer (length before)
-        → (tells → (traffic inner).given ≡ (traffic mid.inner).given ++ take (bytes_read answer) after) → (tells → (traffic inner).taken ≡ (traffic mid.inner).taken) → (tells → DepartAt moment (traffic mid.inner) (traffic inner))
+    pub gives_some : {old mid : BufferedStream T} {inner : T} (short : Bool) {before after : List ℕ} (answer : ReadAnswer)
+        → Flushes tells traffic moment old All mid → ReadsWithin answer (length before)
+        → (tells → (traffic inner).given ≡ (traffic mid.inner).given ++ take (bytes_read answer) after)
+        → (tells → (traffic inner).taken ≡ (traffic mid.inner).taken) → (tells → DepartAt moment (traffic mid.inner) (traffic inner))
         → ShortAfter old (length before) answer (record mid { inner = inner; is_short = short })
         → GivesSome tells traffic moment old before answer (record mid { inner = inner; is_short = short }) after
     gives_some {old} {mid} {inner} short {before} {after} answer flushed within given taken departed shorter =
         let new : BufferedStream T = record mid { inner = inner; is_short = short } in
         let all = λ (t : tells). ap (λ l. l ++ held_in mid.held) (taken t) in
-        let left = λ (t : tells). left_then old mid new [] flushed.kept t (all t ∙ sym (append-nil ((traffic mid.inner).taken ++ held_in mid.held))) (departed t) in
-        assumption (λ (t : tells). given t ∙ ap (λ l. l ++ take (bytes_read answer) after) (flushed.kept.given t), λ (t : tells). all t ∙ flushed.kept.taken t, left, read_fails old new answer flushed.why.0 flushed.failed)
+        let left = λ (t : tells). left_then old mid new [] flushed.kept t (all t
+        ∙ sym (append-nil ((traffic mid.inner).taken ++ held_in mid.held))) (departed t) in
+        assumption (
+          λ (t : tells). given t ∙ ap (λ l. l ++ take (bytes_read answer) after) (flushed.kept.given t),
+          λ (t : tells). all t ∙ flushed.kept.taken t,
+          left,
+          read_fails old new answer flushed.why.0 flushed.failed,
+        )
 
     -- why it answers so
-    pub gives_why : {old mid : BufferedStream T} {inner : T} (short : Bool) (answer : ReadAnswer) → Flushes tells traffic moment old All mid → EndsWith (Read answer) (traffic mid.inner) (traffic inner) → mid.is_drained ≡ false
+    pub gives_why : {old mid : BufferedStream T} {inner : T} (short : Bool) (answer : ReadAnswer) → Flushes tells traffic moment old All mid
+        → EndsWith (Read answer) (traffic mid.inner) (traffic inner) → mid.is_drained ≡ false
         → WhyGaveSome traffic old answer (record mid { inner = inner; is_short = short })
     gives_why {old} {mid} {inner} short answer flushed answered more =
         let new : BufferedStream T = record mid { inner = inner; is_short = short } in
-        why_gave traffic old new answer (sym flushed.kept.drained ∙ more, flushed.why.0, ends_then (Read answer) (traffic old.inner) (traffic mid.inner) (traffic inner) flushed.why.1 answered)
+        why_gave traffic old new answer (
+          sym flushed.kept.drained ∙ more,
+          flushed.why.0,
+          ends_then (Read answer) (traffic old.inner) (traffic mid.inner) (traffic inner) flushed.why.1 answered,
+        )
 
     -- a share that is used up
     pub gave_none : (b : BufferedStream T) (bytes : List ℕ) → GivesSome tells traffic moment b bytes ReadBlocked b bytes
@@ -179,7 +273,7 @@ module _ {T : Type 0} where
       departed = λ t. none_departed refl;
       counts = refl;
       failed = inl (refl, refl);
-      short = record { short = refl; drained = refl; reads_on = refl; share = refl };
+      short = record { short = refl; drained = refl; reads_on = refl; turn = same_turn };
     }
 
     pub took_none : (b : BufferedStream T) (from : List ℕ) → TakesSome tells traffic moment b from WriteBlocked b
@@ -193,7 +287,33 @@ module _ {T : Type 0} where
       short = refl;
       drained = refl;
       reads_on = refl;
-      share = refl;
+      turn = same_turn;
+    }
+
+    -- what is held has failed to leave
+    pub gave_failed : (b : BufferedStream T) (bytes : List ℕ) → b.has_failed ≡ true → GivesSome tells traffic moment b bytes ReadFailed b bytes
+    gave_failed b bytes failed = record {
+      within = tt;
+      given = λ t. sym (append-nil (traffic b.inner).given);
+      taken = λ t. refl;
+      departed = λ t. none_departed refl;
+      counts = refl;
+      failed = stays_failed b failed;
+      short = record { short = refl; drained = refl; reads_on = refl; turn = same_turn };
+    }
+
+    pub took_failed : (b : BufferedStream T) (from : List ℕ) → b.has_failed ≡ true → TakesSome tells traffic moment b from WriteFailed b
+    took_failed b from failed = record {
+      within = tt;
+      given = λ t. refl;
+      taken = λ t. sym (append-nil ((traffic b.inner).taken ++ held_in b.held));
+      departed = λ t. none_departed refl;
+      counts = refl;
+      failed = stays_failed b failed;
+      short = refl;
+      drained = refl;
+      reads_on = refl;
+      turn = same_turn;
     }
 
     -- of the bytes, those at the front were to be taken
@@ -219,24 +339,36 @@ module _ {T : Type 0} where
         short = p.short;
         drained = p.drained;
         reads_on = p.reads_on;
-        share = p.share;
+        turn = p.turn;
       }
 
     module _ {old mid : BufferedStream T} (kept : KeepsBytes tells traffic moment old mid) (stays : RoomFails old All mid) {from : List ℕ} where
       -- the stream behind took them
-      pub takes_on : {inner : T} {answer : WriteAnswer} → held_in mid.held ≡ [] → WritesWithin answer (length from) → (tells → (traffic inner).given ≡ (traffic mid.inner).given)
-          → (tells → (traffic inner).taken ≡ (traffic mid.inner).taken ++ take (bytes_written answer) from) → (tells → DepartAt moment (traffic mid.inner) (traffic inner))
+      pub takes_on : {inner : T} {answer : WriteAnswer} → held_in mid.held ≡ [] → WritesWithin answer (length from)
+          → (tells → (traffic inner).given ≡ (traffic mid.inner).given)
+          → (tells → (traffic inner).taken ≡ (traffic mid.inner).taken ++ take (bytes_written answer) from)
+          → (tells → DepartAt moment (traffic mid.inner) (traffic inner))
           → TakesSome tells traffic moment old from answer (record mid { inner = inner })
       takes_on {inner} {answer} none within given taken departed =
           let new : BufferedStream T = record mid { inner = inner } in
           let all : tells → (traffic inner).taken ++ held_in mid.held ≡ ((traffic mid.inner).taken ++ held_in mid.held) ++ take (bytes_written answer) from =
-          λ t. rw none (append-nil (traffic inner).taken ∙ taken t ∙ ap (λ l. l ++ take (bytes_written answer) from) (sym (append-nil (traffic mid.inner).taken))) in
+          λ t. rw none (append-nil (traffic inner).taken ∙ taken t
+          ∙ ap (λ l. l ++ take (bytes_written answer) from) (sym (append-nil (traffic mid.inner).taken))) in
           let left = λ (t : tells). left_then old mid new (take (bytes_written answer) from) kept t (all t) (departed t) in
-          assumption (λ (t : tells). given t ∙ kept.given t, λ (t : tells). all t ∙ ap (λ l. l ++ take (bytes_written answer) from) (kept.taken t), left, write_fails old new answer none stays)
+          assumption (
+            λ (t : tells). given t ∙ kept.given t,
+            λ (t : tells). all t ∙ ap (λ l. l ++ take (bytes_written answer) from) (kept.taken t),
+            left,
+            write_fails old new answer none stays,
+          )
 
       -- they are held
-      pub takes_in : (held : HeldBytes) {n : ℕ} → (0 < n) × (n ≤ length from) → held_in held ≡ held_in mid.held ++ take n from → TakesSome tells traffic moment old from (Wrote n) (record mid { held = held })
+      pub takes_in : (held : HeldBytes) {n : ℕ} → (0 < n) × (n ≤ length from) → held_in held ≡ held_in mid.held ++ take n from
+          → TakesSome tells traffic moment old from (Wrote n) (record mid { held = held })
       takes_in held {n} fits is =
           let all : (traffic mid.inner).taken ++ held_in held ≡ ((traffic mid.inner).taken ++ held_in mid.held) ++ take n from =
           ap (λ l. (traffic mid.inner).taken ++ l) is ∙ sym (append_assoc (traffic mid.inner).taken (held_in mid.held) (take n from)) in
-          assumption (λ (t : tells). all ∙ ap (λ l. l ++ take n from) (kept.taken t), λ (t : tells). departed_and_taken {c = traffic_through traffic (record mid { held = held })} (take n from) refl all (kept.departed t))
+          assumption (
+            λ (t : tells). all ∙ ap (λ l. l ++ take n from) (kept.taken t),
+            λ (t : tells). departed_and_taken {c = traffic_through traffic (record mid { held = held })} (take n from) refl all (kept.departed t),
+          )

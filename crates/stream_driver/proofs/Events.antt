@@ -1,8 +1,28 @@
 -- What one event does to the history of its session.
-use Rattle.stream_driver.proofs.Words.{◌≡◌, ◌≢◌, ◌⊎◌, ℕ, ◌≤◌, Bool, nat_le, nat_lt, true, false, List, [], ◌∷◌, ◌++◌, length, take, drop, Option, Some, None, refl, sym, ap, subst, ◌∙◌, arith, nat_cmp, flat_map, nat_tests, append-nil, take-append-drop, IsProperBeginning, reply_text, Absent, Open, Ending, Refused, Outcome, Done, Memory, HubState, SessionState, SessionStream, HubEvent, Receives, Serves, Sends, Leaves, Front, IsFront, Choice, Effect, IsPossible, IsServePossible, hub_step, stream_of, with_stream, with_effect, depart, may_serve, serve_front, room, status_in, failures_in, has_risen, Adds, GoesOn, Point, Runs, session_of, status_at, IsPresentIn, common_steps}
-use Rattle.std.specs.{Map.lookup, Map.set_value, Map.remove_entry, BTreeMap.is_at}
-use Rattle.model.specs.{Map.Bytes, Machine.State, Operations.Response}
-use Rattle.sessions.specs.declared.events.Outcome.TheVariants.{Idle}
+use Rattle.std.proofs.Common.{◌≡◌, ◌≢◌, ◌⊎◌, ℕ, ◌≤◌, Bool, nat_le, nat_lt, true, false, List, [], ◌∷◌, ◌++◌, length}
+use Rattle.std.proofs.Common.{take, drop, Option, Some, None, refl, sym, ap, subst, ◌∙◌, arith, nat_cmp}
+use Rattle.std.proofs.lemmas.Bool.Decides.{nat_tests}
+use Rattle.std.proofs.lemmas.Grind.{common_steps}
+use Rattle.std.proofs.lemmas.List.{append-nil, take-append-drop}
+use Rattle.std.specs.BTreeMap.{is_at}
+use Rattle.std.specs.List.{flat_map}
+use Rattle.std.specs.Map.{lookup, set_value, remove_entry}
+use Rattle.model.specs.Grammar.{IsProperBeginning}
+use Rattle.model.specs.Machine.{State}
+use Rattle.model.specs.Map.{Bytes}
+use Rattle.model.specs.Operations.{Response}
+use Rattle.model.specs.ReplyText.{reply_text}
+use Rattle.engine.specs.Meaning.{has_risen}
+use Rattle.sessions.specs.Laws.{failures_in}
+use Rattle.sessions.specs.SessionStreams.{HubState, SessionState, SessionStream, HubEvent, Receives, Serves, Sends}
+use Rattle.sessions.specs.SessionStreams.{Leaves, Front, IsFront, Choice, Effect, IsPossible, IsServePossible}
+use Rattle.sessions.specs.SessionStreams.{hub_step, stream_of, with_stream, with_effect, depart, may_serve}
+use Rattle.sessions.specs.SessionStreams.{serve_front, room}
+use Rattle.sessions.specs.StandsFor.{status_in}
+use Rattle.sessions.specs.declared.events.Outcome.{Outcome}
+use Rattle.sessions.specs.declared.events.Outcome.TheVariants.{Done, Memory, Idle}
+use Rattle.sessions.specs.declared.events.Status.TheVariants.{Absent, Open, Ending, Refused}
+use Rattle.stream_driver.specs.Sessions.{Adds, GoesOn, Point, Runs, session_of, status_at, IsPresentIn}
 
 -- ---- sessions in the list of those that are present, after one of them has changed or gone
 
@@ -71,7 +91,8 @@ pub fails_then : (e : HubEvent) (c : Choice) (risen : Bool) → c.failed ≡ ris
 fails_then e c risen same some = grind arith
 
 -- one event that changes its session's history alone
-abbrev pub one_event : (s : ℕ) (p : Point) (e : HubEvent) (c : Choice) (count : ℕ) (first last : SessionStream) → session_of e ≡ s → Happens p e c count → stream_of p.hub s ≡ Some first
+abbrev pub one_event : (s : ℕ) (p : Point) (e : HubEvent) (c : Choice) (count : ℕ) (first last : SessionStream) → session_of e ≡ s → Happens p e c count
+    → stream_of p.hub s ≡ Some first
     → (hub_step p.hub e c).0.present ≡ set_value (test s) p.hub.present last → GoesOn first last → last.now.status ≢ Absent → Runs s p (point_after p e c count)
 one_event s p e c count first last own happens is changes history present =
     let adds : Adds p ((e, c) ∷ []) (point_after p e c count) = record { run_is = refl; events_are = refl } in
@@ -83,9 +104,13 @@ one_event s p e c count first last own happens is changes history present =
 -- ---- bytes come in
 
 abbrev pub received_by : SessionStream → Bytes → SessionStream
-received_by st piece = record st { now = record { inbox = st.now.inbox ++ piece; pending = st.now.pending; status = st.now.status }; received = st.received ++ piece }
+received_by st piece = record st {
+  now = record { inbox = st.now.inbox ++ piece; pending = st.now.pending; status = st.now.status };
+  received = st.received ++ piece;
+}
 
-pub receives : (h : HubState) (s : ℕ) (piece : Bytes) (c : Choice) (st : SessionStream) → stream_of h s ≡ Some st → st.now.status ≡ Open → length piece ≤ room st.now
+pub receives : (h : HubState) (s : ℕ) (piece : Bytes) (c : Choice) (st : SessionStream) → stream_of h s ≡ Some st → st.now.status ≡ Open
+    → length piece ≤ room st.now
     → hub_step h (Receives s piece) c ≡ (with_stream h s (received_by st piece), Done)
 unfolding hub_step
 receives h s piece c st is opened fits = let test : nat_lt (room st.now) (length piece) ≡ false = grind (arith, nat_tests) in rw (is, opened, test) refl
@@ -97,9 +122,13 @@ bytes_came st piece =
 -- ---- bytes are sent
 
 abbrev pub sent_from : SessionStream → ℕ → SessionStream
-sent_from st n = record st { now = record { inbox = st.now.inbox; pending = drop n st.now.pending; status = st.now.status }; sent = st.sent ++ take n st.now.pending }
+sent_from st n = record st {
+  now = record { inbox = st.now.inbox; pending = drop n st.now.pending; status = st.now.status };
+  sent = st.sent ++ take n st.now.pending;
+}
 
-pub sends : (h : HubState) (s n : ℕ) (c : Choice) (st : SessionStream) → stream_of h s ≡ Some st → n ≤ length st.now.pending → hub_step h (Sends s n) c ≡ (with_stream h s (sent_from st n), Done)
+pub sends : (h : HubState) (s n : ℕ) (c : Choice) (st : SessionStream) → stream_of h s ≡ Some st → n ≤ length st.now.pending
+    → hub_step h (Sends s n) c ≡ (with_stream h s (sent_from st n), Done)
 unfolding hub_step
 sends h s n c st is fits = let test : nat_le n (length st.now.pending) ≡ true = grind (arith, nat_tests) in rw (is, test) refl
 
@@ -119,8 +148,18 @@ unfolding hub_step
 serves h s c st is opened nothing = rw (is, opened, nothing) refl
 
 -- the texts of the replies are pending
-pub effect_texts : (front : Front) (c : Choice) (m : State) (s : ℕ) (n : SessionState) → n.pending ≡ [] → (serve_front front c m s n).now.pending ≡ flat_map reply_text (serve_front front c m s n).replies
+pub effect_texts : (front : Front) (c : Choice) (m : State) (s : ℕ) (n : SessionState) → n.pending ≡ []
+    → (serve_front front c m s n).now.pending ≡ flat_map reply_text (serve_front front c m s n).replies
 effect_texts front c m s n nothing = grind (arith, common_steps)
+
+-- each reply has some text
+reply_some : (r : Response) → reply_text r ≢ []
+reply_some r = grind (arith, common_steps)
+
+-- and stands in the output once a request was served
+pub effect_replied : (front : Front) (c : Choice) (m : State) (s : ℕ) (n : SessionState) → (serve_front front c m s n).outcome ≡ Done
+    → (serve_front front c m s n).now.pending ≢ []
+effect_replied front c m s n done = grind (arith, common_steps, reply_some)
 
 abbrev pub was_served : (st : SessionStream) (e : Effect) → st.now.pending ≡ [] → e.now.pending ≡ flat_map reply_text e.replies → GoesOn st (after_effect st e)
 was_served st e nothing texts =
@@ -133,7 +172,8 @@ Comes Done n e = ((e.now.status ≡ Open) × (length e.served ≡ 1)) ⊎ ((e.no
 Comes Memory n e = (e.now.status ≡ Refused) × (e.served ≡ [])
 Comes _ n e = (e.now ≡ n) × (e.served ≡ []) × (e.replies ≡ []) × IsProperBeginning n.inbox
 
-comes : (front : Front) (c : Choice) (m : State) (s : ℕ) (n : SessionState) → IsFront n.inbox front → Comes (serve_front front c m s n).outcome n (serve_front front c m s n)
+comes : (front : Front) (c : Choice) (m : State) (s : ℕ) (n : SessionState) → IsFront n.inbox front
+    → Comes (serve_front front c m s n).outcome n (serve_front front c m s n)
 comes front c m s n is = grind (arith, common_steps)
 
 pub comes_idle : (o : Outcome) (n : SessionState) (e : Effect) → o ≢ Done → o ≢ Memory → Comes o n e → Comes Idle n e
@@ -146,7 +186,8 @@ kept : (front : Front) (c : Choice) (m : State) (s : ℕ) (n : SessionState) →
 kept front c m s n here = grind arith
 
 -- the event of a Serve
-module _ {s : ℕ} {p : Point} {c : Choice} {count : ℕ} {st : SessionStream} (is : stream_of p.hub s ≡ Some st) (opened : st.now.status ≡ Open) (nothing : st.now.pending ≡ []) (happens : Happens p (Serves s) c count) where
+module _ {s : ℕ} {p : Point} {c : Choice} {count : ℕ} {st : SessionStream} (is : stream_of p.hub s ≡ Some st) (opened : st.now.status
+    ≡ Open) (nothing : st.now.pending ≡ []) (happens : Happens p (Serves s) c count) where
   abbrev h : HubState
   h = p.hub
 
@@ -166,7 +207,8 @@ module _ {s : ℕ} {p : Point} {c : Choice} {count : ℕ} {st : SessionStream} (
   status_kept = kept c.front c h.machine s st.now (λ gone. (let bad : Open ≡ Absent = sym opened ∙ gone in cc))
 
   abbrev pub served_event : Runs s p (point_after p (Serves s) c count)
-  served_event = one_event s p (Serves s) c count st (after_effect st effect) refl happens is (ap (λ r. r.0.present) serves_is) (was_served st effect nothing (effect_texts c.front c h.machine s st.now nothing)) status_kept
+  served_event = one_event s p (Serves s) c count st (after_effect st effect) refl happens is (ap (λ r. r.0.present) serves_is)
+      (was_served st effect nothing (effect_texts c.front c h.machine s st.now nothing)) status_kept
 
 -- ---- a session leaves
 

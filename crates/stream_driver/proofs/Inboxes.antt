@@ -1,11 +1,19 @@
 -- The beginning of a request is short: an inbox that holds no more has room.
-use Rattle.stream_driver.proofs.Words.{lit<, ◌≡◌, ℕ, ◌*◌, ◌<◌, ◌≤◌, List, ◌++◌, length, sum_by, sym, subst, arith, length-append, flat_map, value_digits, part_max, frame_max, inbox_max, bulk, array_of_bulks, IsPart, IsRequest, IsProperBeginning}
+use Rattle.std.proofs.Common.{lit<, ◌≡◌, ℕ, ◌*◌, ◌<◌, ◌≤◌, List, ◌++◌, length, sum_by, sym, subst, arith}
+use Rattle.std.proofs.Common.{length-append}
+use Rattle.std.proofs.lemmas.Fmt.{length-decimal-le}
+use Rattle.std.proofs.lemmas.List.Concat.{length-flat_map}
+use Rattle.std.proofs.lemmas.List.Elements.{All-weaker}
+use Rattle.std.proofs.lemmas.List.Sums.{sum_by-le}
 use Rattle.std.specs.Fmt.{decimal}
-use Rattle.std.proofs.{lemmas.Fmt.length-decimal-le, lemmas.List.Concat.length-flat_map, lemmas.List.Sums.sum_by-le, lemmas.List.Elements.All-weaker}
+use Rattle.std.specs.List.{flat_map}
+use Rattle.model.specs.Bounds.{value_digits, part_max, frame_max, inbox_max}
+use Rattle.model.specs.Grammar.{bulk, array_of_bulks, IsPart, IsRequest, IsProperBeginning}
 
 bulk_short : (part : List ℕ) → IsPart part → length (bulk part) ≤ part_max
 bulk_short part is =
-    let digits : length (decimal (length part)) ≤ value_digits = length-decimal-le value_digits (length part) (lit< tt) (omega (arith, is.short)) (omega (arith, is.short)) in
+    let digits : length (decimal (length part)) ≤ value_digits =
+    length-decimal-le value_digits (length part) (lit< tt) (omega (arith, is.short)) (omega (arith, is.short)) in
     simp length-append (omega (arith, is.short))
 
 request_short : (parts : List (List ℕ)) → IsRequest parts → length (array_of_bulks parts) ≤ frame_max

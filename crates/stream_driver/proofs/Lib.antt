@@ -9,4 +9,4 @@ pub mod Turns
 pub mod Buffering
 pub mod Sends
 pub mod OneEntry
-pub mod Words
+pub mod Appends

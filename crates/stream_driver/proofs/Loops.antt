@@ -1,11 +1,35 @@
 -- The turns of the loops.
-use Rattle.stream_driver.proofs.Words.{◌≡◌, ◌≢◌, ◌⊎◌, inl, inr, ℕ, ◌+◌, ◌-◌, ◌<◌, ◌≤◌, List, [], ◌++◌, length, Some, refl, sym, ap, subst, ◌∙◌, arith, length-append, inbox_max, IsProperBeginning, Absent, Open, Ending, Refused, Outcome, Done, Memory, SessionStream, Serves, Choice, hub_step, stream_of, RunsAlone, StandsFor, HubLeads, pending_of, status_in, pending_in, room_in, failures, pending_seen, Read, Write, ReadAnswer, WriteAnswer, Moved, Blocked, Failed, Ended, Wrote, WriteBlocked, WriteFailed, Progress, Waiting, Again, Gone, OutputState, Empty, FlushBlocked, FlushFailed, Exchange, Served, Broke as ExchangeBroke, Starved as ExchangeStarved, ExchangeBlocked, Traffic, AllMoved, EndsWith, Ghosts, Hub, Leads, Stands, Point, Runs, AwaitsMore, status_at, pending_at, room_at, inbox_at, inbox_in, IsPresentIn, Carried, Departs, Drove, EndsAs, Why, Moves, WritesSome, ReadsSome, Flushes, Exchanges, WhyExchanged, WhyFlushed, WrittenSoFar, ReadSoFar, DrivenSoFar, DrivenOut, served_in, LeadsTelling}
+use Rattle.std.proofs.Common.{◌≡◌, ◌≢◌, ◌⊎◌, inl, inr, ℕ, ◌+◌, ◌-◌, ◌<◌, ◌≤◌, List, [], ◌++◌, length, Some, refl, sym}
+use Rattle.std.proofs.Common.{ap, subst, ◌∙◌, arith, length-append}
 use Rattle.std.proofs.Math.Nat.{ℕ_set}
+use Rattle.model.specs.Bounds.{inbox_max}
+use Rattle.model.specs.Grammar.{IsProperBeginning}
+use Rattle.sessions.proofs.EventSteps.{pending_seen}
+use Rattle.sessions.specs.Laws.{RunsAlone}
+use Rattle.sessions.specs.SessionStreams.{SessionStream, Serves, Choice, hub_step, stream_of}
+use Rattle.sessions.specs.StandsFor.{StandsFor, HubLeads, pending_of, status_in, pending_in, room_in, failures}
+use Rattle.sessions.specs.declared.events.Outcome.{Outcome}
+use Rattle.sessions.specs.declared.events.Outcome.TheVariants.{Done, Memory}
 use Rattle.sessions.specs.declared.events.Status.{Status}
-use Rattle.stream_driver.proofs.{States.Follow, States.seen_after, Inboxes.beginning_short, Answered.none_called, Answered.moved_then, Answered.ends_then}
-use Rattle.stream_driver.proofs.Sends.{tells_step, tells_still, tells_three, tells_two_at}
-use Rattle.stream_driver.proofs.Events.{Happens, point_after, Comes, comes_idle, comes_to, one_each, serves_is, served_event, effect, open_present}
+use Rattle.sessions.specs.declared.events.Status.TheVariants.{Absent, Open, Ending, Refused}
+use Rattle.stream_driver.proofs.Answered.{none_called, moved_then, ends_then}
 use Rattle.stream_driver.proofs.Carry.{nothing, alone, and_then}
+use Rattle.stream_driver.proofs.Events.{Happens, point_after, Comes, comes_idle, comes_to, one_each, serves_is}
+use Rattle.stream_driver.proofs.Events.{effect_replied, served_event, effect, open_present}
+use Rattle.stream_driver.proofs.Inboxes.{beginning_short}
+use Rattle.stream_driver.proofs.Sends.{tells_step, tells_still, tells_three, tells_two_at}
+use Rattle.stream_driver.proofs.States.{Follow, seen_after}
+use Rattle.stream_driver.specs.Calls.{Moves, WritesSome, ReadsSome, Flushes, Exchanges, WhyExchanged, WhyFlushed}
+use Rattle.stream_driver.specs.Calls.{WrittenSoFar, ReadSoFar, DrivenSoFar, DrivenOut, served_in}
+use Rattle.stream_driver.specs.Drives.{Carried, Departs, Drove, EndsAs, Why}
+use Rattle.stream_driver.specs.Sends.{LeadsTelling}
+use Rattle.stream_driver.specs.Sessions.{Ghosts, Hub, Leads, Stands, Point, Runs, AwaitsMore, status_at, pending_at}
+use Rattle.stream_driver.specs.Sessions.{room_at, inbox_at, inbox_in, IsPresentIn}
+use Rattle.stream_driver.specs.Traffic.{Traffic, AllMoved, EndsWith}
+use Rattle.stream_driver.specs.Types.{Read, Write, ReadAnswer, WriteAnswer, Moved, Blocked, Failed, Ended, Wrote}
+use Rattle.stream_driver.specs.Types.{WriteBlocked, WriteFailed, Progress, Waiting, Again, Gone, OutputState, Empty}
+use Rattle.stream_driver.specs.Types.{FlushBlocked, FlushFailed, Exchange, Served, Broke as ExchangeBroke}
+use Rattle.stream_driver.specs.Types.{Starved as ExchangeStarved, ExchangeBlocked}
 
 pub none_in_both : {A : Type 0} {xs ys : List A} → xs ≡ [] → ys ≡ [] → xs ++ ys ≡ []
 none_in_both a b = rw (a, b)
@@ -18,18 +42,25 @@ module _ {s : ℕ} {tells : Type 0} where
   pub written_none : {h : Point} {t : Traffic} {owed : ℕ} → IsPresentIn h.hub s → owed ≡ length (pending_at h.hub s) → WrittenSoFar s tells h t h t owed
   written_none {h} {t} present is = record { moves = nothing present; moved = none_called t; owed_is = is }
 
-  pub read_nothing : {h : Point} {t : Traffic} {room : ℕ} → status_at h.hub s ≡ Open → pending_at h.hub s ≡ [] → room ≡ room_at h.hub s → ReadSoFar s tells h t h t room
+  pub read_nothing : {h : Point} {t : Traffic} {room : ℕ} → status_at h.hub s ≡ Open → pending_at h.hub s ≡ [] → room ≡ room_at h.hub s
+      → ReadSoFar s tells h t h t room
   read_nothing {h} {t} is_open none is =
       record { moves = nothing (open_present h.hub s is_open); moved = none_called t; none_sent = refl; is_open = is_open; nothing = none; room_is = is }
 
   pub driven_none : {h : Point} {t : Traffic} → IsPresentIn h.hub s → DrivenOut s tells h t h t 0
-  driven_none {h} {t} present = record { driven = record { carried = (nothing present).carried; few = omega arith }; moved = none_called t; served_is = λ _. refl }
+  driven_none {h} {t} present =
+      record { driven = record { carried = (nothing present).carried; few = omega arith }; moved = none_called t; served_is = λ _. refl }
 
   module _ {old : Point} {before : Traffic} {mid : Point} {between : Traffic} {new : Point} {after : Traffic} where
     abbrev pub moves_then : Moves s tells old before mid between → Moves s tells mid between new after → Moves s tells old before new after
     moves_then p q =
         let both = length-append p.carried.runs.history.served q.carried.runs.history.served in
-        record { carried = and_then p.carried q.carried; none_served = omega (arith, p.none_served, q.none_served); none_replied = none_in_both p.none_replied q.none_replied; status = q.status ∙ p.status }
+        record {
+          carried = and_then p.carried q.carried;
+          none_served = omega (arith, p.none_served, q.none_served);
+          none_replied = none_in_both p.none_replied q.none_replied;
+          status = q.status ∙ p.status;
+        }
 
     module _ {owed : ℕ} (p : WrittenSoFar s tells old before mid between owed) where
       pub written_then : (n : ℕ) → WritesSome s tells mid between (Wrote n) new after → WrittenSoFar s tells old before new after (owed - n)
@@ -51,7 +82,14 @@ module _ {s : ℕ} {tells : Type 0} where
       read_then n q =
           let room_is : room - n ≡ room_at new.hub s = omega (arith, p.room_is, q.why.1) in
           let moved = moved_then before between after p.moved q.answered.0 in
-          record { moves = moves_then p.moves q.moves; moved = moved; none_sent = none_in_both p.none_sent q.none_sent; is_open = q.moves.status ∙ p.is_open; nothing = q.pending ∙ p.nothing; room_is = room_is }
+          record {
+            moves = moves_then p.moves q.moves;
+            moved = moved;
+            none_sent = none_in_both p.none_sent q.none_sent;
+            is_open = q.moves.status ∙ p.is_open;
+            nothing = q.pending ∙ p.nothing;
+            room_is = room_is;
+          }
 
       -- the stream stopped
       pub read_stopped : (answer : ReadAnswer) (exchange : Exchange) → AwaitsMore mid.hub s
@@ -67,7 +105,8 @@ module _ {s : ℕ} {tells : Type 0} where
 
   -- ---- a request is looked for
 
-  module _ {old : Point} {before : Traffic} {mid : Point} {between : Traffic} {room : ℕ} (p : ReadSoFar s tells old before mid between room) {c : Choice} {count : ℕ} (happens : Happens mid (Serves s) c count)
+  module _ {old : Point} {before : Traffic} {mid : Point} {between : Traffic} {room : ℕ} (p : ReadSoFar s tells old before mid between room) {c : Choice}
+      {count : ℕ} (happens : Happens mid (Serves s) c count)
       {outcome : Outcome} (outcome_is : outcome ≡ (hub_step mid.hub (Serves s) c).1) where
     abbrev st : SessionStream
     st = p.moves.carried.runs.last
@@ -120,6 +159,11 @@ module _ {s : ℕ} {tells : Type 0} where
     pub serve_closed : outcome ≡ Done → status_at new.hub s ≢ Open → Exchanges s tells old before ExchangeBroke new between
     serve_closed e is_closed = elim (what Done e) [ inl w ↦ absurd (is_closed (status_is ∙ w.0)) | inr w ↦ exchanged ExchangeBroke (p.moved, status_is ∙ w.0) ]
 
+    pub serve_replied : outcome ≡ Done → pending_at new.hub s ≢ []
+    serve_replied e =
+        let done = sym (ap (λ r. r.1) (serves_is is opened none happens)) ∙ sym outcome_is ∙ e in
+        λ nothing. effect_replied c.front c mid.hub.machine s st.now done (sym (ap pending_in served.last_is) ∙ nothing)
+
     -- the inbox holds the beginning of a request, and has room for more
     pub serve_awaits : outcome ≢ Done → outcome ≢ Memory → ReadSoFar s tells old before new between room × AwaitsMore new.hub s × (0 < room)
     serve_awaits not_done not_memory =
@@ -131,15 +175,28 @@ module _ {s : ℕ} {tells : Type 0} where
         let short : length st.now.inbox < inbox_max = beginning_short st.now.inbox w.3 in
         let room_was : room ≡ inbox_max - length st.now.inbox = p.room_is ∙ ap room_in is in
         let moves : Moves s tells old before new between =
-        record { carried = done; none_served = how_many ∙ ap length w.1; none_replied = none_in_both p.moves.none_replied w.2; status = status_now ∙ sym p.is_open ∙ p.moves.status } in (
-          record { moves = moves; moved = p.moved; none_sent = rw p.none_sent; is_open = status_now; nothing = pending_now; room_is = p.room_is ∙ sym room_now },
+        record {
+          carried = done;
+          none_served = how_many ∙ ap length w.1;
+          none_replied = none_in_both p.moves.none_replied w.2;
+          status = status_now ∙ sym p.is_open ∙ p.moves.status;
+        } in (
+          record {
+            moves = moves;
+            moved = p.moved;
+            none_sent = rw p.none_sent;
+            is_open = status_now;
+            nothing = pending_now;
+            room_is = p.room_is ∙ sym room_now;
+          },
           (status_now, pending_now, subst IsProperBeginning (sym inbox_now) w.3),
           omega arith,
         )
 
   -- ---- between two requests
 
-  module _ {old : Point} {before : Traffic} {mid : Point} {between : Traffic} {new : Point} {after : Traffic} {count : ℕ} (p : DrivenSoFar s tells old before mid between count) where
+  module _ {old : Point} {before : Traffic} {mid : Point} {between : Traffic} {new : Point} {after : Traffic} {count : ℕ}
+      (p : DrivenSoFar s tells old before mid between count) where
     -- the output was written, as far as it goes
     abbrev pub driven_flushed : Moves s tells mid between new after → DrivenSoFar s tells old before new after count
     driven_flushed q =
@@ -154,49 +211,69 @@ module _ {s : ℕ} {tells : Type 0} where
     }
 
   -- the drive ends
-  drove : {old : Point} {before : Traffic} {last : Point} {after : Traffic} {count : ℕ} (p : DrivenSoFar s tells old before last after count) → count ≤ 64 → (answer : Progress) → {end : Point} → EndsAs s last end answer
+  drove : {old : Point} {before : Traffic} {last : Point} {after : Traffic} {count : ℕ} (p : DrivenSoFar s tells old before last after count) → count ≤ 64
+      → (answer : Progress) → {end : Point} → EndsAs s last end answer
       → Why s last.hub before after (served_in p.carried) answer → Drove s tells old before answer end after
   drove {old} {before} {last} p le answer ends why = record { last = last; carried = p.carried; few = (omega (arith, p.few)); ends = ends; why = why }
 
   -- ---- the output is written
 
-  module _ {old : Point} {before : Traffic} {mid : Point} {between : Traffic} {new : Point} {after : Traffic} {count : ℕ} (p : DrivenOut s tells old before mid between count) where
+  module _ {old : Point} {before : Traffic} {mid : Point} {between : Traffic} {new : Point} {after : Traffic} {count : ℕ}
+      (p : DrivenOut s tells old before mid between count) where
     served_still : (q : Moves s tells mid between new after) → status_at new.hub s ≡ Open → served_in (driven_flushed p.driven q).carried ≡ count
     served_still q is_open =
         omega (arith, length-append p.driven.carried.runs.history.served q.carried.runs.history.served, p.served_is (sym q.status ∙ is_open), q.none_served)
 
     pub out_flushed : Flushes s tells mid between Empty new after → DrivenOut s tells old before new after count × (pending_at new.hub s ≡ [])
-    out_flushed q = (record { driven = driven_flushed p.driven q.moves; moved = moved_then before between after p.moved q.why.0; served_is = served_still q.moves }, q.why.1)
+    out_flushed q = (
+      record {
+        driven = driven_flushed p.driven q.moves;
+        moved = moved_then before between after p.moved q.why.0;
+        served_is = served_still q.moves;
+      },
+      q.why.1,
+    )
 
     pub waits_to_write : count ≤ 64 → Flushes s tells mid between FlushBlocked new after → Drove s tells old before Waiting new after
-    waits_to_write le q = drove (driven_flushed p.driven q.moves) le Waiting refl (inl (ends_then (Write WriteBlocked) before between after p.moved q.why.0, q.why.1))
+    waits_to_write le q = drove (driven_flushed p.driven q.moves) le Waiting refl
+        (inl (ends_then (Write WriteBlocked) before between after p.moved q.why.0, q.why.1))
 
     pub again : count ≡ 64 → Flushes s tells mid between Empty new after → status_at new.hub s ≡ Open → Drove s tells old before Again new after
     again all q is_open =
         drove (driven_flushed p.driven q.moves) (omega arith) Again refl
         (moved_then before between after p.moved q.why.0, served_still q.moves is_open ∙ all, is_open, q.why.1)
 
-    pub gone_writing : count ≤ 64 → Flushes s tells mid between FlushFailed new after → {gone : Point} → Departs s new gone → Drove s tells old before Gone gone after
-    gone_writing le q departs = drove (driven_flushed p.driven q.moves) le Gone departs (inr (inl (ends_then (Write WriteFailed) before between after p.moved q.why.0, q.why.1)))
+    pub gone_writing : count ≤ 64 → Flushes s tells mid between FlushFailed new after → {gone : Point} → Departs s new gone
+        → Drove s tells old before Gone gone after
+    gone_writing le q departs =
+        drove (driven_flushed p.driven q.moves) le Gone departs (inr (inl (ends_then (Write WriteFailed) before between after p.moved q.why.0, q.why.1)))
 
     -- nothing is pending, and the session is no longer open
-    pub gone_closed : count ≤ 64 → Flushes s tells mid between Empty new after → status_at new.hub s ≢ Open → {gone : Point} → Departs s new gone → Drove s tells old before Gone gone after
+    pub gone_closed : count ≤ 64 → Flushes s tells mid between Empty new after → status_at new.hub s ≢ Open → {gone : Point} → Departs s new gone
+        → Drove s tells old before Gone gone after
     gone_closed le q is_closed departs =
         let closed = closed_kinds (status_at new.hub s) q.moves.carried.runs.present is_closed q.why.1 in
         drove (driven_flushed p.driven q.moves) le Gone departs (inr (inr (inr (moved_then before between after p.moved q.why.0, closed))))
 
   -- ---- a request, once what was pending has left
 
-  module _ {old : Point} {before : Traffic} {mid : Point} {between : Traffic} {count : ℕ} (p : DrivenOut s tells old before mid between count × (pending_at mid.hub s ≡ [])) where
+  module _ {old : Point} {before : Traffic} {mid : Point} {between : Traffic} {count : ℕ} (p : DrivenOut s tells old before mid between count
+      × (pending_at mid.hub s ≡ [])) where
     module _ {new : Point} {after : Traffic} {exchange : Exchange} (q : Exchanges s tells mid between exchange new after) where
       abbrev pub on : DrivenSoFar s tells old before new after (count + 1)
       on = driven_served p.0.driven q
 
-      out_on : AllMoved between after → (status_at new.hub s ≡ Open → (status_at mid.hub s ≡ Open) × (served_in q.carried ≡ 1)) → DrivenOut s tells old before new after (count + 1)
+      out_on : AllMoved between after → (status_at new.hub s ≡ Open → (status_at mid.hub s ≡ Open) × (served_in q.carried ≡ 1))
+          → DrivenOut s tells old before new after (count + 1)
       out_on moved one = record {
         driven = on;
         moved = moved_then before between after p.0.moved moved;
-        served_is = λ is_open. omega (arith, length-append p.0.driven.carried.runs.history.served q.carried.runs.history.served, p.0.served_is (one is_open).0, (one is_open).1);
+        served_is = λ is_open. omega (
+          arith,
+          length-append p.0.driven.carried.runs.history.served q.carried.runs.history.served,
+          p.0.served_is (one is_open).0,
+          (one is_open).1,
+        );
       }
 
     module _ {new : Point} {after : Traffic} where
@@ -212,13 +289,21 @@ module _ {s : ℕ} {tells : Type 0} where
       pub gone_serving : count < 64 → (answer : Exchange) → answer ≢ Served → answer ≢ ExchangeBroke → answer ≢ ExchangeBlocked
           → Exchanges s tells mid between answer new after → {gone : Point} → Departs s new gone → Drove s tells old before Gone gone after
       gone_serving lt answer a b c q departs =
-          let why : Why s new.hub before after 0 Gone = grind (arith, q.why, moved_then before between after p.0.moved, ends_then (Read Failed) before between after p.0.moved, ends_then (Read Ended) before between after p.0.moved) in
+          let why : Why s new.hub before after 0 Gone =
+          grind (
+            arith,
+            q.why,
+            moved_then before between after p.0.moved,
+            ends_then (Read Failed) before between after p.0.moved,
+            ends_then (Read Ended) before between after p.0.moved,
+          ) in
           drove (on q) (omega arith) Gone departs why
 
 -- from hub to hub
 
 -- so much is pending
-pub owed_now : {D : Type 0} {g : Ghosts D} {a b : Hub D g} {s : ℕ} {tells : Type 0} {before between : Traffic} {owed : ℕ} → Stands a → LeadsTelling s tells a before b between (λ h k. WrittenSoFar s tells h before k between owed)
+pub owed_now : {D : Type 0} {g : Ghosts D} {a b : Hub D g} {s : ℕ} {tells : Type 0} {before between : Traffic} {owed : ℕ} → Stands a
+    → LeadsTelling s tells a before b between (λ h k. WrittenSoFar s tells h before k between owed)
     → owed ≡ length (pending_of b s)
 owed_now {D} {g} {a} {b} {s} some p = seen_after (hlevel ℕ_set) some p.leads (λ h k was stands x. x.owed_is ∙ ap length (sym (pending_seen b k.hub stands s)))
 
@@ -229,8 +314,10 @@ module _ {D : Type 0} {g : Ghosts D} (follow : Follow D g) {a b c : Hub D g} {s 
   flushes_out q = tells_two_at follow p q (λ h k x. x.driven.carried) (λ h k l was stands x y. out_flushed x y)
 
   -- the session leaves after a write of the output
-  pub leaves : {d : Hub D g} {answer : Progress} {flush : OutputState} → answer ≡ Gone → LeadsTelling s tells b between c behind (λ k l. Flushes s tells k between flush l behind) → Leads c d (λ l m. Departs s l m)
-      → ((h k l m : Point) → StandsFor c l.hub → DrivenOut s tells h before k between count → Flushes s tells k between flush l behind → Departs s l m → Drove s tells h before Gone m behind)
+  pub leaves : {d : Hub D g} {answer : Progress} {flush : OutputState} → answer ≡ Gone
+      → LeadsTelling s tells b between c behind (λ k l. Flushes s tells k between flush l behind) → Leads c d (λ l m. Departs s l m)
+      → ((h k l m : Point) → StandsFor c l.hub → DrivenOut s tells h before k between count → Flushes s tells k between flush l behind → Departs s l m
+      → Drove s tells h before Gone m behind)
       → LeadsTelling s tells a before d behind (λ h m. Drove s tells h before answer m behind)
   leaves is q left f = rw is (tells_three follow p q (tells_still left) (λ h k x. x.driven.carried) (λ k l y. y.moves.carried) f)
 
@@ -240,6 +327,7 @@ HasRead s tells before between room h k = ReadSoFar s tells h before k between r
 
 pub waits : {D : Type 0} {g : Ghosts D} → Follow D g → {a b c : Hub D g} {s : ℕ} {tells : Type 0} {before between : Traffic} {room : ℕ} {outcome : Outcome}
     → LeadsTelling s tells a before b between (λ h k. ReadSoFar s tells h before k between room)
-    → HubLeads b c (Serves s) outcome → RunsAlone b c (Serves s) → failures b ≤ failures c → outcome ≢ Done → outcome ≢ Memory → LeadsTelling s tells a before c between (HasRead s tells before between room)
+    → HubLeads b c (Serves s) outcome → RunsAlone b c (Serves s) → failures b ≤ failures c → outcome ≢ Done → outcome ≢ Memory
+    → LeadsTelling s tells a before c between (HasRead s tells before between room)
 waits follow p q alone counted not_done not_memory =
     tells_step follow p q alone counted (λ h k r. r.moves.carried) (λ h k choice happens is stands r. serve_awaits r happens is not_done not_memory)

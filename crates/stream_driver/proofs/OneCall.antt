@@ -1,12 +1,29 @@
 -- One read and one write.
-use Rattle.stream_driver.proofs.Words.{◌≡◌, ◌≢◌, ℕ, ◌-◌, ◌<◌, ◌≤◌, List, ◌++◌, length, take, Some, refl, sym, ap, subst, ◌∙◌, arith, length-append, append-nil, length-drop, inbox_max, Absent, Open, Outcome, Done, NoneRuns, RunsAlone, Receives, Sends, hub_step, with_stream, stream_of, HubLeads, status_of, pending_of, status_in, pending_in, room_in, failures, pending_seen, Read, Write, ReadAnswer, Moved, WriteAnswer, Wrote, Traffic, EndsWith, ReadsWithin, bytes_read, bytes_written, Ghosts, Hub, AwaitsMore, Leads, Runs, room_at, WritesSome, ReadsSome}
+use Rattle.std.proofs.Common.{◌≡◌, ◌≢◌, ℕ, ◌-◌, ◌<◌, ◌≤◌, List, ◌++◌, length, take, Some, refl, sym, ap, subst, ◌∙◌}
+use Rattle.std.proofs.Common.{arith, length-append}
+use Rattle.std.proofs.lemmas.List.{append-nil, length-drop}
+use Rattle.model.specs.Bounds.{inbox_max}
 use Rattle.model.specs.Map.{Bytes}
-use Rattle.stream_driver.proofs.Events.{found, point_after, one_event, received_by, receives, bytes_came, sent_from, sends, bytes_went, open_present}
-use Rattle.stream_driver.proofs.{Carry.answered, Carry.moved_by, States.leads_event, States.leads_none, States.present_in}
+use Rattle.sessions.proofs.EventSteps.{pending_seen}
+use Rattle.sessions.specs.Laws.{NoneRuns, RunsAlone}
+use Rattle.sessions.specs.SessionStreams.{Receives, Sends, hub_step, with_stream, stream_of}
+use Rattle.sessions.specs.StandsFor.{HubLeads, status_of, pending_of, status_in, pending_in, room_in, failures}
+use Rattle.sessions.specs.declared.events.Outcome.{Outcome}
+use Rattle.sessions.specs.declared.events.Outcome.TheVariants.{Done}
+use Rattle.sessions.specs.declared.events.Status.TheVariants.{Absent, Open}
+use Rattle.stream_driver.proofs.Carry.{answered, moved_by}
+use Rattle.stream_driver.proofs.Events.{found, point_after, one_event, received_by, receives, bytes_came, sent_from}
+use Rattle.stream_driver.proofs.Events.{sends, bytes_went, open_present}
+use Rattle.stream_driver.proofs.States.{leads_event, leads_none, present_in}
+use Rattle.stream_driver.specs.Calls.{WritesSome, ReadsSome}
+use Rattle.stream_driver.specs.Sessions.{Ghosts, Hub, AwaitsMore, Leads, Runs, room_at}
+use Rattle.stream_driver.specs.Traffic.{Traffic, EndsWith, ReadsWithin, bytes_read, bytes_written}
+use Rattle.stream_driver.specs.Types.{Read, Write, ReadAnswer, Moved, WriteAnswer, Wrote}
 
 module _ {D : Type 0} {g : Ghosts D} {hub new : Hub D g} {s : ℕ} {tells : Type 0} {b a : Traffic} where
   pub wrote_moved : (n : ℕ) → 0 < n → {outcome : Outcome} → HubLeads hub new (Sends s n) outcome → RunsAlone hub new (Sends s n) → failures hub ≤ failures new
-      → status_of hub s ≢ Absent → n ≤ length (pending_of hub s) → (tells → a.taken ≡ b.taken ++ take n (pending_of hub s)) → (tells → a.given ≡ b.given) → EndsWith (Write (Wrote n)) b a
+      → status_of hub s ≢ Absent → n ≤ length (pending_of hub s) → (tells → a.taken ≡ b.taken ++ take n (pending_of hub s)) → (tells → a.given ≡ b.given)
+      → EndsWith (Write (Wrote n)) b a
       → Leads hub new (λ h k. WritesSome s tells h b (Wrote n) k a)
   wrote_moved n some {outcome} leads alone counted present long taken given calls =
       leads_event hub new _ (Sends s n) outcome leads alone counted (λ h stands happens outcome_is after.
@@ -18,7 +35,8 @@ module _ {D : Type 0} {g : Ghosts D} {hub new : Hub D g} {s : ℕ} {tells : Type
       let fits : n ≤ length st.0.now.pending = subst (λ l. n ≤ length l) pending long in
       let stays : st.0.now.status ≢ Absent = λ gone. here (ap status_in is ∙ gone) in
       let step : hub_step h.hub (Sends s n) c ≡ (with_stream h.hub s (sent_from st.0 n), Done) = sends h.hub s n c st.0 is fits in
-      let runs : Runs s h (point_after h (Sends s n) c (failures new)) = one_event s h (Sends s n) c (failures new) st.0 (sent_from st.0 n) refl happens is (ap (λ r. r.0.present) step) (bytes_went st.0 n) stays in
+      let runs : Runs s h (point_after h (Sends s n) c (failures new)) =
+      one_event s h (Sends s n) c (failures new) st.0 (sent_from st.0 n) refl happens is (ap (λ r. r.0.present) step) (bytes_went st.0 n) stays in
       record {
         moves =
             moved_by runs (tt, tt) (λ t. given t ∙ sym (append-nil b.given)) (λ t. taken t ∙ ap (λ l. b.taken ++ take n l) pending)
@@ -27,7 +45,8 @@ module _ {D : Type 0} {g : Ghosts D} {hub new : Hub D g} {s : ℕ} {tells : Type
         why = (some, omega (arith, ap (λ o. length (pending_in o)) runs.last_is, length-drop n st.0.now.pending, ap (λ o. length (pending_in o)) is));
       })
 
-  pub read_moved : (n : ℕ) → 0 < n → (piece : Bytes) → {outcome : Outcome} → HubLeads hub new (Receives s piece) outcome → RunsAlone hub new (Receives s piece) → failures hub ≤ failures new
+  pub read_moved : (n : ℕ) → 0 < n → (piece : Bytes) → {outcome : Outcome} → HubLeads hub new (Receives s piece) outcome → RunsAlone hub new (Receives s piece)
+      → failures hub ≤ failures new
       → length piece ≡ n → {room : ℕ} → n ≤ room → (tells → a.given ≡ b.given ++ piece) → (tells → a.taken ≡ b.taken) → EndsWith (Read (Moved n)) b a
       → Leads hub new (λ h k. AwaitsMore h.hub s → room ≡ room_at h.hub s → ReadsSome s tells h b (Moved n) k a)
   read_moved n some piece {outcome} leads alone counted long {room} within given taken calls =
@@ -40,7 +59,9 @@ module _ {D : Type 0} {g : Ghosts D} {hub new : Hub D g} {s : ℕ} {tells : Type
       let fits : length piece ≤ inbox_max - length st.0.now.inbox = omega arith in
       let step : hub_step h.hub (Receives s piece) c ≡ (with_stream h.hub s (received_by st.0 piece), Done) = receives h.hub s piece c st.0 is opened fits in
       let stays : st.0.now.status ≢ Absent = λ gone. (let bad : Open ≡ Absent = sym opened ∙ gone in cc) in
-      let runs : Runs s h (point_after h (Receives s piece) c (failures new)) = one_event s h (Receives s piece) c (failures new) st.0 (received_by st.0 piece) refl happens is (ap (λ r. r.0.present) step) (bytes_came st.0 piece) stays in
+      let runs : Runs s h (point_after h (Receives s piece) c (failures new)) =
+      one_event s h (Receives s piece) c (failures new) st.0 (received_by st.0 piece) refl happens is (ap (λ r. r.0.present) step) (bytes_came st.0 piece)
+      stays in
       record {
         moves = moved_by runs (awaits, tt) given (λ t. taken t ∙ sym (append-nil b.taken)) refl refl (ap status_in runs.last_is ∙ sym (ap status_in is));
         none_sent = refl;
@@ -60,9 +81,14 @@ module _ {D : Type 0} {g : Ghosts D} {hub : Hub D g} (none : NoneRuns hub) {s : 
       → Leads hub hub (λ h k. WritesSome s tells h b answer k a)
   wrote_none (Wrote n) differs present from given taken calls = absurd (differs n refl)
   wrote_none answer differs present from given taken calls =
-      leads_none hub none _ (λ h stands. record { moves = answered (present_in s stands.state present) (λ t. rw append-nil (given t)) taken; answered = calls; why = refl })
+      leads_none hub none _ (λ h stands. record {
+        moves = answered (present_in s stands.state present) (λ t. rw append-nil (given t)) taken;
+        answered = calls;
+        why = refl;
+      })
 
-  pub read_none : (room : ℕ) (into : List ℕ) → (tells → a.taken ≡ b.taken) → (answer : ReadAnswer) → ((n : ℕ) → answer ≢ Moved n) → (tells → a.given ≡ b.given ++ take (bytes_read answer) into) → EndsWith (Read answer) b a
+  pub read_none : (room : ℕ) (into : List ℕ) → (tells → a.taken ≡ b.taken) → (answer : ReadAnswer) → ((n : ℕ) → answer ≢ Moved n)
+      → (tells → a.given ≡ b.given ++ take (bytes_read answer) into) → EndsWith (Read answer) b a
       → Leads hub hub (λ h k. AwaitsMore h.hub s → room ≡ room_at h.hub s → ReadsSome s tells h b answer k a)
   read_none room into taken (Moved n) differs given calls = absurd (differs n refl)
   read_none room into taken answer differs given calls = leads_none hub none _ (λ h stands awaits room_is.

@@ -1,8 +1,17 @@
 -- One entry of a table, before its drive and after it.
-use Rattle.stream_driver.proofs.Words.{◌≡◌, ◌≢◌, ◌⊎◌, inl, inr, ℕ, ◌<◌, List, length, set, get_or, refl, sym, ap, subst, ◌∙◌, Option, Some, None, get_or-set_same, get_or-set_other, stream_of, Progress, Gone, EntryState, Idle, Ready, EntryGone, Entry, Traffic, Point, IsPresentIn, EndsAs, DrivenIn, state_after}
-use Rattle.std.proofs.{lemmas.Bool.cases_lt, lemmas.Bool.cases_eq, Math.ListN.get_or-eq_default}
+use Rattle.std.proofs.Common.{◌≡◌, ◌≢◌, ◌⊎◌, inl, inr, ℕ, ◌<◌, List, length, set, get_or, refl, sym, ap, subst, ◌∙◌}
+use Rattle.std.proofs.Common.{Option, Some, None}
+use Rattle.std.proofs.Math.ListN.{get_or-eq_default}
+use Rattle.std.proofs.lemmas.Bool.{cases_lt, cases_eq}
+use Rattle.std.proofs.lemmas.List.{get_or-set_same, get_or-set_other}
 use Rattle.model.proofs.Lookups.{some_same}
+use Rattle.sessions.specs.SessionStreams.{stream_of}
 use Rattle.stream_driver.proofs.Events.{leaves_others}
+use Rattle.stream_driver.specs.Drives.{EndsAs}
+use Rattle.stream_driver.specs.Entries.{DrivenIn, state_after}
+use Rattle.stream_driver.specs.Sessions.{Point, IsPresentIn}
+use Rattle.stream_driver.specs.Traffic.{Traffic}
+use Rattle.stream_driver.specs.Types.{Progress, Gone, EntryState, Idle, Ready, EntryGone, Entry}
 
 pub ends_other : (s : ℕ) (last new : Point) (answer : Progress) (t : ℕ) → t ≢ s → EndsAs s last new answer → stream_of new.hub t ≡ stream_of last.hub t
 ends_other s last new Gone t d e = ap (λ h. stream_of h t) e.adds.run_is ∙ leaves_others last.hub s e.choice t d
@@ -14,7 +23,8 @@ ends_last s last new Gone differs e = absurd (differs refl)
 ends_last s last new _ differs e = e
 
 module _ {T : Type 0} (tells : Type 0) (traffic : T → Traffic) where
-  pub entry_present : (state : EntryState) (earlier : Point) (old : Entry T) (later : Point) (new : Entry T) → old.state ≡ state → DrivenIn tells traffic state earlier old later new → new.state ≢ EntryGone
+  pub entry_present : (state : EntryState) (earlier : Point) (old : Entry T) (later : Point) (new : Entry T) → old.state ≡ state
+      → DrivenIn tells traffic state earlier old later new → new.state ≢ EntryGone
       → IsPresentIn earlier.hub old.session → IsPresentIn later.hub new.session
   entry_present Ready earlier old later new is d alive p =
       let going : d.answer ≢ Gone = λ gone. alive (d.state ∙ ap state_after gone) in
@@ -24,7 +34,8 @@ module _ {T : Type 0} (tells : Type 0) (traffic : T → Traffic) where
   entry_present EntryGone earlier old later new is d alive p = absurd (alive (rw d.0 is))
 
   -- each other session is as it was
-  pub entry_other : (state : EntryState) (earlier : Point) (old : Entry T) (later : Point) (new : Entry T) → old.state ≡ state → DrivenIn tells traffic state earlier old later new
+  pub entry_other : (state : EntryState) (earlier : Point) (old : Entry T) (later : Point) (new : Entry T) → old.state ≡ state
+      → DrivenIn tells traffic state earlier old later new
       → (t : ℕ) → (old.state ≢ EntryGone → t ≢ old.session) → stream_of later.hub t ≡ stream_of earlier.hub t
   entry_other Ready earlier old later new is d t differs =
       let apart : t ≢ old.session = differs (λ gone. cc) in
@@ -32,7 +43,8 @@ module _ {T : Type 0} (tells : Type 0) (traffic : T → Traffic) where
   entry_other _ earlier old later new is d t differs = rw d.1 refl
 
 module _ {T : Type 0} where
-  pub get_set : (slots : List (Option (Entry T))) (key other : ℕ) (new : Entry T) (another : Entry T) → key < length slots → get_or (set slots key (Some new)) other None ≡ Some another
+  pub get_set : (slots : List (Option (Entry T))) (key other : ℕ) (new : Entry T) (another : Entry T) → key < length slots
+      → get_or (set slots key (Some new)) other None ≡ Some another
       → ((other ≡ key) × (another ≡ new)) ⊎ ((other ≢ key) × (get_or slots other None ≡ Some another))
   get_set slots key other new another lt e = elim (cases_eq other key) [
     | inl same ↦ inl (same, some_same (sym e ∙ ap (λ (k : ℕ). get_or (set slots key (Some new)) k None) same ∙ get_or-set_same slots key (Some new) None lt))

@@ -1,9 +1,12 @@
 -- A stream that holds what it has taken, before another one.
-use Rattle.std.specs.Prelude.{◌≡◌, ◌⊎◌, ◌+◌, ◌-◌, ◌<◌, ◌≤◌, ◌==◌, ◌++◌, ◌||◌, ◌≢◌, ◌↔◌, ℕ, Bool, true, false}
-use Rattle.std.specs.Prelude.{List, [], ◌∷◌, take, drop, length, vec_len}
-use Rattle.stream_driver.specs.Types.{Call, Read, Write, ReadAnswer, Moved, Blocked, Failed, Ended, WriteAnswer, Wrote, WriteBlocked, WriteFailed, HeldBytes, Flushed, All, FlushedBlocked as FlushBlocked, FlushedFailed as FlushFailed, BufferedStream}
+use Rattle.std.specs.Prelude.{◌≡◌, ◌⊎◌, ◌+◌, ◌-◌, ◌<◌, ◌≤◌, ◌==◌, ◌++◌, ◌||◌, ◌≢◌, ◌↔◌, ℕ, Bool, true, false, List}
+use Rattle.std.specs.Prelude.{[], ◌∷◌, take, drop, length, min, nat_lt, vec_len}
 use Rattle.stream_driver.specs.Counts.{counted, counted_with}
-use Rattle.stream_driver.specs.Traffic.{AllMoved, DepartAt, EndsWith, Traffic, ReadsWithin, WritesWithin, bytes_read, bytes_written, untouched}
+use Rattle.stream_driver.specs.Traffic.{AllMoved, DepartAt, EndsWith, Traffic, ReadsWithin, WritesWithin, bytes_read}
+use Rattle.stream_driver.specs.Traffic.{bytes_written, untouched}
+use Rattle.stream_driver.specs.Types.{Call, Read, Write, ReadAnswer, Moved, Blocked, Failed, Ended, WriteAnswer}
+use Rattle.stream_driver.specs.Types.{Wrote, WriteBlocked, WriteFailed, HeldBytes, Flushed, All}
+use Rattle.stream_driver.specs.Types.{FlushedBlocked as FlushBlocked, FlushedFailed as FlushFailed, BufferedStream}
 
 -- the bytes that are held
 abbrev pub held_in : HeldBytes → List ℕ
@@ -32,6 +35,8 @@ module _ {T : Type 0} where
     pub drained : b.is_drained ≡ false
     pub reads_on : b.reads_on ≡ false
     pub share : b.share ≡ 262144
+    pub appended : b.appended ≡ false
+    pub heavy : b.is_heavy ≡ false
     pub counts : counted b.counts ≡ untouched
 
   -- the next drive may read, and has a share of its own
@@ -42,16 +47,40 @@ module _ {T : Type 0} where
   abbrev pub has_had_share : BufferedStream T → Bool
   has_had_share b = b.share == 0
 
+  -- a drive appended a record, and with a reply of so many bytes its share ends
+  abbrev pub share_ended : ℕ → BufferedStream T → BufferedStream T
+  share_ended reply b = record b { share = min b.share reply; appended = true }
+
+  -- it takes no more than so many bytes until the next drive, as a record was appended
+  pub record TakesAtMost (most : ℕ) (b : BufferedStream T) : Type 0 where
+    pub share : b.share ≤ most
+    pub appended : b.appended ≡ true
+
   -- No share is left, and nothing happens: the stream behind isn't called, and what is held is held still.
   pub record Pauses (old new : BufferedStream T) : Type 0 where
     pub none_left : old.share ≡ 0
     pub inner_is : new.inner ≡ old.inner
     pub held_is : new.held ≡ old.held
 
-  -- The traffic of a buffered stream: what it gave is what the stream behind gave, and what it took is what the stream behind took, followed
-  -- by what it holds. What has left, left from the stream behind, whose number it has. The answers are its own.
+  -- What is held has failed to leave, and nothing happens: the stream behind isn't called, and what is held is held
+  -- still.
+  pub record Stops (old new : BufferedStream T) : Type 0 where
+    pub failed : old.has_failed ≡ true
+    pub inner_is : new.inner ≡ old.inner
+    pub held_is : new.held ≡ old.held
+
+  -- it calls the stream behind: some share is left, and what is held hasn't failed to leave
+  pub record GoesOn (old : BufferedStream T) : Type 0 where
+    pub some : 0 < old.share
+    pub failed : old.has_failed ≡ false
+
+  -- The traffic of a buffered stream: what it gave is what the stream behind gave, and what it took is what the stream
+  -- behind took, followed by what it holds. What has left, left from the stream behind, whose number it has. The
+  -- answers are its own.
   abbrev pub traffic_through : (T → Traffic) → BufferedStream T → Traffic
-  traffic_through traffic b = counted_with b.counts (traffic b.inner).given ((traffic b.inner).taken ++ held_in b.held) (traffic b.inner).departed (traffic b.inner).connection
+  traffic_through traffic b =
+      counted_with b.counts (traffic b.inner).given ((traffic b.inner).taken
+      ++ held_in b.held) (traffic b.inner).departed (traffic b.inner).connection
 
   -- over the stream these bytes more were given
   abbrev pub GivesMore : (T → Traffic) → BufferedStream T → List ℕ → BufferedStream T → Type 0
@@ -65,19 +94,25 @@ module _ {T : Type 0} where
   abbrev pub LeavesAt : ℕ → (T → Traffic) → BufferedStream T → BufferedStream T → Type 0
   LeavesAt moment traffic old new = DepartAt moment (traffic_through traffic old) (traffic_through traffic new)
 
-  -- A read that gave fewer bytes than it was asked for is short, unless such a read means nothing; where it gave none, it is as the last
-  -- one was. Nothing was taken since then.
+  -- A read that gave fewer bytes than it was asked for is short, unless such a read means nothing; where it gave none,
+  -- it is as the last one was. Nothing was taken since then.
   abbrev pub ShortAfter : BufferedStream T → ℕ → ReadAnswer → BufferedStream T → Type 0
   ShortAfter old len (Moved n) new = (new.is_short ≡ true) ↔ ((n < len) × (old.reads_on ≡ false))
   ShortAfter old len Blocked new = new.is_short ≡ old.is_short
   ShortAfter old len Failed new = new.is_short ≡ old.is_short
   ShortAfter old len Ended new = new.is_short ≡ old.is_short
 
+  -- what it has of its turn is as it was
+  pub record KeepsTurn (old new : BufferedStream T) : Type 0 where
+    pub share : new.share ≡ old.share
+    pub appended : new.appended ≡ old.appended
+    pub heavy : new.is_heavy ≡ old.is_heavy
+
   pub record ReadsShort (old : BufferedStream T) (len : ℕ) (answer : ReadAnswer) (new : BufferedStream T) : Type 0 where
     pub short : ShortAfter old len answer new
     pub drained : new.is_drained ≡ old.is_drained
     pub reads_on : new.reads_on ≡ old.reads_on
-    pub share : new.share ≡ old.share
+    pub turn : KeepsTurn old new
 
   -- once bytes were taken after a short read, this drive has read all that is there
   abbrev pub is_drained_after : WriteAnswer → BufferedStream T → Bool
@@ -85,14 +120,23 @@ module _ {T : Type 0} where
   is_drained_after WriteBlocked b = b.is_drained
   is_drained_after WriteFailed b = b.is_drained
 
+  -- more than 32,768 bytes of a share of 262,144 make a drive heavy
+  abbrev pub is_heavy_after : WriteAnswer → BufferedStream T → Bool
+  is_heavy_after (Wrote n) b = b.is_heavy || nat_lt (b.share - n) 229376
+  is_heavy_after WriteBlocked b = b.is_heavy
+  is_heavy_after WriteFailed b = b.is_heavy
+
   -- and what it took uses up its share
   pub record Drains (old : BufferedStream T) (answer : WriteAnswer) (new : BufferedStream T) : Type 0 where
     pub drained : new.is_drained ≡ is_drained_after answer old
     pub short : new.is_short ≡ old.is_short
     pub reads_on : new.reads_on ≡ old.reads_on
     pub share : new.share + bytes_written answer ≡ old.share
+    pub appended : new.appended ≡ old.appended
+    pub heavy : new.is_heavy ≡ is_heavy_after answer old
 
-  -- Nothing of what is held has left, and whether it failed to leave is as it was; or some has, and it has not failed since.
+  -- Nothing of what is held has left, and whether it failed to leave is as it was; or some has, and it has not failed
+  -- since.
   abbrev pub StaysFailed : BufferedStream T → BufferedStream T → Type 0
   StaysFailed old new =
       ((held_in new.held ≡ held_in old.held) × (new.has_failed ≡ old.has_failed))
@@ -151,9 +195,11 @@ module _ {T : Type 0} where
     WhyTookSome old WriteBlocked new = BehindEnds (Write WriteBlocked) old new
     WhyTookSome old WriteFailed new = BehindEnds (Write WriteFailed) old new
 
-    -- why a write answers so: it blocks where no share is left
+    -- why a write answers so: it blocks where no share is left, and fails once what is held has failed to leave
     abbrev pub WhyTook : BufferedStream T → WriteAnswer → BufferedStream T → Type 0
-    WhyTook old answer new = (Pauses old new × (answer ≡ WriteBlocked)) ⊎ ((0 < old.share) × WhyTookSome old answer new)
+    WhyTook old answer new =
+        (Pauses old new × (answer ≡ WriteBlocked))
+        ⊎ ((Stops old new × (answer ≡ WriteFailed)) ⊎ (GoesOn old × WhyTookSome old answer new))
 
     -- the stream behind was read once nothing was held, in a drive that hadn't read all that is there
     abbrev pub WasRead : BufferedStream T → ReadAnswer → BufferedStream T → Type 0
@@ -170,16 +216,23 @@ module _ {T : Type 0} where
         ⊎ (BehindEnds (Write WriteBlocked) old new
         ⊎ ((old.is_drained ≡ true) × (held_in new.held ≡ []) × BehindMoved old new))
 
-    -- why a read answers so: it blocks where no share is left
+    -- why a read answers so: it blocks where no share is left, and fails once what is held has failed to leave
     abbrev pub WhyGave : BufferedStream T → ReadAnswer → BufferedStream T → Type 0
-    WhyGave old answer new = (Pauses old new × (answer ≡ Blocked)) ⊎ ((0 < old.share) × WhyGaveSome old answer new)
+    WhyGave old answer new =
+        (Pauses old new × (answer ≡ Blocked))
+        ⊎ ((Stops old new × (answer ≡ Failed)) ⊎ (GoesOn old × WhyGaveSome old answer new))
 
-    -- One write of what is held: so much has left, or the stream behind blocked or failed, and all is held still. It has failed after
-    -- the stream behind failed, and no more after some has left.
+    -- One write of what is held: so much has left, or the stream behind blocked or failed, and all is held still. It
+    -- has failed after the stream behind failed, and no more after some has left.
     abbrev pub WhyWroteHeld : BufferedStream T → WriteAnswer → BufferedStream T → Type 0
-    WhyWroteHeld old (Wrote n) new = (0 < n) × (n ≤ length (held_in old.held)) × (held_in new.held ≡ drop n (held_in old.held)) × (new.has_failed ≡ false) × BehindMoved old new
-    WhyWroteHeld old WriteBlocked new = (held_in new.held ≡ held_in old.held) × BehindEnds (Write WriteBlocked) old new × (new.has_failed ≡ old.has_failed)
-    WhyWroteHeld old WriteFailed new = (held_in new.held ≡ held_in old.held) × BehindEnds (Write WriteFailed) old new × (new.has_failed ≡ true)
+    WhyWroteHeld old (Wrote n) new =
+        (0 < n) × (n ≤ length (held_in old.held)) × (held_in new.held ≡ drop n (held_in old.held))
+        × (new.has_failed ≡ false) × BehindMoved old new
+    WhyWroteHeld old WriteBlocked new =
+        (held_in new.held ≡ held_in old.held) × BehindEnds (Write WriteBlocked) old new
+        × (new.has_failed ≡ old.has_failed)
+    WhyWroteHeld old WriteFailed new =
+        (held_in new.held ≡ held_in old.held) × BehindEnds (Write WriteFailed) old new × (new.has_failed ≡ true)
 
     -- why no more of what is held was written: nothing is held, or the stream behind blocked or failed
     abbrev pub WhyFlushed : BufferedStream T → Flushed → BufferedStream T → Type 0
@@ -197,7 +250,7 @@ module _ {T : Type 0} where
       pub short : new.is_short ≡ old.is_short
       pub drained : new.is_drained ≡ old.is_drained
       pub reads_on : new.reads_on ≡ old.reads_on
-      pub share : new.share ≡ old.share
+      pub turn : KeepsTurn old new
 
     pub record WritesHeld (old : BufferedStream T) (answer : WriteAnswer) (new : BufferedStream T) : Type 0 where
       pub kept : KeepsBytes old new
@@ -210,21 +263,25 @@ module _ {T : Type 0} where
 
     -- what is held is written, unless the stream behind failed to take it
     abbrev pub Finishes : BufferedStream T → BufferedStream T → Type 0
-    Finishes old new = ((old.has_failed ≡ true) × (new ≡ old)) ⊎ ((old.has_failed ≡ false) × (answer : Flushed) × Flushes old answer new)
+    Finishes old new = ((old.has_failed ≡ true) × (new ≡ old))
+        ⊎ ((old.has_failed ≡ false) × (answer : Flushed) × Flushes old answer new)
 
-    pub record TakesSome (old : BufferedStream T) (from : List ℕ) (answer : WriteAnswer) (new : BufferedStream T) : Type 0 where
+    pub record TakesSome (old : BufferedStream T) (from : List ℕ) (answer : WriteAnswer) (new : BufferedStream T) : Type
+        0 where
       pub within : WritesWithin answer (length from)
       pub given : tells → (traffic new.inner).given ≡ (traffic old.inner).given
-      pub taken : tells → (traffic new.inner).taken ++ held_in new.held ≡ ((traffic old.inner).taken ++ held_in old.held) ++ take (bytes_written answer) from
+      pub taken : tells → (traffic new.inner).taken ++ held_in new.held
+          ≡ ((traffic old.inner).taken ++ held_in old.held) ++ take (bytes_written answer) from
       pub departed : tells → DepartAt moment (traffic_through traffic old) (traffic_through traffic new)
       pub counts : new.counts ≡ old.counts
       pub failed : WriteFails old answer new
       pub short : new.is_short ≡ old.is_short
       pub drained : new.is_drained ≡ old.is_drained
       pub reads_on : new.reads_on ≡ old.reads_on
-      pub share : new.share ≡ old.share
+      pub turn : KeepsTurn old new
 
-    pub record GivesSome (old : BufferedStream T) (before : List ℕ) (answer : ReadAnswer) (new : BufferedStream T) (after : List ℕ) : Type 0 where
+    pub record GivesSome (old : BufferedStream T) (before : List ℕ) (answer : ReadAnswer) (new : BufferedStream T)
+        (after : List ℕ) : Type 0 where
       pub within : ReadsWithin answer (length before)
       pub given : tells → (traffic new.inner).given ≡ (traffic old.inner).given ++ take (bytes_read answer) after
       pub taken : tells → (traffic new.inner).taken ++ held_in new.held ≡ (traffic old.inner).taken ++ held_in old.held

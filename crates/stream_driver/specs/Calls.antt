@@ -1,21 +1,27 @@
 -- What the parts of a drive do.
 use Rattle.std.specs.Prelude.{◌≡◌, ◌≢◌, ℕ, ◌+◌, ◌<◌, ◌≤◌, [], length}
-use Rattle.sessions.specs.declared.events.Status.TheVariants.{Open, Ending, Refused}
 use Rattle.sessions.specs.SessionStreams.{HubState}
-use Rattle.stream_driver.specs.Types.{Read, Write, ReadAnswer, Moved, Blocked, Failed, Ended, WriteAnswer, Wrote, WriteBlocked, WriteFailed, OutputState, Empty, FlushBlocked, FlushFailed, Exchange, Served, Broke, Starved, ExchangeBlocked, ExchangeFailed, ExchangeEnded}
-use Rattle.stream_driver.specs.{Traffic.Traffic, Traffic.AllMoved, Traffic.EndsWith, Drives.Carried}
+use Rattle.sessions.specs.declared.events.Status.TheVariants.{Open, Ending, Refused}
+use Rattle.stream_driver.specs.Drives.{Carried}
 use Rattle.stream_driver.specs.Sessions.{Point, status_at, room_at, pending_at, AwaitsMore}
+use Rattle.stream_driver.specs.Traffic.{Traffic, AllMoved, EndsWith}
+use Rattle.stream_driver.specs.Types.{Read, Write, ReadAnswer, Moved, Blocked, Failed, Ended, WriteAnswer, Wrote}
+use Rattle.stream_driver.specs.Types.{WriteBlocked, WriteFailed, OutputState, Empty, FlushBlocked, FlushFailed}
+use Rattle.stream_driver.specs.Types.{Exchange, Served, Broke, Starved, ExchangeBlocked, ExchangeFailed}
+use Rattle.stream_driver.specs.Types.{ExchangeEnded}
 
 -- how many requests were served
-abbrev pub served_in : {s : ℕ} {tells : Type 0} {old : Point} {before : Traffic} {new : Point} {after : Traffic} → Carried s tells old before new after → ℕ
+abbrev pub served_in : {s : ℕ} {tells : Type 0} {old : Point} {before : Traffic} {new : Point} {after : Traffic}
+    → Carried s tells old before new after → ℕ
 served_in c = length c.runs.history.served
 
 -- nothing was served or replied, and the session stands as it stood
-pub record Moves (s : ℕ) (tells : Type 0) (old : Point) (before : Traffic) (new : Point) (after : Traffic) : Type 0 where
-  pub carried : Carried s tells old before new after
-  pub none_served : served_in carried ≡ 0
-  pub none_replied : carried.runs.history.replies ≡ []
-  pub status : status_at new.hub s ≡ status_at old.hub s
+pub record Moves (s : ℕ) (tells : Type 0) (old : Point) (before : Traffic) (new : Point) (after : Traffic) : Type 0
+  where
+    pub carried : Carried s tells old before new after
+    pub none_served : served_in carried ≡ 0
+    pub none_replied : carried.runs.history.replies ≡ []
+    pub status : status_at new.hub s ≡ status_at old.hub s
 
 -- one write
 abbrev pub WhyWrote : ℕ → HubState → HubState → WriteAnswer → Type 0
@@ -23,7 +29,8 @@ WhyWrote s old new (Wrote n) = (0 < n) × (length (pending_at new s) + n ≡ len
 WhyWrote s old new WriteBlocked = pending_at new s ≡ pending_at old s
 WhyWrote s old new WriteFailed = pending_at new s ≡ pending_at old s
 
-pub record WritesSome (s : ℕ) (tells : Type 0) (old : Point) (before : Traffic) (answer : WriteAnswer) (new : Point) (after : Traffic) : Type 0 where
+pub record WritesSome (s : ℕ) (tells : Type 0) (old : Point) (before : Traffic) (answer : WriteAnswer) (new : Point)
+    (after : Traffic) : Type 0 where
   pub moves : Moves s tells old before new after
   pub answered : EndsWith (Write answer) before after
   pub why : WhyWrote s old.hub new.hub answer
@@ -34,7 +41,8 @@ WhyFlushed s new before after Empty = AllMoved before after × (pending_at new s
 WhyFlushed s new before after FlushBlocked = EndsWith (Write WriteBlocked) before after × (pending_at new s ≢ [])
 WhyFlushed s new before after FlushFailed = EndsWith (Write WriteFailed) before after × (pending_at new s ≢ [])
 
-pub record Flushes (s : ℕ) (tells : Type 0) (old : Point) (before : Traffic) (answer : OutputState) (new : Point) (after : Traffic) : Type 0 where
+pub record Flushes (s : ℕ) (tells : Type 0) (old : Point) (before : Traffic) (answer : OutputState) (new : Point)
+    (after : Traffic) : Type 0 where
   pub moves : Moves s tells old before new after
   pub why : WhyFlushed s new.hub before after answer
 
@@ -45,7 +53,8 @@ WhyRead s old new Blocked = new ≡ old
 WhyRead s old new Failed = new ≡ old
 WhyRead s old new Ended = new ≡ old
 
-pub record ReadsSome (s : ℕ) (tells : Type 0) (old : Point) (before : Traffic) (answer : ReadAnswer) (new : Point) (after : Traffic) : Type 0 where
+pub record ReadsSome (s : ℕ) (tells : Type 0) (old : Point) (before : Traffic) (answer : ReadAnswer) (new : Point)
+    (after : Traffic) : Type 0 where
   pub moves : Moves s tells old before new after
   pub none_sent : moves.carried.runs.history.sent ≡ []
   pub pending : pending_at new.hub s ≡ pending_at old.hub s
@@ -54,9 +63,11 @@ pub record ReadsSome (s : ℕ) (tells : Type 0) (old : Point) (before : Traffic)
 
 -- where the session waits for the rest of a request, and its inbox has so much room
 abbrev pub ReadsInTurn : ℕ → ℕ → Type 0 → Point → Traffic → ReadAnswer → Point → Traffic → Type 0
-ReadsInTurn room s tells old before answer new after = AwaitsMore old.hub s → room ≡ room_at old.hub s → ReadsSome s tells old before answer new after
+ReadsInTurn room s tells old before answer new after = AwaitsMore old.hub s → room ≡ room_at old.hub s
+    → ReadsSome s tells old before answer new after
 
--- one request: it was executed, or no request began there, or memory was refused, or the stream stopped at a beginning of one
+-- one request: it was executed, or no request began there, or memory was refused, or the stream stopped at a beginning
+-- of one
 abbrev pub WhyExchanged : ℕ → HubState → Traffic → Traffic → ℕ → Exchange → Type 0
 WhyExchanged s new before after served Served = AllMoved before after × (status_at new s ≡ Open) × (served ≡ 1)
 WhyExchanged s new before after served Broke = AllMoved before after × (status_at new s ≡ Ending)
@@ -65,20 +76,23 @@ WhyExchanged s new before after served ExchangeBlocked = EndsWith (Read Blocked)
 WhyExchanged s new before after served ExchangeFailed = EndsWith (Read Failed) before after × AwaitsMore new s
 WhyExchanged s new before after served ExchangeEnded = EndsWith (Read Ended) before after × AwaitsMore new s
 
-pub record Exchanges (s : ℕ) (tells : Type 0) (old : Point) (before : Traffic) (answer : Exchange) (new : Point) (after : Traffic) : Type 0 where
+pub record Exchanges (s : ℕ) (tells : Type 0) (old : Point) (before : Traffic) (answer : Exchange) (new : Point)
+    (after : Traffic) : Type 0 where
   pub carried : Carried s tells old before new after
   pub few : served_in carried ≤ 1
   pub none_sent : carried.runs.history.sent ≡ []
   pub why : WhyExchanged s new.hub before after (served_in carried) answer
 
 -- between two writes: so much is pending
-pub record WrittenSoFar (s : ℕ) (tells : Type 0) (old : Point) (before : Traffic) (new : Point) (after : Traffic) (owed : ℕ) : Type 0 where
+pub record WrittenSoFar (s : ℕ) (tells : Type 0) (old : Point) (before : Traffic) (new : Point) (after : Traffic)
+    (owed : ℕ) : Type 0 where
   pub moves : Moves s tells old before new after
   pub moved : AllMoved before after
   pub owed_is : owed ≡ length (pending_at new.hub s)
 
 -- between two reads: so much room is left
-pub record ReadSoFar (s : ℕ) (tells : Type 0) (old : Point) (before : Traffic) (new : Point) (after : Traffic) (room : ℕ) : Type 0 where
+pub record ReadSoFar (s : ℕ) (tells : Type 0) (old : Point) (before : Traffic) (new : Point) (after : Traffic)
+    (room : ℕ) : Type 0 where
   pub moves : Moves s tells old before new after
   pub moved : AllMoved before after
   pub none_sent : moves.carried.runs.history.sent ≡ []
@@ -87,12 +101,14 @@ pub record ReadSoFar (s : ℕ) (tells : Type 0) (old : Point) (before : Traffic)
   pub room_is : room ≡ room_at new.hub s
 
 -- between two requests
-pub record DrivenSoFar (s : ℕ) (tells : Type 0) (old : Point) (before : Traffic) (new : Point) (after : Traffic) (served : ℕ) : Type 0 where
+pub record DrivenSoFar (s : ℕ) (tells : Type 0) (old : Point) (before : Traffic) (new : Point) (after : Traffic)
+    (served : ℕ) : Type 0 where
   pub carried : Carried s tells old before new after
   pub few : served_in carried ≤ served
 
 -- each call moved bytes, and while the session is open as many requests were served
-pub record DrivenOut (s : ℕ) (tells : Type 0) (old : Point) (before : Traffic) (new : Point) (after : Traffic) (served : ℕ) : Type 0 where
+pub record DrivenOut (s : ℕ) (tells : Type 0) (old : Point) (before : Traffic) (new : Point) (after : Traffic)
+    (served : ℕ) : Type 0 where
   pub driven : DrivenSoFar s tells old before new after served
   pub moved : AllMoved before after
   pub served_is : status_at new.hub s ≡ Open → served_in driven.carried ≡ served

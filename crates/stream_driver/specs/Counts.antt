@@ -1,6 +1,7 @@
 -- The counts of a stream's answers as its traffic.
 use Rattle.std.specs.Prelude.{◌≡◌, ℕ, List, []}
-use Rattle.stream_driver.specs.{Types.Call, Types.CallCounts, Traffic.Departure, Traffic.EndsWith, Traffic.Traffic}
+use Rattle.stream_driver.specs.Traffic.{Departure, EndsWith, Traffic}
+use Rattle.stream_driver.specs.Types.{Call, CallCounts}
 
 -- counts and the last call, with the bytes that went each way, what has left, and the number of the connection
 abbrev pub counted_with : CallCounts → List ℕ → List ℕ → List Departure → ℕ → Traffic
@@ -22,5 +23,7 @@ counted c = counted_with c [] [] [] 0
 
 -- the last call was this one, and it alone was counted, whatever has moved over the connection
 abbrev pub Notes : Call → CallCounts → CallCounts → Type 0
-Notes call old new = (given taken later_given later_taken : List ℕ) (departed later_departed : List Departure) (connection later : ℕ) → later ≡ connection
-    → EndsWith call (counted_with old given taken departed connection) (counted_with new later_given later_taken later_departed later)
+Notes call old new = (given taken later_given later_taken : List ℕ) (departed later_departed : List Departure)
+    (connection later : ℕ) → later ≡ connection
+    → EndsWith call (counted_with old given taken departed connection)
+    (counted_with new later_given later_taken later_departed later)

@@ -1,21 +1,24 @@
 -- What a drive does to the hub and to the stream.
 use Rattle.std.specs.Prelude.{◌≡◌, ◌≢◌, ◌⊎◌, ℕ, ◌≤◌, [], ◌∷◌, ◌++◌, length}
-use Rattle.sessions.specs.declared.events.Status.TheVariants.{Open, Ending, Refused}
 use Rattle.engine.specs.Meaning.{has_risen}
 use Rattle.sessions.specs.SessionStreams.{HubState, Leaves, Choice}
-use Rattle.stream_driver.specs.Types.{Read, Write, Blocked as ReadBlocked, Failed as ReadFailed, Ended as ReadEnded, WriteBlocked, WriteFailed, Progress, Waiting, Again, Gone}
-use Rattle.stream_driver.specs.Traffic.{Traffic, AllMoved, EndsWith}
+use Rattle.sessions.specs.declared.events.Status.TheVariants.{Open, Ending, Refused}
 use Rattle.stream_driver.specs.Sessions.{Adds, Point, Runs, AwaitsMore, ComeInTurn, status_at, pending_at}
+use Rattle.stream_driver.specs.Traffic.{Traffic, AllMoved, EndsWith}
+use Rattle.stream_driver.specs.Types.{Read, Write, Blocked as ReadBlocked, Failed as ReadFailed, Ended as ReadEnded}
+use Rattle.stream_driver.specs.Types.{WriteBlocked, WriteFailed, Progress, Waiting, Again, Gone}
 
--- a run of one session over a stream: what the stream gave received in, each time where the session waited for it, and what was sent the stream took
-pub record Carried (s : ℕ) (tells : Type 0) (old : Point) (before : Traffic) (new : Point) (after : Traffic) : Type 0 where
-  pub runs : Runs s old new
-  pub in_turn : ComeInTurn old.hub runs.events
-  pub given : tells → after.given ≡ before.given ++ runs.history.received
-  pub taken : tells → after.taken ≡ before.taken ++ runs.history.sent
+-- a run of one session over a stream: what the stream gave received in, each time where the session waited for it, and
+-- what was sent the stream took
+pub record Carried (s : ℕ) (tells : Type 0) (old : Point) (before : Traffic) (new : Point) (after : Traffic) : Type 0
+  where
+    pub runs : Runs s old new
+    pub in_turn : ComeInTurn old.hub runs.events
+    pub given : tells → after.given ≡ before.given ++ runs.history.received
+    pub taken : tells → after.taken ≡ before.taken ++ runs.history.sent
 
--- Why a drive that has come this far answers so. Each of its calls of the stream moved bytes, but the last one where that is the reason:
--- so none follows a call that blocked, failed or ended. `Again` comes after 64 requests.
+-- Why a drive that has come this far answers so. Each of its calls of the stream moved bytes, but the last one where
+-- that is the reason: so none follows a call that blocked, failed or ended. `Again` comes after 64 requests.
 abbrev pub Why : ℕ → HubState → Traffic → Traffic → ℕ → Progress → Type 0
 Why s last before after served Waiting =
     (EndsWith (Write WriteBlocked) before after × (pending_at last s ≢ []))
@@ -26,7 +29,8 @@ Why s last before after served Gone =
     (EndsWith (Read ReadFailed) before after × AwaitsMore last s)
     ⊎ ((EndsWith (Write WriteFailed) before after × (pending_at last s ≢ []))
     ⊎ ((EndsWith (Read ReadEnded) before after × AwaitsMore last s)
-    ⊎ (AllMoved before after × ((status_at last s ≡ Refused) ⊎ ((status_at last s ≡ Ending) × (pending_at last s ≡ []))))))
+    ⊎ (AllMoved before after
+    × ((status_at last s ≡ Refused) ⊎ ((status_at last s ≡ Ending) × (pending_at last s ≡ []))))))
 
 -- the session leaves
 pub record Departs (s : ℕ) (last new : Point) : Type 0 where
@@ -42,7 +46,8 @@ EndsAs s last new Again = new ≡ last
 EndsAs s last new Gone = Departs s last new
 
 -- one drive: at most 64 requests were served
-pub record Drove (s : ℕ) (tells : Type 0) (old : Point) (before : Traffic) (answer : Progress) (new : Point) (after : Traffic) : Type 0 where
+pub record Drove (s : ℕ) (tells : Type 0) (old : Point) (before : Traffic) (answer : Progress) (new : Point)
+    (after : Traffic) : Type 0 where
   pub last : Point
   pub carried : Carried s tells old before last after
   pub few : length carried.runs.history.served ≤ 64

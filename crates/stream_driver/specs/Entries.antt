@@ -1,8 +1,13 @@
 -- What a turn over the table of connections does.
-use Rattle.std.specs.Prelude.{◌≡◌, ◌≢◌, ℕ, ◌&&◌, Bool, cond, true, false, List, [], ◌∷◌, Option, Some, None, slice_index_or, take, drop, length}
-use Rattle.stream_driver.specs.Types.{Progress, Waiting, Again, Gone, EntryState, Idle, Ready, EntryGone, Entry, BufferedStream}
-use Rattle.stream_driver.specs.{Traffic.Traffic, Buffers.Finishes, Buffers.fresh, Buffers.has_had_share, Buffers.is_settled, Sends.DrivesTelling, Sends.LeadsTelling, Drives.Drove}
+use Rattle.std.specs.Prelude.{◌≡◌, ◌≢◌, ℕ, ◌&&◌, Bool, cond, true, false, List, [], ◌∷◌, Option, Some, None}
+use Rattle.std.specs.Prelude.{slice_index_or, take, drop, length}
+use Rattle.stream_driver.specs.Buffers.{Finishes, fresh, has_had_share, is_settled}
+use Rattle.stream_driver.specs.Drives.{Drove}
+use Rattle.stream_driver.specs.Sends.{DrivesTelling, LeadsTelling}
 use Rattle.stream_driver.specs.Sessions.{Ghosts, Hub, IsPresent, Point}
+use Rattle.stream_driver.specs.Traffic.{Traffic}
+use Rattle.stream_driver.specs.Types.{Progress, Waiting, Again, Gone, EntryState, Idle, Ready, EntryGone, Entry}
+use Rattle.stream_driver.specs.Types.{BufferedStream}
 
 -- what an entry is after its drive
 abbrev pub state_after : Progress → EntryState
@@ -11,14 +16,18 @@ state_after Again = Ready
 state_after Gone = EntryGone
 
 -- each entry that isn't gone has a session that is present, and that no other entry has
-pub record HaveSessions {D : Type 0} {g : Ghosts D} {T : Type 0} (hub : Hub D g) (slots : List (Option (Entry T))) : Type 0 where
-  pub present : (key : ℕ) (entry : Entry T) → slice_index_or slots key None ≡ Some entry → entry.state ≢ EntryGone → IsPresent hub entry.session
-  pub own : (key other : ℕ) (entry another : Entry T) → slice_index_or slots key None ≡ Some entry → slice_index_or slots other None ≡ Some another
+pub record HaveSessions {D : Type 0} {g : Ghosts D} {T : Type 0} (hub : Hub D g) (slots : List (Option (Entry T))) :
+    Type 0 where
+  pub present : (key : ℕ) (entry : Entry T) → slice_index_or slots key None ≡ Some entry → entry.state ≢ EntryGone
+      → IsPresent hub entry.session
+  pub own : (key other : ℕ) (entry another : Entry T) → slice_index_or slots key None ≡ Some entry
+      → slice_index_or slots other None ≡ Some another
       → entry.state ≢ EntryGone → another.state ≢ EntryGone → entry.session ≡ another.session → key ≡ other
 
 -- each entry has the session that it had
 abbrev pub KeepSessions : {T : Type 0} → List (Option (Entry T)) → List (Option (Entry T)) → Type 0
-KeepSessions {T} old new = (key : ℕ) (entry : Entry T) → slice_index_or new key None ≡ Some entry → (was : Entry T) × (slice_index_or old key None ≡ Some was) × (entry.session ≡ was.session)
+KeepSessions {T} old new = (key : ℕ) (entry : Entry T) → slice_index_or new key None ≡ Some entry
+    → (was : Entry T) × (slice_index_or old key None ≡ Some was) × (entry.session ≡ was.session)
 
 module _ {T : Type 0} (tells : Type 0) (traffic : T → Traffic) where
   -- one drive left the entry so
@@ -45,18 +54,23 @@ module _ {T : Type 0} (tells : Type 0) (traffic : T → Traffic) where
   abbrev pub DrivenAll : Point → List (Option (Entry T)) → Point → List (Option (Entry T)) → Type 0
   DrivenAll earlier [] later new = (new ≡ []) × (later ≡ earlier)
   DrivenAll earlier (slot ∷ slots) later new =
-      (first : Option (Entry T)) × (mid : Point) × (others : List (Option (Entry T))) × (new ≡ first ∷ others) × DrivenSlot earlier slot mid first × DrivenAll mid slots later others
+      (first : Option (Entry T)) × (mid : Point) × (others : List (Option (Entry T))) × (new ≡ first ∷ others)
+      × DrivenSlot earlier slot mid first × DrivenAll mid slots later others
 
   -- a run leads from one hub to the other, and drove the entry
   abbrev pub LeadsEntry : {D : Type 0} {g : Ghosts D} → Hub D g → Entry T → Hub D g → Entry T → Type 0
-  LeadsEntry hub old later new = LeadsTelling old.session tells hub (traffic old.stream) later (traffic new.stream) (λ h k. DrivenEntry h old k new)
+  LeadsEntry hub old later new =
+      LeadsTelling old.session tells hub (traffic old.stream) later (traffic new.stream)
+      (λ h k. DrivenEntry h old k new)
 
   -- and drove the slots
-  abbrev pub LeadsAll : {D : Type 0} {g : Ghosts D} → Hub D g → List (Option (Entry T)) → Hub D g → List (Option (Entry T)) → Type 0
+  abbrev pub LeadsAll : {D : Type 0} {g : Ghosts D} → Hub D g → List (Option (Entry T)) → Hub D g
+      → List (Option (Entry T)) → Type 0
   LeadsAll hub slots later new = DrivesTelling traffic tells hub slots later new (λ h k. DrivenAll h slots k new)
 
   -- the slots below a key were driven, and the others stand as they were
-  pub record EntriesSoFar {D : Type 0} {g : Ghosts D} (key : ℕ) (hub : Hub D g) (slots : List (Option (Entry T))) (later : Hub D g) (new : List (Option (Entry T))) : Type 0 where
+  pub record EntriesSoFar {D : Type 0} {g : Ghosts D} (key : ℕ) (hub : Hub D g) (slots : List (Option (Entry T)))
+      (later : Hub D g) (new : List (Option (Entry T))) : Type 0 where
     pub driven : DrivesTelling traffic tells hub slots later new (λ h k. DrivenAll h (take key slots) k (take key new))
     pub rest : drop key new ≡ drop key slots
     pub len : length new ≡ length slots
@@ -88,8 +102,8 @@ module _ {T : Type 0} where
     EndsIn EntryGone old new = Finishes tells traffic moment (fresh old) new
 
     -- The end of an entry's drive. It is ready exactly where it was, or where it waits as its stream has had its share.
-    -- What its stream holds was written as far as it goes, at this moment of the device, but for a stream that is waited
-    -- for.
+    -- What its stream holds was written as far as it goes, at this moment of the device, but for a stream that is
+    -- waited for.
     pub record EndsDrive (old new : Entry (BufferedStream T)) : Type 0 where
       pub session : new.session ≡ old.session
       pub state : new.state ≡ state_at_end old.state (has_had_share old.stream)

@@ -6,4 +6,5 @@ pub mod Sessions
 pub mod Drives
 pub mod Calls
 pub mod Sends
+pub mod Appends
 pub mod Entries

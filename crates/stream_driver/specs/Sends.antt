@@ -1,13 +1,15 @@
 -- What has left for a peer, and when its session had been answered that.
-use Rattle.std.specs.Prelude.{◌≡◌, ◌≢◌, ◌⊎◌, ℕ, List, ◌++◌, Option, Some, None, slice_index_or}
 use Rattle.std.specs.List.{AllByRecursion}
-use Rattle.sessions.specs.{Laws.Ran, StandsFor.StandsFor, StandsFor.device}
+use Rattle.std.specs.Prelude.{◌≡◌, ◌≢◌, ◌⊎◌, ℕ, List, ◌++◌, Option, Some, None, slice_index_or}
+use Rattle.sessions.specs.Laws.{Ran}
 use Rattle.sessions.specs.SessionStreams.{HubState, HubEvent, Choice, SessionStream, run, stream_of}
-use Rattle.stream_driver.specs.{Types.EntryGone as Gone, Types.Entry, Traffic.Departure, Traffic.IsBeginning, Traffic.Traffic}
+use Rattle.sessions.specs.StandsFor.{StandsFor, device}
 use Rattle.stream_driver.specs.Sessions.{Ghosts, Hub, Leads, Point}
+use Rattle.stream_driver.specs.Traffic.{Departure, IsBeginning, Traffic}
+use Rattle.stream_driver.specs.Types.{EntryGone as Gone, Entry}
 
--- Some of these events, from this state on, led to one in which the session had been answered these bytes: they begin what it was told to
--- be sent and what is pending for it.
+-- Some of these events, from this state on, led to one in which the session had been answered these bytes: they begin
+-- what it was told to be sent and what is pending for it.
 pub record IsAnswered (s : ℕ) (h : HubState) (events : List (HubEvent × Choice)) (bytes : List ℕ) : Type 0 where
   pub by : List (HubEvent × Choice)
   pub since : List (HubEvent × Choice)
@@ -16,9 +18,10 @@ pub record IsAnswered (s : ℕ) (h : HubState) (events : List (HubEvent × Choic
   pub stream_is : stream_of (run h by) s ≡ Some stream
   pub answered : IsBeginning bytes (stream.sent ++ stream.now.pending)
 
--- A departure in a run that begins at this state: the run passes a hub whose device stands at the moment of the departure, and by then the
--- session had been answered the bytes.
-pub record IsToldBefore {D : Type 0} {g : Ghosts D} (s : ℕ) (h : HubState) (old new : Hub D g) (events : List (HubEvent × Choice)) (d : Departure) : Type 0 where
+-- A departure in a run that begins at this state: the run passes a hub whose device stands at the moment of the
+-- departure, and by then the session had been answered the bytes.
+pub record IsToldBefore {D : Type 0} {g : Ghosts D} (s : ℕ) (h : HubState) (old new : Hub D g)
+    (events : List (HubEvent × Choice)) (d : Departure) : Type 0 where
   pub before : List (HubEvent × Choice)
   pub since : List (HubEvent × Choice)
   pub events_are : events ≡ before ++ since
@@ -29,7 +32,8 @@ pub record IsToldBefore {D : Type 0} {g : Ghosts D} (s : ℕ) (h : HubState) (ol
   pub told : IsAnswered s h before d.bytes
 
 -- what left since is told of so
-pub record AreToldBefore {D : Type 0} {g : Ghosts D} (s : ℕ) (h : HubState) (old new : Hub D g) (events : List (HubEvent × Choice)) (before after : Traffic) : Type 0 where
+pub record AreToldBefore {D : Type 0} {g : Ghosts D} (s : ℕ) (h : HubState) (old new : Hub D g)
+    (events : List (HubEvent × Choice)) (before after : Traffic) : Type 0 where
   pub departures : List Departure
   pub departed_are : after.departed ≡ before.departed ++ departures
   pub each : AllByRecursion (IsToldBefore s h old new events) departures
@@ -40,37 +44,52 @@ pub record HasSent (s : ℕ) (h : HubState) (t : Traffic) : Type 0 where
   pub stream_is : stream_of h s ≡ Some stream
   pub taken : t.taken ≡ stream.sent
 
--- A run leads from one hub to the other, and what left over the session's stream in it is told before, in each state at which the stream had
--- taken what was told to be sent. All that the stream has taken was answered, so what it still holds may leave later.
-pub record LeadsTelling {D : Type 0} {g : Ghosts D} (s : ℕ) (tells : Type 0) (old : Hub D g) (before : Traffic) (new : Hub D g) (after : Traffic) (P : Point → Point → Type 0) : Type 0 where
+-- A run leads from one hub to the other, and what left over the session's stream in it is told before, in each state at
+-- which the stream had taken what was told to be sent. All that the stream has taken was answered, so what it still
+-- holds may leave later.
+pub record LeadsTelling {D : Type 0} {g : Ghosts D} (s : ℕ) (tells : Type 0) (old : Hub D g) (before : Traffic)
+    (new : Hub D g) (after : Traffic) (P : Point → Point → Type 0) : Type 0 where
   pub leads : Leads old new P
-  pub telling : tells → (h : HubState) → StandsFor old h → HasSent s h before → AreToldBefore s h old new leads.choices before after
-  pub answered : tells → (h : HubState) → StandsFor old h → HasSent s h before → IsAnswered s h leads.choices after.taken
+  pub telling : tells → (h : HubState) → StandsFor old h → HasSent s h before
+      → AreToldBefore s h old new leads.choices before after
+  pub answered : tells → (h : HubState) → StandsFor old h → HasSent s h before
+      → IsAnswered s h leads.choices after.taken
 
 module _ {T : Type 0} (traffic : T → Traffic) where
   -- so it is of each entry that isn't gone
   abbrev pub HaveSent : HubState → List (Option (Entry T)) → Type 0
-  HaveSent h slots = (key : ℕ) (entry : Entry T) → slice_index_or slots key None ≡ Some entry → entry.state ≢ Gone → HasSent entry.session h (traffic entry.stream)
+  HaveSent h slots = (key : ℕ) (entry : Entry T) → slice_index_or slots key None ≡ Some entry → entry.state ≢ Gone
+      → HasSent entry.session h (traffic entry.stream)
 
   -- what left over the streams of the entries is told before
-  abbrev pub AllTold : {D : Type 0} {g : Ghosts D} → HubState → (old new : Hub D g) → List (HubEvent × Choice) → (slots later : List (Option (Entry T))) → Type 0
+  abbrev pub AllTold : {D : Type 0} {g : Ghosts D} → HubState → (old new : Hub D g) → List (HubEvent × Choice)
+      → (slots later : List (Option (Entry T))) → Type 0
   AllTold h old new events slots later =
-      (key : ℕ) (was entry : Entry T) → slice_index_or slots key None ≡ Some was → slice_index_or later key None ≡ Some entry
+      (key : ℕ) (was entry : Entry T) → slice_index_or slots key None ≡ Some was
+      → slice_index_or later key None ≡ Some entry
       → AreToldBefore was.session h old new events (traffic was.stream) (traffic entry.stream)
 
   -- each of them has taken nothing since, or all that it has taken was answered
   abbrev pub AllAnswered : HubState → List (HubEvent × Choice) → (slots later : List (Option (Entry T))) → Type 0
   AllAnswered h events slots later =
-      (key : ℕ) (was entry : Entry T) → slice_index_or slots key None ≡ Some was → slice_index_or later key None ≡ Some entry
-      → ((traffic entry.stream).taken ≡ (traffic was.stream).taken) ⊎ IsAnswered was.session h events (traffic entry.stream).taken
+      (key : ℕ) (was entry : Entry T) → slice_index_or slots key None ≡ Some was
+      → slice_index_or later key None ≡ Some entry
+      → ((traffic entry.stream).taken ≡ (traffic was.stream).taken)
+      ⊎ IsAnswered was.session h events (traffic entry.stream).taken
 
-  -- A run leads from one hub to the other, and what left over the streams of a table in it is told before; what they took was answered.
-  pub record DrivesTelling {D : Type 0} {g : Ghosts D} (tells : Type 0) (old : Hub D g) (slots : List (Option (Entry T))) (new : Hub D g) (later : List (Option (Entry T))) (P : Point → Point → Type 0) : Type 0 where
+  -- A run leads from one hub to the other, and what left over the streams of a table in it is told before; what they
+  -- took was answered.
+  pub record DrivesTelling {D : Type 0} {g : Ghosts D} (tells : Type 0) (old : Hub D g)
+      (slots : List (Option (Entry T))) (new : Hub D g) (later : List (Option (Entry T))) (P : Point → Point
+      → Type 0) : Type 0 where
     pub leads : Leads old new P
-    pub telling : tells → (h : HubState) → StandsFor old h → HaveSent h slots → AllTold h old new leads.choices slots later
+    pub telling : tells → (h : HubState) → StandsFor old h → HaveSent h slots
+        → AllTold h old new leads.choices slots later
     pub answered : tells → (h : HubState) → StandsFor old h → HaveSent h slots → AllAnswered h leads.choices slots later
     pub keeps : tells → (h : HubState) → StandsFor old h → HaveSent h slots → HaveSent (run h leads.choices) later
 
 -- the run does this over the stream, and the call answers so
-abbrev pub LeadsAs : {D A : Type 0} {g : Ghosts D} → ℕ → (tells : Type 0) → (ℕ → Type 0 → Point → Traffic → A → Point → Traffic → Type 0) → A → Hub D g → Traffic → Hub D g → Traffic → Type 0
-LeadsAs s tells P answer old before new after = LeadsTelling s tells old before new after (λ h k. P s tells h before answer k after)
+abbrev pub LeadsAs : {D A : Type 0} {g : Ghosts D} → ℕ → (tells : Type 0)
+    → (ℕ → Type 0 → Point → Traffic → A → Point → Traffic → Type 0) → A → Hub D g → Traffic → Hub D g → Traffic → Type 0
+LeadsAs s tells P answer old before new after =
+    LeadsTelling s tells old before new after (λ h k. P s tells h before answer k after)

@@ -1,14 +1,20 @@
 -- One session of a hub, and what a run of its events adds to its history.
-use Rattle.std.specs.Prelude.{◌≡◌, ◌≢◌, ℕ, ◌≤◌, true, List, [], ◌∷◌, ◌++◌, map, Option, Some, None}
 use Rattle.std.specs.List.{flat_map, AllByRecursion}
-use Rattle.model.specs.{Leading.LeadsBy, Map.Bytes, Operations.Response, Grammar.IsProperBeginning, ReplyText.reply_text}
-use Rattle.sessions.specs.{declared.events.Status.Status, declared.events.Status.TheVariants.Absent, declared.events.Status.TheVariants.Open}
+use Rattle.std.specs.Prelude.{◌≡◌, ◌≢◌, ℕ, ◌≤◌, true, List, [], ◌∷◌, ◌++◌, map, Option, Some, None}
+use Rattle.model.specs.Grammar.{IsProperBeginning}
+use Rattle.model.specs.Leading.{LeadsBy}
+use Rattle.model.specs.Map.{Bytes}
+use Rattle.model.specs.Operations.{Response}
+use Rattle.model.specs.ReplyText.{reply_text}
 pub use Rattle.sector.specs.declared.device.Sectors.{Ghosts}
 use Rattle.engine.specs.Meaning.{has_risen}
-pub use Rattle.sessions.specs.declared.hub.Hub.{Hub}
-use Rattle.sessions.specs.SessionStreams.{HubState, SessionStream, HubEvent, Joins, Receives, Serves, Sends, Leaves, Choice, ArePossible, hub_step, run, stream_of}
-use Rattle.sessions.specs.StandsFor.{StandsFor, status_of, status_in, room_in, pending_in, failures}
 use Rattle.sessions.specs.Laws.{HasRun, Ran, failures_in}
+use Rattle.sessions.specs.SessionStreams.{HubState, SessionStream, HubEvent, Joins, Receives, Serves, Sends, Leaves}
+use Rattle.sessions.specs.SessionStreams.{Choice, ArePossible, hub_step, run, stream_of}
+use Rattle.sessions.specs.StandsFor.{StandsFor, status_of, status_in, room_in, pending_in, failures}
+use Rattle.sessions.specs.declared.events.Status.{Status}
+use Rattle.sessions.specs.declared.events.Status.TheVariants.{Absent, Open}
+pub use Rattle.sessions.specs.declared.hub.Hub.{Hub}
 
 abbrev pub inbox_in : Option SessionStream → Bytes
 inbox_in None = []
@@ -57,8 +63,9 @@ pub record Adds (old : Point) (choices : List (HubEvent × Choice)) (new : Point
   pub run_is : new.hub ≡ run old.hub choices
   pub events_are : new.events ≡ old.events ++ map (λ e. e.0) choices
 
--- By these events, each with its choice, a run leads from the old hub to the new one: lawful at each moment, and what a crash leaves known.
--- From every point at which the old hub stands they lead to one at which the new hub stands and that is so related to it.
+-- By these events, each with its choice, a run leads from the old hub to the new one: lawful at each moment, and what a
+-- crash leaves known. From every point at which the old hub stands they lead to one at which the new hub stands and
+-- that is so related to it.
 pub record Leads {D : Type 0} {g : Ghosts D} (old new : Hub D g) (P : Point → Point → Type 0) : Type 0 where
   pub choices : List (HubEvent × Choice)
   pub ran : Ran old new choices
@@ -76,8 +83,8 @@ session_of (Serves s) = s
 session_of (Sends s n) = s
 session_of (Leaves s) = s
 
--- what came in, the requests that were served, the machine's replies and what was told to be sent go on; what was sent, followed by
--- what is pending, is what was pending, followed by the texts of these replies
+-- what came in, the requests that were served, the machine's replies and what was told to be sent go on; what was sent,
+-- followed by what is pending, is what was pending, followed by the texts of these replies
 pub record GoesOn (first last : SessionStream) : Type 0 where
   pub received : Bytes
   pub received_is : last.received ≡ first.received ++ received
@@ -89,8 +96,8 @@ pub record GoesOn (first last : SessionStream) : Type 0 where
   pub sent_is : last.sent ≡ first.sent ++ sent
   pub texts : sent ++ last.now.pending ≡ first.now.pending ++ flat_map reply_text replies
 
--- A run of events of one session, which stays present; the others are unchanged. The device fails in none of the events where
--- the count of its failures did not rise.
+-- A run of events of one session, which stays present; the others are unchanged. The device fails in none of the events
+-- where the count of its failures did not rise.
 pub record Runs (s : ℕ) (old new : Point) : Type 0 where
   pub events : List (HubEvent × Choice)
   pub own : AllByRecursion (λ e. session_of e.0 ≡ s) events

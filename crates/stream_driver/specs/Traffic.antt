@@ -1,16 +1,17 @@
 -- What a stream has moved and answered so far.
-use Rattle.std.specs.Prelude.{◌≡◌, ℕ, ◌+◌, ◌<◌, ◌≤◌, ◌^◌, ◌-◌, min, max, List, [], ◌++◌, Option, Some, None}
 use Rattle.std.specs.List.{AllByRecursion}
-use Rattle.stream_driver.specs.Types.{Call, Read, Write, ReadAnswer, Moved, Blocked, Failed, Ended, WriteAnswer, Wrote, WriteBlocked, WriteFailed}
+use Rattle.std.specs.Prelude.{◌≡◌, ℕ, Bool, ◌+◌, ◌<◌, ◌≤◌, ◌^◌, ◌-◌, min, max, List, [], ◌++◌, Option, Some, None}
+use Rattle.stream_driver.specs.Types.{Call, Read, Write, ReadAnswer, Moved, Blocked, Failed, Ended, WriteAnswer}
+use Rattle.stream_driver.specs.Types.{Wrote, WriteBlocked, WriteFailed}
 
 -- all bytes that had left for the peer by a moment of the device
 pub record Departure : Type 0 where
   pub bytes : List ℕ
   pub moment : ℕ
 
--- The bytes that reads gave and writes took, how often each call gave each answer but `Moved`, and the last call with its answer. And what
--- had left for the peer by each moment of the device at which some bytes left: a stream may hold for a while what it has taken. And the number
--- of the connection, which tells it from others.
+-- The bytes that reads gave and writes took, how often each call gave each answer but `Moved`, and the last call with
+-- its answer. And what had left for the peer by each moment of the device at which some bytes left: a stream may hold
+-- for a while what it has taken. And the number of the connection, which tells it from others.
 pub record Traffic : Type 0 where
   pub given : List ℕ
   pub taken : List ℕ
@@ -25,7 +26,18 @@ pub record Traffic : Type 0 where
 
 -- of a stream that was never called, under the number 0
 abbrev pub untouched : Traffic
-untouched = record { given = []; taken = []; departed = []; read_blocked = 0; read_failed = 0; read_ended = 0; write_blocked = 0; write_failed = 0; last = None; connection = 0 }
+untouched = record {
+  given = [];
+  taken = [];
+  departed = [];
+  read_blocked = 0;
+  read_failed = 0;
+  read_ended = 0;
+  write_blocked = 0;
+  write_failed = 0;
+  last = None;
+  connection = 0;
+}
 
 -- a u64 count after one more: the highest stays
 abbrev pub one_more : ℕ → ℕ
@@ -47,6 +59,15 @@ bytes_read _ = 0
 abbrev pub bytes_written : WriteAnswer → ℕ
 bytes_written (Wrote n) = n
 bytes_written _ = 0
+
+-- where it was to take no more than some bytes, it has taken so many of them, and takes the others at most
+abbrev pub TakesOf : {T : Type 0} → (ℕ → T → Type 0) → T → ℕ → T → Type 0
+TakesOf most old bytes new = (n : ℕ) → most n old → (bytes ≤ n) × most (n - bytes) new
+
+-- and whether it was told that its share ends stays
+pub record KeepsTo {T : Type 0} (most : ℕ → T → Type 0) (told : T → Bool) (old : T) (bytes : ℕ) (new : T) : Type 0 where
+  pub takes : TakesOf most old bytes new
+  pub stays : told new ≡ told old
 
 -- what the counts are after this answer; all else is the same
 abbrev pub after_read : ReadAnswer → Traffic → Traffic
@@ -79,7 +100,8 @@ abbrev pub after_call : Call → Traffic → Traffic
 after_call (Read answer) = after_read answer
 after_call (Write answer) = after_write answer
 
--- each call between the two moved bytes, if there was one; and the last call was this one, and each before it moved bytes
+-- each call between the two moved bytes, if there was one; and the last call was this one, and each before it moved
+-- bytes
 abbrev pub AllMoved : Traffic → Traffic → Type 0
 AllMoved before after = SameCounts after before
 

@@ -10,6 +10,9 @@ use std::alloc::{AllocError, Global};
 /// The most bytes that a buffered stream takes in one turn: its share of it.
 pub const SHARE_MAX: usize = 262_144;
 
+/// The most bytes that a buffered stream takes in a drive that isn't heavy.
+pub const LIGHT_MAX: usize = 32_768;
+
 /// How the writing of what a buffered stream holds came out.
 #[derive(Clone, Copy, PartialEq, Eq, Debug)]
 pub enum Flushed {
@@ -27,13 +30,17 @@ pub enum Flushed {
 ///
 /// What it has taken is what the stream behind it took, followed by what it holds. A write is answered `Blocked` or `Failed` only where
 /// the stream behind it was written last, and answered so. A read is answered by the stream behind it once nothing is held; before that,
-/// `Blocked` or `Failed` only where that was written last, and answered so. After a read that gave fewer bytes than it asked for nothing
+/// `Blocked` or `Failed` only where that was written last, and answered so. Once what is held has failed to leave, also between two drives,
+/// reads and writes are answered `Failed` with no further call. After a read that gave fewer bytes than it asked for nothing
 /// more is there, until the poll tells of it: so once a reply to it was taken, a read is answered `Blocked` with no call, until the next
 /// drive begins.
 ///
 /// It takes at most `SHARE_MAX` bytes in a drive, its share of a turn: a write takes no more than is left of it. Once none is left, reads
 /// and writes are answered `Blocked` with no call of the stream behind it, until the next drive begins. No poll tells of that, so whoever
 /// drives it asks whether it `has_had_its_share`. A reply that is larger than the share is taken in parts, over several turns.
+///
+/// A drive that appends a record ends the share with the reply to it. That it did is kept (`has_appended`) until the stream begins a turn
+/// of its own, and so is that a drive took more than `LIGHT_MAX` bytes (`is_heavy`).
 #[derive(Drop)]
 pub struct BufferedStream<S: Stream> {
     inner: S,
@@ -48,6 +55,10 @@ pub struct BufferedStream<S: Stream> {
     reads_on: bool,
     /// How many bytes it may still take in this drive.
     share: usize,
+    /// The last drive of a turn of its own appended a record.
+    appended: bool,
+    /// And it took more than `LIGHT_MAX` bytes.
+    is_heavy: bool,
     counts: CallCounts,
 }
 
@@ -70,6 +81,8 @@ impl<S: Stream> BufferedStream<S> {
             is_drained: false,
             reads_on: false,
             share: SHARE_MAX,
+            appended: false,
+            is_heavy: false,
             counts: CallCounts::new(),
         })
     }
@@ -110,6 +123,35 @@ impl<S: Stream> BufferedStream<S> {
         ensures { result ≡ has_had_share self.now }
     {
         self.share == 0
+    }
+
+    /// Did its last drive append a record? Takes no memory.
+    pub fn has_appended(&self) -> bool
+        ensures { result ≡ self.now.appended }
+    {
+        self.appended
+    }
+
+    /// Did its last drive take more than `LIGHT_MAX` bytes? Takes no memory.
+    pub fn is_heavy(&self) -> bool
+        ensures { result ≡ self.now.is_heavy }
+    {
+        self.is_heavy
+    }
+
+    /// A turn of its own begins: no drive of it has appended a record yet, or taken much. Takes no memory.
+    pub fn begin_turn(&mut self)
+        ensures { self.new ≡ record self.old { appended = false; is_heavy = false } }
+    {
+        self.appended = false;
+        self.is_heavy = false;
+    }
+
+    /// It is passed over in this turn, and so has no share of it. Takes no memory.
+    pub fn pass_over(&mut self)
+        ensures { self.new ≡ record self.old { share = 0 } }
+    {
+        self.share = 0;
     }
 
     // One write of what is held.
@@ -181,7 +223,7 @@ impl<S: Stream> BufferedStream<S> {
         WriteAnswer::Moved(self.held.put(from))
     }
 
-    // Takes bytes from the front, no more than are left of the share.
+    // Takes bytes from the front, no more than are left of the share, and none once what is held has failed to leave.
     fn take_in_share<D: Sectors>(&mut self, device: &D, from: &[u8]) -> WriteAnswer
         requires { from.now ≢ [] }
         ensures takes { TakesSome S.tells S.traffic (D.moment device.now) self.old from.now result self.new }
@@ -191,6 +233,9 @@ impl<S: Stream> BufferedStream<S> {
         let most = from.len().min(self.share);
         if most == 0 {
             return WriteAnswer::Blocked;
+        }
+        if self.has_failed {
+            return WriteAnswer::Failed;
         }
         self.take_some(device, &from[..most])
     }
@@ -216,7 +261,7 @@ impl<S: Stream> BufferedStream<S> {
         answer
     }
 
-    // Gives bytes, while some of the share is left.
+    // Gives bytes, while some of the share is left and what is held hasn't failed to leave.
     fn give_in_share<D: Sectors>(&mut self, device: &D, into: &mut [u8]) -> ReadAnswer
         requires { into.old ≢ [] }
         ensures gives { GivesSome S.tells S.traffic (D.moment device.now) self.old into.old result self.new into.new }
@@ -224,6 +269,8 @@ impl<S: Stream> BufferedStream<S> {
     {
         if self.share == 0 {
             ReadAnswer::Blocked
+        } else if self.has_failed {
+            ReadAnswer::Failed
         } else {
             self.give_some(device, into)
         }
@@ -233,9 +280,17 @@ impl<S: Stream> BufferedStream<S> {
 impl<S: Stream> Stream for BufferedStream<S> {
     ghost use Rattle.std.specs.Prelude.{◌≡◌, ◌<◌, ◌++◌, length, take};
     ghost use Rattle.stream_driver.specs.Traffic.{ReadsWithin, WritesWithin, bytes_read, bytes_written, EndsWith};
-    ghost use Rattle.stream_driver.specs.Buffers.{GivesMore, TakesMore, LeavesAt, Drains, ReadFails, ReadsShort, WhyGave, WhyTook, WriteFails, traffic_through};
+    ghost use Rattle.stream_driver.specs.Buffers.{GivesMore, TakesMore, LeavesAt, Drains, ReadFails, ReadsShort};
+    ghost use Rattle.stream_driver.specs.Buffers.{WhyGave, WhyTook, WriteFails};
+    ghost use Rattle.stream_driver.specs.Buffers.{TakesAtMost, share_ended, traffic_through};
 
     ghost tells = { S.tells };
+
+    ghost takes_at_most = { TakesAtMost };
+
+    ghost keeps_share = { Unit {0} };
+
+    ghost is_told = { λ b. b.appended };
 
     ghost traffic = { traffic_through S.traffic };
 
@@ -270,8 +325,18 @@ impl<S: Stream> Stream for BufferedStream<S> {
         if let WriteAnswer::Moved(n) = answer {
             self.is_drained = self.is_drained || self.is_short;
             self.share -= n;
+            self.is_heavy = self.is_heavy || self.share < SHARE_MAX - LIGHT_MAX;
         }
         self.counts.note_write(answer);
         answer
+    }
+
+    fn end_share(&mut self, reply: usize)
+        ensures ended { TakesAtMost reply self.new }
+        ensures traffic { traffic_through S.traffic self.new ≡ traffic_through S.traffic self.old }
+        ensures share { self.new ≡ share_ended reply self.old }
+    {
+        self.share = self.share.min(reply);
+        self.appended = true;
     }
 }

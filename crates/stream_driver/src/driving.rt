@@ -1,7 +1,8 @@
 //! One drive.
-ghost use Rattle.std.specs.Prelude.{◌≡◌, ◌≢◌, ◌<◌, length, []};
-ghost use Rattle.sessions.specs.StandsFor.{pending_of, status_of};
+ghost use Rattle.std.specs.Prelude.{◌≡◌, ◌≢◌, ◌<◌, true, length, []};
+ghost use Rattle.sessions.specs.StandsFor.{pending_of, records_of, status_of};
 ghost use Rattle.stream_driver.specs.Sessions.{IsPresent, Leads, Stands};
+ghost use Rattle.stream_driver.specs.Appends.{AppendsOnce, KeepsShare, ServesOnce, SpendsShare};
 ghost use Rattle.stream_driver.specs.Sends.{LeadsAs};
 ghost use Rattle.stream_driver.specs.Drives.{Drove, Departs};
 ghost use Rattle.stream_driver.specs.Calls.{ReadsInTurn, WritesSome, Flushes, Exchanges};
@@ -43,6 +44,7 @@ fn write_some<D: Sectors, S: Stream>(hub: &mut Hub<D>, s: u64, stream: &mut S) -
     requires some { 0 < length (pending_of hub.old s) }
     ensures within { WritesWithin result (length (pending_of hub.old s)) }
     ensures written { LeadsAs s S.tells WritesSome result hub.old (S.traffic stream.old) hub.new (S.traffic stream.new) }
+    ensures spends { Stands hub.old → SpendsShare S.keeps_share S.takes_at_most S.is_told s hub.old stream.old hub.new stream.new }
 {
     hub.runs_follow();
     let answer = stream.write(hub.device(), hub.pending(s));
@@ -62,6 +64,7 @@ fn write_out<D: Sectors, S: Stream>(
     requires present { IsPresent hub.old s }
     requires pending { pending ≡ length (pending_of hub.old s) }
     ensures written { LeadsAs s S.tells Flushes result hub.old (S.traffic stream.old) hub.new (S.traffic stream.new) }
+    ensures spends { SpendsShare S.keeps_share S.takes_at_most S.is_told s hub.old stream.old hub.new stream.new }
 {
     hub.runs_follow();
     let mut owed = pending;
@@ -86,6 +89,7 @@ fn read_some<D: Sectors, S: Stream>(
     requires { 0 < room }
     ensures within { ReadsWithin result room }
     ensures read { LeadsAs s S.tells (ReadsInTurn room) result hub.old (S.traffic stream.old) hub.new (S.traffic stream.new) }
+    ensures keeps { Stands hub.old → KeepsShare S.keeps_share S.takes_at_most S.is_told s hub.old stream.old hub.new stream.new }
 {
     hub.runs_follow();
     let most = room.min(READ_MAX);
@@ -108,6 +112,7 @@ fn serve_one<D: Sectors, S: Stream>(
     requires opened { status_of hub.old s ≡ Status.Open }
     requires nothing { pending_of hub.old s ≡ [] }
     ensures served { LeadsAs s S.tells Exchanges result hub.old (S.traffic stream.old) hub.new (S.traffic stream.new) }
+    ensures once { ServesOnce S.keeps_share S.takes_at_most S.is_told s hub.old stream.old result hub.new stream.new }
 {
     hub.runs_follow();
     let mut room = hub.room(s);
@@ -131,10 +136,34 @@ fn serve_one<D: Sectors, S: Stream>(
     }
 }
 
+// As `serve_one`. Where the request appended a record to the log, the reply to it is the last that the stream's share takes.
+fn serve_in_share<D: Sectors, S: Stream>(
+    hub: &mut Hub<D>,
+    s: u64,
+    stream: &mut S,
+    buffer: &mut [u8; READ_MAX],
+) -> Exchange
+    requires stands { Stands hub.old }
+    requires opened { status_of hub.old s ≡ Status.Open }
+    requires nothing { pending_of hub.old s ≡ [] }
+    ensures served { LeadsAs s S.tells Exchanges result hub.old (S.traffic stream.old) hub.new (S.traffic stream.new) }
+    ensures ended { records_of hub.new ≢ records_of hub.old → S.takes_at_most (length (pending_of hub.new s)) stream.new }
+    ensures told { S.keeps_share → records_of hub.new ≢ records_of hub.old → S.is_told stream.new ≡ true }
+    ensures once { ServesOnce S.keeps_share S.takes_at_most S.is_told s hub.old stream.old result hub.new stream.new }
+{
+    let records = hub.records();
+    let exchange = serve_one(hub, s, stream, buffer);
+    if hub.records() != records {
+        stream.end_share(hub.pending(s).len());
+    }
+    exchange
+}
+
 // The session leaves.
 fn depart<D: Sectors>(hub: &mut Hub<D>, s: u64) -> Progress
     ensures answer { result ≡ Progress.Gone }
     ensures left { Leads hub.old hub.new (λ h k. Departs s h k) }
+    ensures records { Stands hub.old → records_of hub.new ≡ records_of hub.old }
 {
     let _ = hub.step(&Event::Left(s));
     Progress::Gone
@@ -149,6 +178,7 @@ pub(crate) fn drive_over<D: Sectors, S: Stream>(
 ) -> Progress
     requires { IsPresent hub.old s }
     ensures driven { LeadsAs s S.tells Drove result hub.old (S.traffic stream.old) hub.new (S.traffic stream.new) }
+    ensures appends { S.keeps_share → AppendsOnce S.is_told hub.old stream.old hub.new stream.new }
 {
     hub.runs_follow();
     'requests: for _served in 0..REQUESTS_MAX {
@@ -162,7 +192,7 @@ pub(crate) fn drive_over<D: Sectors, S: Stream>(
             Status::Open => {}
             _ => return depart(hub, s),
         }
-        match serve_one(hub, s, stream, buffer) {
+        match serve_in_share(hub, s, stream, buffer) {
             Exchange::Served | Exchange::Broke => {}
             Exchange::Blocked => return Progress::Waiting,
             _ => return depart(hub, s),
@@ -191,12 +221,16 @@ pub(crate) fn drive_over<D: Sectors, S: Stream>(
 /// failed, the stream ended (what was read of a request is dropped), a request was refused memory, or there was a broken frame, whose reply
 /// is written. Other sessions are unchanged.
 ///
+/// Where a request appends a record to the log, which syncs, the stream is told that its share of the turn ends with the reply
+/// (`Stream::end_share`). A stream that keeps to that takes no other reply in this drive, so a drive appends one record at most.
+///
 /// Its events are a run of the hub: lawful at each moment, with the device's failures counted, and what a crash leaves known.
 ///
 /// It may grow what the requests grow, and the output of the session.
 pub fn drive<D: Sectors, S: Stream>(hub: &mut Hub<D>, s: u64, stream: &mut S) -> Progress
     requires { IsPresent hub.old s }
     ensures driven { LeadsAs s S.tells Drove result hub.old (S.traffic stream.old) hub.new (S.traffic stream.new) }
+    ensures appends { S.keeps_share → AppendsOnce S.is_told hub.old stream.old hub.new stream.new }
 {
     let mut buffer = [0u8; READ_MAX];
     drive_over(hub, s, stream, &mut buffer)

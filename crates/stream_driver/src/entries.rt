@@ -1,8 +1,10 @@
 //! A table of connections.
 ghost use Rattle.std.specs.Prelude.{◌≡◌, ◌≢◌};
+ghost use Rattle.stream_driver.specs.Appends.{AppendsAtMost, ready_count, ready_of};
 ghost use Rattle.stream_driver.specs.Sessions.{IsPresent};
 ghost use Rattle.stream_driver.specs.Buffers.{has_had_share};
-ghost use Rattle.stream_driver.specs.Entries.{LeadsAll, LeadsEntry, HaveSessions, KeepSessions, EndsDrive, is_over, state_at_end};
+ghost use Rattle.stream_driver.specs.Entries.{LeadsAll, LeadsEntry, HaveSessions, KeepSessions, EndsDrive, is_over};
+ghost use Rattle.stream_driver.specs.Entries.{state_at_end};
 
 use crate::answers::Progress;
 use crate::buffered::BufferedStream;
@@ -41,6 +43,7 @@ fn drive_entry<D: Sectors, S: Stream>(
     ensures driven { LeadsEntry S.tells S.traffic hub.old entry.old hub.new entry.new }
     ensures session { entry.new.session ≡ entry.old.session }
     ensures gone { entry.old.state ≡ EntryState.Gone → entry.new.state ≡ EntryState.Gone }
+    ensures appends { S.keeps_share → AppendsAtMost (ready_of entry.old.state) hub.old hub.new }
 {
     hub.runs_follow();
     if let EntryState::Ready = entry.state {
@@ -55,6 +58,8 @@ fn drive_entry<D: Sectors, S: Stream>(
 /// Drives each entry that is `Ready` once, by rising key, and leaves the others as they are. After `Waiting` an entry is `Idle`, after
 /// `Again` it stays `Ready`, after `Gone` it is `Gone`.
 ///
+/// Where the streams keep to what they take at most, each of these drives appends one record to the log at most.
+///
 /// The session of each entry that isn't `Gone` is present, and no other entry has it.
 ///
 /// It may grow what the requests grow, and the outputs of the sessions.
@@ -63,6 +68,7 @@ pub fn drive_ready<D: Sectors, S: Stream>(hub: &mut Hub<D>, table: &mut Slab<Ent
     ensures driven { LeadsAll S.tells S.traffic hub.old table.old.slots hub.new table.new.slots }
     ensures sessions { HaveSessions hub.new table.new.slots }
     ensures numbers { KeepSessions table.old.slots table.new.slots }
+    ensures appends { S.keeps_share → AppendsAtMost (ready_count table.old.slots) hub.old hub.new }
 {
     hub.runs_follow();
     let mut buffer = [0u8; READ_MAX];

@@ -12,11 +12,21 @@ use sector::Sectors;
 /// Each call is shown the device of the store. It can't be copied or changed by the call, so this is how the device stands as the call is
 /// made: what leaves for the peer in the call leaves at that moment of the device.
 pub trait Stream: Drop {
-    ghost use Rattle.std.specs.Prelude.{◌≡◌, ◌<◌, ◌++◌, length, take};
-    ghost use Rattle.stream_driver.specs.Traffic.{Traffic, DepartAt, ReadsWithin, WritesWithin, bytes_read, bytes_written, EndsWith};
+    ghost use Rattle.std.specs.Prelude.{◌≡◌, ◌<◌, ◌++◌, ℕ, Bool, true, length, take};
+    ghost use Rattle.stream_driver.specs.Traffic.{Traffic, DepartAt, ReadsWithin, WritesWithin, bytes_read};
+    ghost use Rattle.stream_driver.specs.Traffic.{bytes_written, EndsWith, KeepsTo};
 
     /// The bytes of `traffic` are those that the calls moved: said of each call where this holds.
     ghost tells: { Type 0 };
+
+    /// It takes no more than so many bytes until its next drive. A stream that holds bytes to share a turn by says what this means for it.
+    ghost takes_at_most: { ℕ → Self → Type 0 };
+
+    /// It keeps to what it takes at most, and that it was told so: said of each call where this holds.
+    ghost keeps_share: { Type 0 };
+
+    /// It was told that its share of the turn ends with a reply, and has kept it since.
+    ghost is_told: { Self → Bool };
 
     /// The bytes that were moved, how often each call gave each answer but `Moved`, and the last call with its answer.
     ghost traffic: { Self → Traffic };
@@ -29,7 +39,8 @@ pub trait Stream: Drop {
         ensures given { tells → (traffic self.new).given ≡ (traffic self.old).given ++ take (bytes_read result) into.new }
         ensures taken { tells → (traffic self.new).taken ≡ (traffic self.old).taken }
         ensures departed { tells → DepartAt (D.moment device.now) (traffic self.old) (traffic self.new) }
-        ensures answered { EndsWith (Call.Read result) (traffic self.old) (traffic self.new) };
+        ensures answered { EndsWith (Call.Read result) (traffic self.old) (traffic self.new) }
+        ensures share { keeps_share → KeepsTo takes_at_most is_told self.old 0 self.new };
 
     /// Writes at least one byte from the front of `from`, or answers why none went. Takes no memory that a caller sees.
     fn write<D: Sectors>(&mut self, device: &D, from: &[u8]) -> WriteAnswer
@@ -38,5 +49,13 @@ pub trait Stream: Drop {
         ensures given { tells → (traffic self.new).given ≡ (traffic self.old).given }
         ensures taken { tells → (traffic self.new).taken ≡ (traffic self.old).taken ++ take (bytes_written result) from.now }
         ensures departed { tells → DepartAt (D.moment device.now) (traffic self.old) (traffic self.new) }
-        ensures answered { EndsWith (Call.Write result) (traffic self.old) (traffic self.new) };
+        ensures answered { EndsWith (Call.Write result) (traffic self.old) (traffic self.new) }
+        ensures share { keeps_share → KeepsTo takes_at_most is_told self.old (bytes_written result) self.new };
+
+    /// The drive has appended a record to the log, and a reply of so many bytes tells of it: with these bytes the stream's share of the
+    /// turn ends, so that others have theirs before this session is served again. It moves no byte. Takes no memory.
+    fn end_share(&mut self, reply: usize)
+        ensures ended { takes_at_most reply self.new }
+        ensures told { keeps_share → is_told self.new ≡ true }
+        ensures traffic { traffic self.new ≡ traffic self.old };
 }

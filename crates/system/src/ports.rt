@@ -21,9 +21,13 @@ impl<'a, R> SystemPorts<'a, R> {
 }
 
 impl<R: Net> Ports<Hub<FileSectors>> for SystemPorts<'_, R> {
+    ghost use Rattle.std.specs.Prelude.{IfOk};
+    ghost use Rattle.system.specs.SystemTurns.{ServesAt};
     ghost use Rattle.sessions.specs.Lives.{IsOpened};
 
     ghost takes = { λ hub. IsOpened hub };
+
+    ghost listens = { λ _ address hub result _. IfOk result (λ server. ServesAt server.events address hub) };
 
     type Server = SystemServer;
 
@@ -34,6 +38,7 @@ impl<R: Net> Ports<Hub<FileSectors>> for SystemPorts<'_, R> {
         hub: Hub<FileSectors>,
     ) -> io::Result<SystemServer>
         requires { IsOpened hub }
+        ensures { IfOk result (λ server. ServesAt server.events address hub) }
     {
         let events = EventLoop::bind(self.rt, alloc, address, hub)?;
         Ok(SystemServer { events })
@@ -47,11 +52,15 @@ pub struct SystemServer {
 }
 
 impl Turns for SystemServer {
+    ghost use Rattle.std.specs.Prelude.{IfOk};
+    ghost use Rattle.event_loop.specs.Loops.{IsAt};
     ghost use Rattle.system.specs.SystemTurns.{HasStopped, TurnedSo};
 
     ghost turns = { λ old result new. TurnedSo old.events result new.events };
 
     ghost stops = { λ server stopped. HasStopped server.events stopped };
+
+    ghost is_at = { λ server result. IfOk result (λ address. IsAt server.events address) };
 
     fn next_turn(&mut self) -> io::Result<()> {
         self.events.turn(None)

@@ -6,14 +6,13 @@ use std::fs::File;
 use std::io::{Read, Write};
 use std::net::Net;
 use std::rt::Files;
-use std::sync::Wait;
 use std::time::Clock;
 
 /// Runs the command that the words ask for, the program's name first, and answers the exit status: `DONE`, `REFUSED` for a command line
 /// that was refused, `BAD_LINE` for a line of a script that was, `FAULT` otherwise. What went wrong is written on `err`.
 ///
 /// It takes the memory of the command and of reading the words. Lines of progress are for a terminal alone: `run_watched` tells them.
-pub fn run<R: Files<File = File> + Net + Wait + Clock, I: Read + Drop, O: Write, E: Write>(
+pub fn run<R: Files<File = File> + Net + Clock, I: Read + Drop, O: Write, E: Write>(
     rt: &R,
     alloc: Global,
     words: &[&str],
@@ -25,7 +24,7 @@ pub fn run<R: Files<File = File> + Net + Wait + Clock, I: Read + Drop, O: Write,
 }
 
 /// As `run`; where `err` is a terminal, it also tells there how far a command is that takes long.
-pub fn run_watched<R: Files<File = File> + Net + Wait + Clock, I: Read + Drop, O: Write, E: Write>(
+pub fn run_watched<R: Files<File = File> + Net + Clock, I: Read + Drop, O: Write, E: Write>(
     rt: &R,
     alloc: Global,
     words: &[&str],

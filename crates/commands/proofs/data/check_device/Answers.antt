@@ -1,18 +1,16 @@
-use Rattle.std.proofs.Common.{refl, Ok, Err}
-use Rattle.std.proofs.lemmas.Result.{err_from_is_err_and}
-use Rattle.commands.specs.Checking.Checks.{NotCounted, Counted}
 use Rattle.commands.proofs.data.check_device.Goals as goal
+use Rattle.std.proofs.Common.{subst, Ok, Err}
+use Rattle.commands.proofs.Printed.{ends_as}
+use Rattle.commands.specs.Checking.{Counting}
+use Rattle.commands.specs.Checking.Checks.{NotCounted, Counted}
 
-pub returns-in_err-counts-clause-checks : goal.returns-in_err-counts-clause-checks
-returns-in_err-counts-clause-checks g c =
-    let p = err_from_is_err_and c.from_residual.result c.from_residual.ensures.1 in
-    rw (p.1, p.2) (NotCounted c.in_err-counts.field-0.0 c.in_err-counts.ensures)
+pub returns-in-Ok-clause-checks : goal.returns-in-Ok-clause-checks
+returns-in-Ok-clause-checks g c =
+    let counts = subst (λ r. Counting g.D.Sectors c.args.device r c.count_device-counted.result.1) c.in-Ok.is c.count_device-counted.ensures in
+    Counted c.in-Ok.counts c.print_counts.result c.map_err.result c.count_device-counted.result.1 c.print_counts.new.out counts c.print_counts.ensures
+    (ends_as c.print_counts.result c.map_err.result c.map_err.ensures.cases)
 
-pub returns-in_err-print_counts-clause-checks : goal.returns-in_err-print_counts-clause-checks
-returns-in_err-print_counts-clause-checks g c =
-    let p = err_from_is_err_and c.from_residual-in_err-print_counts.result c.from_residual-in_err-print_counts.ensures.1 in
-    rw p.1 (Counted c.in_ok-counts.counts (Err c.in_err-print_counts.field-0.0) (Err p.0) c.print_counts.new.out c.in_ok-counts.ensures c.in_err-print_counts.ensures p.2)
-
-pub returns-clause-checks : goal.returns-clause-checks
-returns-clause-checks g c =
-    Counted c.in_ok-counts.counts (Ok c.in_ok-print_counts.field-0) (Ok tt) c.print_counts.new.out c.in_ok-counts.ensures c.in_ok-print_counts.ensures refl
+pub returns-in-Err-clause-checks : goal.returns-in-Err-clause-checks
+returns-in-Err-clause-checks g c =
+    let counts = subst (λ r. Counting g.D.Sectors c.args.device r c.count_device-counted.result.1) c.in-Err.is c.count_device-counted.ensures in
+    rw c.from.ensures (NotCounted c.in-Err.fault c.count_device-counted.result.1 counts)

@@ -1,8 +1,8 @@
+use Rattle.commands.proofs.data.create.Goals as goal
 use Rattle.std.proofs.Common.{arith}
 use Rattle.std.proofs.lemmas.Result.{err_from_is_err_and}
-use Rattle.commands.specs.Making.Creating.{NotMade, Made}
 use Rattle.commands.proofs.Rooms.{alone}
-use Rattle.commands.proofs.data.create.Goals as goal
+use Rattle.commands.specs.Making.Creating.{NotMade, Made}
 
 pub returns-in_err-device-clause-creates : goal.returns-in_err-device-clause-creates
 returns-in_err-device-clause-creates g c =
@@ -11,8 +11,11 @@ returns-in_err-device-clause-creates g c =
 
 pub returns-clause-creates : goal.returns-clause-creates
 returns-clause-creates g c =
-    Made c.in_ok-device.device c.format_device.new.device c.format_device.result c.create.new.self c.in_ok-device.ensures.makes c.in_ok-device.ensures.size (record {
-      fault = c.format_device.ensures.fault;
-      alone = alone c.format_device.result c.args.sectors c.format_device.ensures.errors (λ is. let few = c.format_device.ensures.full.0 is in let size = c.in_ok-device.ensures.size in omega (arith, few, size)) c.requires.at_least;
-      formatted = c.format_device.ensures.formatted;
-    })
+    Made c.in_ok-device.device c.format_device-formatted.new.device c.format_device-formatted.result c.create.new.self c.close.new.self
+    c.in_ok-device.ensures.makes c.in_ok-device.ensures.size (record {
+      fault = c.format_device-formatted.ensures.fault;
+      alone = alone c.format_device-formatted.result c.args.sectors c.format_device-formatted.ensures.errors
+          (λ is. let few = c.format_device-formatted.ensures.full.0 is in let size = c.in_ok-device.ensures.size in omega (arith, few, size))
+          c.requires.at_least;
+      formatted = c.format_device-formatted.ensures.formatted;
+    }) c.close.ensures

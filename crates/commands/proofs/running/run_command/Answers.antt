@@ -1,6 +1,6 @@
+use Rattle.commands.proofs.running.run_command.Goals as goal
 use Rattle.std.proofs.Common.{refl, subst, Ok}
 use Rattle.commands.specs.Endings.{Tells}
-use Rattle.commands.proofs.running.run_command.Goals as goal
 
 pub returns-in-Ok : goal.returns-in-Ok
 returns-in-Ok g c = (
@@ -11,7 +11,8 @@ returns-in-Ok g c = (
     c.execute-done.result,
     c.execute-done.new.around,
     c.execute-done.ensures,
-    subst (λ e. Tells g.O.Lines.writes g.E.Lines.writes e c.execute-done.new.around.out c.execute-done.new.around.err c.tell.result c.tell.new.out c.tell.new.err) c.from.ensures c.tell.ensures,
+    subst (λ e. Tells g.O.Lines.writes g.E.Lines.writes e c.execute-done.new.around.out c.execute-done.new.around.err c.tell.result c.tell.new.out
+        c.tell.new.err) c.from.ensures c.tell.ensures,
     refl,
   ),
   refl,

@@ -1,10 +1,26 @@
-use Rattle.commands.specs.Serving.TakesTurns.{None, More}
 use Rattle.commands.proofs.serving.serve_turns.Goals as goal
+use Rattle.std.proofs.Common.{arith, ◌≡◌, ◌^◌, ◌-◌, subst}
+use Rattle.commands.specs.Serving.{TakesTurns}
+use Rattle.commands.specs.Serving.EndsTurns.{Failed, Counted}
+use Rattle.commands.specs.Serving.TakesTurns.{None, More}
 
 pub loop-turn-init : goal.loop-turn-init
 loop-turn-init g c = None
 
 pub loop-turn-preserved : goal.loop-turn-preserved
 loop-turn-preserved g c =
-    More c.loop-turn.server c.next_turn.new.self c.loop-turn.told c.is_stopped.result c.tell_stopped.new.told c.in_default.field-0 c.loop-turn.err c.tell_stopped.new.err
+    More c.loop-turn._turn c.loop-turn.server c.next_turn.new.self c.loop-turn.told c.is_stopped.result c.tell_stopped.new.told c.in_default.field-0
+    c.loop-turn.err c.tell_stopped.new.err
     c.loop-turn.invariant c.in_default.ensures c.is_stopped.ensures c.tell_stopped.ensures
+
+pub returns-in-Err : goal.returns-in-Err
+returns-in-Err g c =
+    Failed c.loop-turn._turn c.loop-turn.server c.next_turn.new.self c.loop-turn.told c.in-Err.error c.or_memory.result c.loop-turn.err c.loop-turn.invariant
+    c.in-Err.ensures c.or_memory.ensures
+
+pub returns : goal.returns
+returns g c =
+    let all : c.loop-turn._turn ≡ 2 ^ 64 - 1 = omega (arith, c.loop-turn-test.false, c.loop-turn.auto._turn-end) in
+    let taken = subst (λ n. TakesTurns g.S.Turns.turns g.S.Turns.stops g.E.Lines.writes c.args.server.now c.args.err.now n c.loop-turn.server c.loop-turn.told
+    c.loop-turn.err) all c.loop-turn.invariant in
+    Counted tt c.loop-turn.server c.loop-turn.told c.loop-turn.err taken

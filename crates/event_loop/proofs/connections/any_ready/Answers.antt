@@ -1,5 +1,7 @@
-use Rattle.event_loop.proofs.Words.{ap, arith, ◌∙◌, list_any, is_ready}
 use Rattle.event_loop.proofs.connections.any_ready.Goals as goal
+use Rattle.std.proofs.Common.{ap, arith, ◌∙◌}
+use Rattle.std.specs.List.{list_any}
+use Rattle.event_loop.specs.Tables.{is_ready}
 
 pub loop-key-init : goal.loop-key-init
 loop-key-init c = (tt, tt, ap (list_any (λ e. is_ready e.1.state)) (c.into_iter-key-iterator.ensures.into_iter_gives ∙ c.iter-key-items.ensures.rest))

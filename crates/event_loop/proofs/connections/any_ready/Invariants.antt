@@ -1,5 +1,7 @@
-use Rattle.event_loop.proofs.Words.{◌≡◌, list_any, is_any_ready, is_ready}
 use Rattle.event_loop.proofs.connections.any_ready.Given as goal
+use Rattle.std.proofs.Common.{◌≡◌}
+use Rattle.std.specs.List.{list_any}
+use Rattle.event_loop.specs.Tables.{is_any_ready, is_ready}
 
 abbrev pub invariant-loop-key : goal.invariant-loop-key
 invariant-loop-key l =

@@ -1,5 +1,6 @@
-use Rattle.event_loop.proofs.Words.{EndEach, lingers_in}
 use Rattle.event_loop.proofs.connections.end_drives.Given as goal
+use Rattle.event_loop.specs.Leavings.{EndEach}
+use Rattle.event_loop.specs.Lingerings.{lingers_in}
 
 abbrev pub invariant-loop-key : goal.invariant-loop-key
 invariant-loop-key g l =

@@ -1,12 +1,15 @@
-use Rattle.event_loop.proofs.Words.{[], ◌∙◌, arith, refl, rules, sym, append-nil, departed_then, none_departed}
-use Rattle.std.proofs.lemmas.Grind.{common_steps}
 use Rattle.event_loop.proofs.lingering.drop_input.Goals as goal
+use Rattle.std.proofs.Common.{[], ◌∙◌, arith, refl, rules, sym}
+use Rattle.std.proofs.lemmas.Grind.{common_steps}
+use Rattle.std.proofs.lemmas.List.{append-nil}
+use Rattle.stream_driver.proofs.Buffering.{departed_then, none_departed}
 
 pub loop-left-init : goal.loop-left-init
 loop-left-init g c = (search rules, λ t. none_departed refl)
 
 pub loop-left-preserved : goal.loop-left-preserved
-loop-left-preserved g c = (grind (arith, common_steps), λ t. departed_then [] (c.read.ensures.taken t ∙ sym (append-nil _)) (c.loop-left.invariant.1 t) (c.read.ensures.departed t))
+loop-left-preserved g c =
+    (grind (arith, common_steps), λ t. departed_then [] (c.read.ensures.taken t ∙ sym (append-nil _)) (c.loop-left.invariant.1 t) (c.read.ensures.departed t))
 
 pub returns-in-Blocked-clause-departed : goal.returns-in-Blocked-clause-departed
 returns-in-Blocked-clause-departed g c = λ t.

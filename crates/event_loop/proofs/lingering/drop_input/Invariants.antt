@@ -1,6 +1,6 @@
+use Rattle.event_loop.proofs.lingering.drop_input.Given as goal
 use Rattle.std.proofs.Common.{◌≡◌, ◌+◌, ◌≤◌, length}
 use Rattle.stream_driver.specs.Traffic.{DepartAt, SameCounts}
-use Rattle.event_loop.proofs.lingering.drop_input.Given as goal
 
 abbrev pub invariant-loop-left : goal.invariant-loop-left
 invariant-loop-left g l =

@@ -1,6 +1,8 @@
-use Rattle.resp.proofs.Words.{arith, common_steps, refl}
-use Rattle.resp.proofs.Exactly.{is_whole, only_whole, no_more, not_none, cut_no_whole, foreign_no_whole, foreign_no_more}
 use Rattle.resp.proofs.decoding.decode.Goals as goal
+use Rattle.std.proofs.Common.{arith, refl}
+use Rattle.std.proofs.lemmas.Grind.{common_steps}
+use Rattle.resp.proofs.Exactly.{is_whole, only_whole, no_more, not_none, cut_no_whole, foreign_no_whole}
+use Rattle.resp.proofs.Exactly.{foreign_no_more}
 
 pub returns-in-Ok-clause-whole : goal.returns-in-Ok-clause-whole
 returns-in-Ok-clause-whole c parts n = grind (arith, common_steps, is_whole, only_whole)

@@ -1,5 +1,7 @@
-use Rattle.resp.proofs.Words.{common_steps, ◌≡◌, ◌*◌, ◌∷◌, ℕ, List, [], length, arith, refl, length-append, hex_text}
 use Rattle.resp.proofs.writing.append_overwritten.Goals as goal
+use Rattle.std.proofs.Common.{◌≡◌, ◌*◌, ◌∷◌, ℕ, List, [], length, arith, refl, length-append}
+use Rattle.std.proofs.lemmas.Grind.{common_steps}
+use Rattle.model.specs.ReplyText.{hex_text}
 
 length-hex_text : (bytes : List ℕ) → length (hex_text bytes) ≡ 2 * length bytes
 length-hex_text [] = refl

@@ -1,6 +1,8 @@
-use Rattle.resp.proofs.Words.{arith, common_steps, ◌≡◌, ◌∷◌, ◌/◌, ◌%◌, ℕ, List, [], ap, refl, hex_text, hex_digit}
-use Rattle.hex.specs.Hex.{encode_with, lower_digits}
 use Rattle.resp.proofs.writing.write_hex.Goals as goal
+use Rattle.std.proofs.Common.{arith, ◌≡◌, ◌∷◌, ◌/◌, ◌%◌, ℕ, List, [], ap, refl}
+use Rattle.std.proofs.lemmas.Grind.{common_steps}
+use Rattle.hex.specs.Hex.{encode_with, lower_digits}
+use Rattle.model.specs.ReplyText.{hex_text, hex_digit}
 
 same_hex : (bytes : List ℕ) → encode_with lower_digits bytes ≡ hex_text bytes
 unfolding encode_with

@@ -1,7 +1,10 @@
-use Rattle.resp.proofs.Words.{common_steps, ◌≡◌, true, arith, length-append, Result, Ok, Err, is_err, OnErr, length-map}
+use Rattle.resp.proofs.writing.write_request.Goals as goal
+use Rattle.std.proofs.Common.{◌≡◌, true, arith, length-append, Result, Ok, Err}
+use Rattle.std.proofs.lemmas.Grind.{common_steps}
+use Rattle.std.proofs.lemmas.List.{length-map}
+use Rattle.std.specs.Prelude.{is_err, OnErr}
 use Rattle.resp.proofs.Appending.{not_ok, taken_back}
 use Rattle.resp.proofs.GivenParts.{parts_more, parts_all, parts_front}
-use Rattle.resp.proofs.writing.write_request.Goals as goal
 
 at_err : {T E : Type 0} (P : Type 0) (r : Result T E) → is_err r ≡ true → OnErr r P → P
 at_err P (Ok x) e h = absurd cc

@@ -1,7 +1,12 @@
-use Rattle.scripts.proofs.Words.{◌≡◌, ap, subst, ◌∙◌, false, take, min, length, take_min, Receives, Serves, More, IsPossible, hub_step, stream_of, StandsFor, room_in, reached, granted, received}
-use Rattle.sessions.proofs.EventSteps.{room_seen}
-use Rattle.scripts.proofs.Steps.{receives_alike, granted_is, not_memory}
 use Rattle.scripts.proofs.playing.serve.Goals as goal
+use Rattle.std.proofs.Common.{◌≡◌, ap, subst, ◌∙◌, false, take, min, length}
+use Rattle.std.proofs.lemmas.List.{take_min}
+use Rattle.sessions.proofs.EventSteps.{room_seen}
+use Rattle.sessions.proofs.Reached.{reached}
+use Rattle.sessions.specs.SessionStreams.{Receives, Serves, More, IsPossible, hub_step, stream_of}
+use Rattle.sessions.specs.StandsFor.{StandsFor, room_in}
+use Rattle.scripts.proofs.Steps.{receives_alike, granted_is, not_memory}
+use Rattle.scripts.specs.Transcript.{granted, received}
 
 pub returns-in_default : goal.returns-in_default
 returns-in_default g c h stands =

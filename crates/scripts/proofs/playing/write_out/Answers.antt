@@ -1,6 +1,9 @@
-use Rattle.scripts.proofs.Words.{ap, sym, subst, ◌∙◌, take_rest, Bor, Bytes}
-use Rattle.scripts.proofs.Writing.{Written, written_none, written_more, written_kept}
 use Rattle.scripts.proofs.playing.write_out.Goals as goal
+use Rattle.std.proofs.Common.{ap, sym, subst, ◌∙◌}
+use Rattle.std.proofs.lemmas.List.{take_rest}
+use Rattle.std.specs.Borrow.{Bor}
+use Rattle.model.specs.Map.{Bytes}
+use Rattle.scripts.proofs.Writing.{Written, written_none, written_more, written_kept}
 use Rattle.scripts.proofs.playing.write_out.Goals.{in-Ok, in-Err+else-ne}
 
 pub loop-init : goal.loop-init
@@ -15,6 +18,8 @@ loop-preserved g c =
     let rest = c.loop.rest.now in
     let left = c.match-write.rest.now in
     elim c.match-write.branch [
-      | in-Ok w ↦ written_more before held after bytes rest left w.in-Ok.n (ap (λ (b : Bor Bytes). b.now) w.rest-is ∙ take_rest rest w.in-Ok.n) w.in-Ok.ensures.bytes c.loop.invariant
-      | in-Err+else-ne w ↦ subst (λ (b : Bor Bytes). Written before after bytes b.now) (sym w.rest-is) (written_kept before held after bytes rest w.in-Err.ensures.bytes c.loop.invariant)
+      | in-Ok w ↦ written_more before held after bytes rest left w.in-Ok.n (ap (λ (b : Bor Bytes). b.now) w.rest-is
+          ∙ take_rest rest w.in-Ok.n) w.in-Ok.ensures.bytes c.loop.invariant
+      | in-Err+else-ne w ↦ subst (λ (b : Bor Bytes). Written before after bytes b.now) (sym w.rest-is)
+          (written_kept before held after bytes rest w.in-Err.ensures.bytes c.loop.invariant)
     ]

@@ -1,5 +1,5 @@
-use Rattle.scripts.proofs.Writing.{Written}
 use Rattle.scripts.proofs.playing.write_out.Given as goal
+use Rattle.scripts.proofs.Writing.{Written}
 
 -- the writer took the bytes before `rest`
 abbrev pub invariant-loop : goal.invariant-loop

@@ -1,5 +1,14 @@
-use Rattle.stream_driver.proofs.Words.{LeadsTelling, DrivenOut}
 use Rattle.stream_driver.proofs.driving.drive_over.Given as goal
+use Rattle.sessions.specs.StandsFor.{records_of}
+use Rattle.stream_driver.proofs.Appends.{SoFar}
+use Rattle.stream_driver.specs.Calls.{DrivenOut}
+use Rattle.stream_driver.specs.Sends.{LeadsTelling}
 
 abbrev pub invariant-requests : goal.invariant-requests
-invariant-requests g l = LeadsTelling l.fn.s g.S.Stream.tells l.fn.hub (g.S.Stream.traffic l.fn.stream) l.hub (g.S.Stream.traffic l.stream) (λ h k. DrivenOut l.fn.s g.S.Stream.tells h (g.S.Stream.traffic l.fn.stream) k (g.S.Stream.traffic l.stream) l._served)
+invariant-requests g l =
+    record {
+      told : LeadsTelling l.fn.s g.S.Stream.tells l.fn.hub (g.S.Stream.traffic l.fn.stream) l.hub (g.S.Stream.traffic l.stream)
+          (λ h k. DrivenOut l.fn.s g.S.Stream.tells h (g.S.Stream.traffic l.fn.stream) k (g.S.Stream.traffic l.stream) l._served);
+      adds : g.S.Stream.keeps_share → SoFar g.S.Stream.takes_at_most g.S.Stream.is_told l.fn.s (records_of l.fn.hub) (g.S.Stream.is_told l.fn.stream)
+          l.hub l.stream;
+    }

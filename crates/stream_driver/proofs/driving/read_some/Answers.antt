@@ -1,6 +1,11 @@
-use Rattle.stream_driver.proofs.Words.{◌≡◌, ◌≤◌, length, arith, ap, take, [], sym, ◌∙◌, common_steps, append-nil, pending_of}
-use Rattle.stream_driver.proofs.{OneCall.read_moved, OneCall.read_none, OneCall.reads_within, Sends.begins_nothing, Sends.tells_call}
 use Rattle.stream_driver.proofs.driving.read_some.Goals as goal
+use Rattle.std.proofs.Common.{◌≡◌, ◌≤◌, length, arith, ap, take, [], sym, ◌∙◌}
+use Rattle.std.proofs.lemmas.Grind.{common_steps}
+use Rattle.std.proofs.lemmas.List.{append-nil}
+use Rattle.sessions.specs.StandsFor.{pending_of}
+use Rattle.stream_driver.proofs.Appends.{none_none, receives_none}
+use Rattle.stream_driver.proofs.OneCall.{read_moved, read_none, reads_within}
+use Rattle.stream_driver.proofs.Sends.{begins_nothing, tells_call}
 
 pub returns-in-Moved-clause-read : goal.returns-in-Moved-clause-read
 returns-in-Moved-clause-read g c =
@@ -8,7 +13,8 @@ returns-in-Moved-clause-read g c =
     let len : length piece ≡ c.in-Moved.n = grind (arith, common_steps) in
     let within : c.in-Moved.n ≤ c.args.room = grind (arith, common_steps) in
     tells_call c.runs_follow.ensures.none
-    (read_moved c.in-Moved.n c.in-Moved.ensures.within.0 piece c.step.ensures.step c.step.ensures.ran c.step.ensures.device len within c.in-Moved.ensures.given c.in-Moved.ensures.taken c.in-Moved.ensures.answered)
+    (read_moved c.in-Moved.n c.in-Moved.ensures.within.0 piece c.step.ensures.step c.step.ensures.ran c.step.ensures.device len within c.in-Moved.ensures.given
+    c.in-Moved.ensures.taken c.in-Moved.ensures.answered)
     (g.D.Sectors.moment c.device.result.now) (ap (λ d. g.D.Sectors.moment d) c.device.ensures) c.in-Moved.ensures.departed
     (λ t. ([], begins_nothing (pending_of c.args.hub.now c.args.s), c.in-Moved.ensures.taken t ∙ sym (append-nil (g.S.Stream.traffic c.args.stream.now).taken)))
 
@@ -18,6 +24,18 @@ returns-in_default-clause-within g c = reads_within c.read-answer.result _ c.arg
 pub returns-in_default-clause-read : goal.returns-in_default-clause-read
 returns-in_default-clause-read g c =
     tells_call c.runs_follow.ensures.none
-    (read_none c.runs_follow.ensures.none c.args.room c.read-answer.new.into c.read-answer.ensures.taken c.read-answer.result c.in_default.not-Moved c.read-answer.ensures.given c.read-answer.ensures.answered)
+    (read_none c.runs_follow.ensures.none c.args.room c.read-answer.new.into c.read-answer.ensures.taken c.read-answer.result c.in_default.not-Moved
+    c.read-answer.ensures.given c.read-answer.ensures.answered)
     (g.D.Sectors.moment c.device.result.now) (ap (λ d. g.D.Sectors.moment d) c.device.ensures) c.read-answer.ensures.departed
-    (λ t. ([], begins_nothing (pending_of c.args.hub.now c.args.s), c.read-answer.ensures.taken t ∙ sym (append-nil (g.S.Stream.traffic c.args.stream.now).taken)))
+    (λ t. (
+      [],
+      begins_nothing (pending_of c.args.hub.now c.args.s),
+      c.read-answer.ensures.taken t ∙ sym (append-nil (g.S.Stream.traffic c.args.stream.now).taken),
+    ))
+
+pub returns-in-Moved-clause-keeps : goal.returns-in-Moved-clause-keeps
+returns-in-Moved-clause-keeps g c some =
+    record { share = c.in-Moved.ensures.share; adds = receives_none some c.step.ensures.step c.step.ensures.records }
+
+pub returns-in_default-clause-keeps : goal.returns-in_default-clause-keeps
+returns-in_default-clause-keeps g c some = record { share = c.read-answer.ensures.share; adds = none_none c.args.s c.args.hub.now }

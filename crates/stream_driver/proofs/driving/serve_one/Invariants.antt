@@ -1,8 +1,15 @@
-use Rattle.stream_driver.proofs.Words.{LeadsTelling, ReadSoFar}
 use Rattle.stream_driver.proofs.driving.serve_one.Given as goal
+use Rattle.stream_driver.specs.Appends.{KeepsShare}
+use Rattle.stream_driver.specs.Calls.{ReadSoFar}
+use Rattle.stream_driver.specs.Sends.{LeadsTelling}
 
 abbrev pub invariant-loop-hub : goal.invariant-loop-hub
-invariant-loop-hub g l = LeadsTelling l.fn.s g.S.Stream.tells l.fn.hub (g.S.Stream.traffic l.fn.stream) l.hub (g.S.Stream.traffic l.stream) (λ h k. ReadSoFar l.fn.s g.S.Stream.tells h (g.S.Stream.traffic l.fn.stream) k (g.S.Stream.traffic l.stream) l.room)
+invariant-loop-hub g l =
+    record {
+      told : LeadsTelling l.fn.s g.S.Stream.tells l.fn.hub (g.S.Stream.traffic l.fn.stream) l.hub (g.S.Stream.traffic l.stream)
+          (λ h k. ReadSoFar l.fn.s g.S.Stream.tells h (g.S.Stream.traffic l.fn.stream) k (g.S.Stream.traffic l.stream) l.room);
+      keeps : KeepsShare g.S.Stream.keeps_share g.S.Stream.takes_at_most g.S.Stream.is_told l.fn.s l.fn.hub l.fn.stream l.hub l.stream;
+    }
 
 abbrev pub decreases-loop-hub : goal.decreases-loop-hub
 decreases-loop-hub g l = l.room

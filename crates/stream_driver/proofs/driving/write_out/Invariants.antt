@@ -1,8 +1,15 @@
-use Rattle.stream_driver.proofs.Words.{LeadsTelling, WrittenSoFar}
 use Rattle.stream_driver.proofs.driving.write_out.Given as goal
+use Rattle.stream_driver.specs.Appends.{SpendsShare}
+use Rattle.stream_driver.specs.Calls.{WrittenSoFar}
+use Rattle.stream_driver.specs.Sends.{LeadsTelling}
 
 abbrev pub invariant-loop-owed : goal.invariant-loop-owed
-invariant-loop-owed g l = LeadsTelling l.fn.s g.S.Stream.tells l.fn.hub (g.S.Stream.traffic l.fn.stream) l.hub (g.S.Stream.traffic l.stream) (λ h k. WrittenSoFar l.fn.s g.S.Stream.tells h (g.S.Stream.traffic l.fn.stream) k (g.S.Stream.traffic l.stream) l.owed)
+invariant-loop-owed g l =
+    record {
+      told : LeadsTelling l.fn.s g.S.Stream.tells l.fn.hub (g.S.Stream.traffic l.fn.stream) l.hub (g.S.Stream.traffic l.stream)
+          (λ h k. WrittenSoFar l.fn.s g.S.Stream.tells h (g.S.Stream.traffic l.fn.stream) k (g.S.Stream.traffic l.stream) l.owed);
+      spends : SpendsShare g.S.Stream.keeps_share g.S.Stream.takes_at_most g.S.Stream.is_told l.fn.s l.fn.hub l.fn.stream l.hub l.stream;
+    }
 
 abbrev pub decreases-loop-owed : goal.decreases-loop-owed
 decreases-loop-owed g l = l.owed

@@ -1,5 +1,10 @@
-use Rattle.stream_driver.specs.Entries.{EntriesSoFar}
 use Rattle.stream_driver.proofs.entries.drive_ready.Given as goal
+use Rattle.std.proofs.Common.{take}
+use Rattle.stream_driver.specs.Appends.{AppendsAtMost, ready_count}
+use Rattle.stream_driver.specs.Entries.{EntriesSoFar}
 
 abbrev pub invariant-loop-key : goal.invariant-loop-key
-invariant-loop-key g l = EntriesSoFar g.S.Stream.tells g.S.Stream.traffic l.key l.fn.hub l.fn.table.slots l.hub l.table.slots
+invariant-loop-key g l = record {
+  so_far : EntriesSoFar g.S.Stream.tells g.S.Stream.traffic l.key l.fn.hub l.fn.table.slots l.hub l.table.slots;
+  appends : g.S.Stream.keeps_share → AppendsAtMost (ready_count (take l.key l.fn.table.slots)) l.fn.hub l.hub;
+}

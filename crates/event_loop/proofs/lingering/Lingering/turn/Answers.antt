@@ -1,8 +1,9 @@
-use Rattle.event_loop.proofs.Words.{◌≡◌, ◌||◌, ◌∙◌, true, rules, refl, sym, ap, subst, lingers_in, TurnedIf}
-use Rattle.event_loop.proofs.Turned.{all_turned, none_turned, one_turned}
 use Rattle.event_loop.proofs.lingering.Lingering.turn.Goals as goal
+use Rattle.std.proofs.Common.{◌≡◌, ◌||◌, ◌∙◌, true, rules, refl, sym, ap, subst}
+use Rattle.event_loop.proofs.Turned.{all_turned, none_turned, one_turned}
 use Rattle.event_loop.proofs.lingering.Lingering.turn.Goals.{else-not-is_told-via-then-not-is_told+else-not-self}
 use Rattle.event_loop.proofs.lingering.Lingering.turn.Goals.{else-not-is_told-via-else-not-is_told}
+use Rattle.event_loop.specs.Lingerings.{lingers_in, TurnedIf}
 
 pub loop-init : goal.loop-init
 loop-init g c = none_turned (g.D.Sectors.moment c.args.device.now) _ refl

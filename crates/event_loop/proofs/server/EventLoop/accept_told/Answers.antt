@@ -1,6 +1,9 @@
-use Rattle.event_loop.proofs.Words.{◌∙◌, refl, sym, subst, items, lingers_in, Accepted}
-use Rattle.event_loop.proofs.OneTurn.{none_closed}
 use Rattle.event_loop.proofs.server.EventLoop.accept_told.Goals as goal
+use Rattle.std.proofs.Common.{◌∙◌, refl, sym, subst}
+use Rattle.mio.specs.Events.{items}
+use Rattle.event_loop.proofs.OneTurn.{none_closed}
+use Rattle.event_loop.specs.Lingerings.{lingers_in}
+use Rattle.event_loop.specs.Turns.{Accepted}
 
 pub returns-then-accepts_now-clause-accepts : goal.returns-then-accepts_now-clause-accepts
 returns-then-accepts_now-clause-accepts g c =
@@ -8,8 +11,11 @@ returns-then-accepts_now-clause-accepts g c =
 
 pub returns-else-accepts_now-clause-accepts : goal.returns-else-accepts_now-clause-accepts
 returns-else-accepts_now-clause-accepts g c =
-    subst (λ due. Accepted due c.args.self.now c.args.self.now) (sym c.if-accepts_now.false ∙ c.accepts_now.ensures) (record { hub = refl; table = refl; next = refl; port = refl; backlog = refl; due = refl; lingering = refl; refused = refl })
+    subst (λ due. Accepted due c.args.self.now c.args.self.now) (sym c.if-accepts_now.false
+    ∙ c.accepts_now.ensures)
+    (record { hub = refl; table = refl; next = refl; port = refl; backlog = refl; due = refl; lingering = refl; refused = refl; turns = refl })
 
 pub returns-else-accepts_now-clause-lingerers : goal.returns-else-accepts_now-clause-lingerers
 returns-else-accepts_now-clause-lingerers g c =
-    none_closed c.args.self.now.backlog (items c.args.self.now.poller.events) (lingers_in c.args.self.now.lingering) (sym c.accepts_now.ensures ∙ c.if-accepts_now.false)
+    none_closed c.args.self.now.backlog (items c.args.self.now.poller.events) (lingers_in c.args.self.now.lingering) (sym c.accepts_now.ensures
+    ∙ c.if-accepts_now.false)

@@ -1,49 +1,99 @@
-use Rattle.event_loop.proofs.Words.{ap, ◌∙◌, items, leads_map, stands_after, after_poll, slot_at}
-use Rattle.event_loop.proofs.{Departing.drives_serve, Tables.below_after, TableBytes.drives_bytes}
-use Rattle.event_loop.specs.contracts.socket.SocketStream.TheImpl.{ghosts}
-use Rattle.event_loop.proofs.Entries.{driven_entries, ended_entries, ended_remain, polled_entries, polled_remain, polled_sessions, remain_numbers, remain_sessions}
 use Rattle.event_loop.proofs.server.EventLoop.drive.Goals as goal
+use Rattle.std.proofs.Common.{ap, subst, ◌∙◌}
+use Rattle.mio.specs.Events.{items}
+use Rattle.mio.specs.declared.event.event.Event.{Event}
+use Rattle.stream_driver.proofs.States.{leads_map, stands_after}
+use Rattle.event_loop.proofs.Departing.{drives_serve}
+use Rattle.event_loop.proofs.Entries.{driven_entries, ended_entries, ended_remain, polled_entries, polled_remain}
+use Rattle.event_loop.proofs.Entries.{polled_sessions, remain_numbers, remain_sessions}
+use Rattle.event_loop.proofs.Ordering.{places_after, polled_next, polled_taken, remain_places}
+use Rattle.event_loop.proofs.Polled.{TakesTurns}
+use Rattle.event_loop.proofs.TableBytes.{drives_bytes}
+use Rattle.event_loop.proofs.Tables.{below_after}
+use Rattle.event_loop.specs.Order.{after_turn, is_passed}
+use Rattle.event_loop.specs.Tables.{after_poll, slot_at}
+use Rattle.event_loop.specs.contracts.socket.SocketStream.TheImpl.{ghosts}
 
 pub drive_ready-requires : goal.drive_ready-requires
-drive_ready-requires g c = polled_sessions c.args.self.now.table.slots c.make_polled_ready.new.table.slots (items c.events.result.now) c.make_polled_ready.ensures c.args.self.now.hub c.args.self.now.sessions
+drive_ready-requires g c =
+    polled_sessions c.args.self.now.table.slots c.take_turns.new.table.slots (items c.events.result.now)
+    (λ key. (
+      _,
+      polled_taken c.args.self.now.hub c.args.self.now.turns c.next_turns-self.result c.args.self.now.table.slots c.make_polled_ready.new.table.slots
+          (items c.events.result.now) c.make_polled_ready.ensures c.take_turns.new.table.slots c.take_turns.ensures key,
+    ))
+    c.args.self.now.hub c.args.self.now.sessions
 
 pub invariant_of-self : goal.invariant_of-self
 invariant_of-self g c =
     let old = c.args.self.now in
-    let ready = c.make_polled_ready.new.table.slots in
+    let ready = c.take_turns.new.table.slots in
     let driven = c.drive_ready.new.table.slots in
     let new = c.end_drives.new.table.slots in
     let later = c.drive_ready.new.hub in
-    let polled = c.make_polled_ready.ensures in
     let events = items c.events.result.now in
+    let told = polled_taken old.hub old.turns c.next_turns-self.result old.table.slots c.make_polled_ready.new.table.slots events c.make_polled_ready.ensures
+    ready c.take_turns.ensures in
+    let turns : TakesTurns old.table.slots ready events = λ key. (_, told key) in
     let ended = c.end_drives.ensures.ended in
     record {
       room = old.room;
       stands = stands_after old.stands c.drive_ready.ensures.driven.leads;
-      serving = drives_serve old.hub later old.table.slots new events (record { ready = ready; told = polled; driven = driven; drives = c.drive_ready.ensures.driven; ended = rw c.device.ensures at ended })
+      serving = drives_serve old.hub later old.table.slots new events old.turns c.next_turns-self.result
+          (record {
+            turn_of = polled_next old.hub old.turns c.next_turns-self.result old.table.slots c.make_polled_ready.new.table.slots events
+                c.make_polled_ready.ensures c.next_turns-self.ensures.next;
+            ready = ready;
+            told = told;
+            driven = driven;
+            drives = c.drive_ready.ensures.driven;
+            ended = rw c.device.ensures at ended;
+          })
           old.sessions _ _ (rw c.device.ensures at c.end_drives.ensures.left) old.serving;
       sessions = remain_sessions later driven new (ended_remain driven new ghosts.tells ghosts.traffic _ ended) c.drive_ready.ensures.sessions;
       entries = ended_entries driven new ghosts.tells ghosts.traffic _ ended later
-          (driven_entries old.hub later _ _ ready driven old.stands c.drive_ready.ensures.driven.leads (polled_entries old.table.slots ready events polled old.hub old.entries));
+          (driven_entries old.hub later _ _ ready driven old.stands c.drive_ready.ensures.driven.leads
+          (polled_entries old.table.slots ready events turns old.hub old.entries));
       numbers = remain_numbers old.next driven new (ended_remain driven new ghosts.tells ghosts.traffic _ ended)
-          (below_after old.next ready driven (remain_numbers old.next old.table.slots ready (polled_remain old.table.slots ready events polled) old.numbers) c.drive_ready.ensures.numbers);
+          (below_after old.next ready driven (remain_numbers old.next old.table.slots ready (polled_remain old.table.slots ready events turns) old.numbers)
+          c.drive_ready.ensures.numbers);
+      places = remain_places driven new (ended_remain driven new ghosts.tells ghosts.traffic _ ended)
+          (places_after ready driven c.drive_ready.ensures.numbers
+          (remain_places old.table.slots ready (polled_remain old.table.slots ready events turns) old.places));
+      next_place = c.next_turns-self.ensures.places.0;
+      beside_place = c.next_turns-self.ensures.places.1;
     }
 
 pub returns-clause-drives : goal.returns-clause-drives
-returns-clause-drives g c = (
-  record {
-    ready = c.make_polled_ready.new.table.slots;
-    told = λ key. c.make_polled_ready.ensures key ∙ ap (λ events. after_poll (items events) key (slot_at c.args.self.now.table.slots key)) c.events.ensures;
-    driven = c.drive_ready.new.table.slots;
-    drives = c.drive_ready.ensures.driven;
-    ended = rw c.device.ensures at c.end_drives.ensures.ended;
-  },
-  rw c.device.ensures at c.end_drives.ensures.left,
-)
+returns-clause-drives g c =
+    let old = c.args.self.now in
+    let told = polled_taken old.hub old.turns c.next_turns-self.result old.table.slots c.make_polled_ready.new.table.slots (items old.poller.events)
+    (rw c.events.ensures at c.make_polled_ready.ensures) c.take_turns.new.table.slots c.take_turns.ensures in (
+      record {
+        turn_of = polled_next old.hub old.turns c.next_turns-self.result old.table.slots c.make_polled_ready.new.table.slots (items old.poller.events)
+            (rw c.events.ensures at c.make_polled_ready.ensures) c.next_turns-self.ensures.next;
+        ready = c.take_turns.new.table.slots;
+        told = told;
+        driven = c.drive_ready.new.table.slots;
+        drives = c.drive_ready.ensures.driven;
+        ended = rw c.device.ensures at c.end_drives.ensures.ended;
+      },
+      rw c.device.ensures at c.end_drives.ensures.left,
+    )
 
 pub returns-clause-keeps : goal.returns-clause-keeps
 returns-clause-keeps g c =
-    let has_own = polled_sessions c.args.self.now.table.slots c.make_polled_ready.new.table.slots (items c.events.result.now) c.make_polled_ready.ensures c.args.self.now.hub c.args.self.now.sessions in
-    leads_map c.args.self.now.hub c.drive_ready.new.hub _ _ c.drive_ready.ensures.driven.leads (λ h k stands d has.
-    drives_bytes ghosts.tells ghosts.traffic _ c.args.self.now.table.slots c.make_polled_ready.new.table.slots c.drive_ready.new.table.slots c.end_drives.new.table.slots
-    (items c.events.result.now) c.make_polled_ready.ensures has_own.own c.end_drives.ensures.ended h k d has)
+    let old = c.args.self.now in
+    let ready = c.take_turns.new.table.slots in
+    let events = items c.events.result.now in
+    let turns : TakesTurns old.table.slots ready events =
+    λ key. (
+      _,
+      polled_taken old.hub old.turns c.next_turns-self.result old.table.slots c.make_polled_ready.new.table.slots events c.make_polled_ready.ensures
+          ready c.take_turns.ensures key,
+    )
+    in
+    let has_own = polled_sessions old.table.slots ready events turns old.hub old.sessions in
+    leads_map old.hub c.drive_ready.new.hub _ _ c.drive_ready.ensures.driven.leads (λ h k stands d has.
+    drives_bytes ghosts.tells ghosts.traffic _ old.table.slots ready c.drive_ready.new.table.slots c.end_drives.new.table.slots events turns has_own.own
+    c.end_drives.ensures.ended h k d has)

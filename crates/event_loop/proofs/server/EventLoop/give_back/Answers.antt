@@ -1,7 +1,11 @@
-use denote.Struct.Props.{props}
-use Rattle.event_loop.proofs.Words.{ap, subst, sym, ◌∙◌, status_seen, present_after, seen_after, stands_after, IsPresentIn, Point, status_at}
-use Rattle.event_loop.proofs.{Departing.rest_serves, WholeTurns.leads_rest}
 use Rattle.event_loop.proofs.server.EventLoop.give_back.Goals as goal
+use Rattle.std.proofs.Common.{ap, subst, sym, ◌∙◌}
+use denote.Struct.Props.{props}
+use Rattle.sessions.proofs.EventSteps.{status_seen}
+use Rattle.stream_driver.proofs.States.{present_after, seen_after, stands_after}
+use Rattle.stream_driver.specs.Sessions.{IsPresentIn, Point, status_at}
+use Rattle.event_loop.proofs.Departing.{rest_serves}
+use Rattle.event_loop.proofs.WholeTurns.{leads_rest}
 
 pub invariant_of-self : goal.invariant_of-self
 invariant_of-self g c =
@@ -12,8 +16,16 @@ invariant_of-self g c =
       room = old.room;
       stands = stands_after old.stands rests;
       serving = rest_serves old.hub new c.reclaim_step-self.ensures.ran old.table.slots old.lingering.queue.items old.serving;
-      sessions = record { present = λ key entry e alive. present_after entry.session entry.session (old.sessions.present key entry e alive) rests (λ h k p same. subst (λ (q : Point). IsPresentIn q.hub entry.session) (sym same) p); own = old.sessions.own };
+      sessions = record {
+        present = λ key entry e alive. present_after entry.session entry.session (old.sessions.present key entry e alive) rests
+            (λ h k p same. subst (λ (q : Point). IsPresentIn q.hub entry.session) (sym same) p);
+        own = old.sessions.own;
+      };
       entries = λ s without.
-          seen_after (hlevel props) old.stands rests (λ h k was stands same. status_seen new k.hub stands s ∙ ap (λ (q : Point). status_at q.hub s) same ∙ sym (status_seen old.hub h.hub was s) ∙ old.entries s without);
+          seen_after (hlevel props) old.stands rests (λ h k was stands same. status_seen new k.hub stands s ∙ ap (λ (q : Point). status_at q.hub s) same
+          ∙ sym (status_seen old.hub h.hub was s) ∙ old.entries s without);
       numbers = old.numbers;
+      places = old.places;
+      next_place = old.next_place;
+      beside_place = old.beside_place;
     }

@@ -1,12 +1,20 @@
-use Rattle.event_loop.proofs.Words.{ap, [], map, departure_of}
-use Rattle.socket_calls.specs.OpenFacts.{latest}
 use Rattle.event_loop.proofs.socket.Socket.new.Goals as goal
+use Rattle.std.proofs.Common.{ap, [], map}
+use Rattle.socket_calls.specs.OpenFacts.{latest}
+use Rattle.event_loop.specs.Sockets.{departure_of}
 
 pub returns : goal.returns
 returns c = let none = c.new-2.ensures in record {
   given = λ tells. (tells.begins c.new.result c.new.ensures.calls).0;
   taken = λ tells. ap (λ l. latest [] l) (tells.begins c.new.result c.new.ensures.calls).1;
   departed = λ tells. ap (λ l. map departure_of l) (tells.begins c.new.result c.new.ensures.calls).1;
-  counts = ((λ i. (none i).read_blocked), (λ i. (none i).read_failed), (λ i. (none i).read_ended), (λ i. (none i).write_blocked), (λ i. (none i).write_failed), c.new.ensures.connection);
+  counts = (
+    (λ i. (none i).read_blocked),
+    (λ i. (none i).read_failed),
+    (λ i. (none i).read_ended),
+    (λ i. (none i).write_blocked),
+    (λ i. (none i).write_failed),
+    c.new.ensures.connection,
+  );
   last = λ i. (none i).last;
 }

@@ -1,17 +1,22 @@
-use Rattle.event_loop.proofs.Words.{[], ap, refl, traffic_of}
-use Rattle.event_loop.proofs.Socketing.{departed_read, given_read, taken_read}
 use Rattle.event_loop.proofs.socket.SocketStream.read.Goals as goal
+use Rattle.std.proofs.Common.{[], ap, refl}
+use Rattle.event_loop.proofs.Socketing.{departed_read, given_read, taken_read}
+use Rattle.event_loop.specs.Sockets.{traffic_of}
 
 pub returns-clause-given : goal.returns-clause-given
 returns-clause-given g c =
-    given_read c.args.self.now.socket c.read.new.self c.read.new.self c.read.new.into c.read.result c.read.ensures.next refl c.read.ensures.over c.read.ensures.happened c.read_answer-answer.result c.read_answer-answer.ensures.bytes
+    given_read c.args.self.now.socket c.read.new.self c.read.new.self c.read.new.into c.read.result c.read.ensures.next refl c.read.ensures.over
+    c.read.ensures.happened c.read_answer-answer.result c.read_answer-answer.ensures.bytes
 
 pub returns-clause-taken : goal.returns-clause-taken
-returns-clause-taken g c = taken_read c.args.self.now.socket c.read.new.self c.read.new.self c.read.new.into c.read.result c.read.ensures.next refl c.read.ensures.over c.read.ensures.happened
+returns-clause-taken g c =
+    taken_read c.args.self.now.socket c.read.new.self c.read.new.self c.read.new.into c.read.result c.read.ensures.next refl c.read.ensures.over
+    c.read.ensures.happened
 
 pub returns-clause-departed : goal.returns-clause-departed
 returns-clause-departed g c =
-    departed_read c.args.self.now.socket c.read.new.self c.read.new.self c.read.new.into c.read.result c.read.ensures.next refl c.read.ensures.over c.read.ensures.happened (g.D.Sectors.moment c.args.device.now)
+    departed_read c.args.self.now.socket c.read.new.self c.read.new.self c.read.new.into c.read.result c.read.ensures.next refl c.read.ensures.over
+    c.read.ensures.happened (g.D.Sectors.moment c.args.device.now)
     (traffic_of c.args.self.now) _ refl refl
 
 pub returns-clause-answered : goal.returns-clause-answered

@@ -1,5 +1,5 @@
-use Rattle.file_calls.specs.HappenedCalls.{real_error, real_read}
 use Rattle.file_calls.proofs.counted.CountedFile.read.Goals as goal
+use Rattle.file_calls.specs.HappenedCalls.{real_error, real_read}
 
 pub returns-clause-happened : goal.returns-clause-happened
 returns-clause-happened c = real_read _ _ _ _

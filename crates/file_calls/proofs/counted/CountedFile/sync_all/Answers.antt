@@ -1,5 +1,5 @@
-use Rattle.file_calls.specs.HappenedCalls.{real_error, real_sync}
 use Rattle.file_calls.proofs.counted.CountedFile.sync_all.Goals as goal
+use Rattle.file_calls.specs.HappenedCalls.{real_error, real_sync}
 
 pub returns-clause-happened : goal.returns-clause-happened
 returns-clause-happened c = real_sync _ _

@@ -1,5 +1,5 @@
-use Rattle.file_calls.specs.HappenedCalls.{real_error, real_write}
 use Rattle.file_calls.proofs.counted.CountedFile.write.Goals as goal
+use Rattle.file_calls.specs.HappenedCalls.{real_error, real_write}
 
 pub returns-clause-happened : goal.returns-clause-happened
 returns-clause-happened c = real_write _ _ _ _

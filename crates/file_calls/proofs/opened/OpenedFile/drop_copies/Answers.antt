@@ -1,6 +1,6 @@
+use Rattle.file_calls.proofs.opened.OpenedFile.drop_copies.Goals as goal
 use Rattle.std.proofs.Common.{ℕ, Err, rules}
 use Rattle.file_calls.specs.HappenedCalls.{real_drop_copies, real_error}
-use Rattle.file_calls.proofs.opened.OpenedFile.drop_copies.Goals as goal
 
 pub returns-then-advised-eq0 : goal.returns-then-advised-eq0
 returns-then-advised-eq0 c = search (rules, real_drop_copies)

@@ -1,5 +1,5 @@
-use Rattle.file_calls.specs.HappenedCalls.{real_error, real_length}
 use Rattle.file_calls.proofs.opened.OpenedFile.length.Goals as goal
+use Rattle.file_calls.specs.HappenedCalls.{real_error, real_length}
 
 pub returns-clause-length : goal.returns-clause-length
 returns-clause-length c = real_length _ _

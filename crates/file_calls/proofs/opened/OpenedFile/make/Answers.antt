@@ -1,6 +1,6 @@
+use Rattle.file_calls.proofs.opened.OpenedFile.make.Goals as goal
 use Rattle.std.proofs.Common.{rules}
 use Rattle.file_calls.specs.HappenedCalls.{real_error, real_make}
-use Rattle.file_calls.proofs.opened.OpenedFile.make.Goals as goal
 
 pub returns : goal.returns
 returns g c = search (rules, real_make)

@@ -1,5 +1,6 @@
-use Rattle.scripts.proofs.Words.{◌<◌, ◌++◌, ◌∷◌, [], List, ℕ, length, ap, ◌∙◌, arith, lent_more}
 use Rattle.scripts.proofs.lines.Words.add.Goals as goal
+use Rattle.std.proofs.Common.{◌<◌, ◌++◌, ◌∷◌, [], List, ℕ, length, ap, ◌∙◌, arith}
+use Rattle.resp.proofs.Lent.{lent_more}
 
 pub returns-clause-added : goal.returns-clause-added
 returns-clause-added c is_true =

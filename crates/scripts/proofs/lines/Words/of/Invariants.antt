@@ -1,6 +1,7 @@
-use Rattle.scripts.proofs.Words.{◌≡◌, map, filter, not, ◌==◌}
-use Rattle.std.specs.Prelude.{length}
 use Rattle.scripts.proofs.lines.Words.of.Given as goal
+use Rattle.std.proofs.Common.{◌≡◌, map}
+use Rattle.std.specs.List.{filter}
+use Rattle.std.specs.Prelude.{not, ◌==◌, length}
 
 abbrev pub invariant-loop-word : goal.invariant-loop-word
 invariant-loop-word l =

@@ -1,8 +1,10 @@
-use Rattle.scripts.proofs.Words.{◌≤◌, List, ℕ, length, map, ap, subst, arith, length-take, lent}
+use Rattle.scripts.proofs.lines.Words.write_frame.Goals as goal
+use Rattle.std.proofs.Common.{◌≤◌, List, ℕ, length, map, ap, subst, arith}
+use Rattle.std.proofs.lemmas.List.{length-take}
 use Rattle.model.specs.Grammar.{array_of_bulks}
+use Rattle.resp.proofs.Lent.{lent}
 use Rattle.resp.specs.Writing.{Appends}
 use Rattle.scripts.proofs.Lent.{parts_behind}
-use Rattle.scripts.proofs.lines.Words.write_frame.Goals as goal
 
 pub returns : goal.returns
 returns c =

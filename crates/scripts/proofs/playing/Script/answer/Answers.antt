@@ -1,8 +1,20 @@
-use Rattle.scripts.proofs.Words.{◌≡◌, ℕ, [], refl, sym, ap, subst, ◌∙◌, length, false, ◌++◌, rules, IsErrAnd, Appends, Bytes, HubState, Serves, Sends, More, hub_step, stream_of, StandsFor, status_in, reached, ScriptLine, frame_of, printed_line, Scene, granted, after, received, PrintsIn, Served, File, Memory}
-use Rattle.sessions.specs.{declared.events.Status.Status, declared.events.Status.TheVariants.Open}
-use Rattle.sessions.proofs.EventSteps.{pending_seen, status_seen}
-use Rattle.scripts.proofs.{Runs.err_is, Steps.sends_alike}
 use Rattle.scripts.proofs.playing.Script.answer.Goals as goal
+use Rattle.std.proofs.Common.{◌≡◌, ℕ, [], refl, sym, ap, subst, ◌∙◌, length, false, ◌++◌, rules}
+use Rattle.std.specs.Io.KnownBytes.{Appends}
+use Rattle.std.specs.Prelude.{IsErrAnd}
+use Rattle.model.specs.Map.{Bytes}
+use Rattle.sessions.proofs.EventSteps.{pending_seen, status_seen}
+use Rattle.sessions.proofs.Reached.{reached}
+use Rattle.sessions.specs.SessionStreams.{HubState, Serves, Sends, More, hub_step, stream_of}
+use Rattle.sessions.specs.StandsFor.{StandsFor, status_in}
+use Rattle.sessions.specs.declared.events.Status.{Status}
+use Rattle.sessions.specs.declared.events.Status.TheVariants.{Open}
+use Rattle.scripts.proofs.Runs.{err_is}
+use Rattle.scripts.proofs.Steps.{sends_alike}
+use Rattle.scripts.specs.Calls.{Served}
+use Rattle.scripts.specs.Lines.{ScriptLine, frame_of, printed_line}
+use Rattle.scripts.specs.Transcript.{Scene, granted, after, received, PrintsIn}
+use Rattle.scripts.specs.declared.faults.ScriptFault.TheVariants.{File, Memory}
 
 -- where the session is not open nothing is printed
 none_printed : (status : Status) (here : Scene) (s : ℕ) (line : ScriptLine) → (status ≡ Open → ⊥) → PrintsIn status here s line here []
@@ -27,24 +39,38 @@ returns g c here is_at =
     let s = c.args.session in
     let line = c.args.line.now in
     let opened : status_in (stream_of here.hub s) ≡ Open = sym (c.status.ensures ∙ status_seen _ here.hub is_at.hub s) ∙ c.in-Open.is in
-    let frame : c.deref.result.now ≡ frame_of line.words = c.deref.ensures.value ∙ c.in_ok-write_frame.ensures.ok ∙ ap (λ xs. xs ++ frame_of line.words) c.clear.ensures.items in
+    let frame : c.deref.result.now ≡ frame_of line.words =
+    c.deref.ensures.value ∙ c.in_ok-write_frame.ensures.ok ∙ ap (λ xs. xs ++ frame_of line.words) c.clear.ensures.items in
     let came : HubState = received here.hub s (frame_of line.words) in
-    let served : Served c.serve.new.hub came s = subst (λ bytes. Served c.serve.new.hub (received here.hub s bytes) s) frame (c.in_ok-serve.ensures here.hub is_at.hub) in
+    let served : Served c.serve.new.hub came s =
+    subst (λ bytes. Served c.serve.new.hub (received here.hub s bytes) s) frame (c.in_ok-serve.ensures here.hub is_at.hub) in
     let done : HubState = (hub_step came (Serves s) (granted served.front served.failed)).0 in
     let reply : Bytes = c.pending-pending.result.now in
     let printed : c.deref-2.result.now ≡ printed_line line.label reply =
-    c.deref-2.ensures.value ∙ c.in_ok-write_reply.ensures ∙ ap (λ xs. xs ++ printed_line c.label.result reply) c.clear-2.ensures.items ∙ ap (λ n. printed_line n reply) c.label.ensures in
+    c.deref-2.ensures.value ∙ c.in_ok-write_reply.ensures ∙ ap (λ xs. xs ++ printed_line c.label.result reply) c.clear-2.ensures.items
+    ∙ ap (λ n. printed_line n reply) c.label.ensures in
     let leads = c.step.ensures.step in
     record {
       scene = record { hub = after done (Sends s (length reply)); labels = here.labels };
       printed = printed_line line.label reply;
-      at = record { hub = subst (λ k. StandsFor c.step.new.self k) (ap (λ r. r.0) (sends_alike done s (length reply) leads.0 (granted More false))) (reached c.serve.new.hub c.step.new.self (Sends s (length reply)) c.step.result leads done served.stands).stands; labels = is_at.labels };
-      prints = subst (λ st. PrintsIn st here s line (record { hub = after done (Sends s (length reply)); labels = here.labels }) (printed_line line.label reply)) (sym opened) (
-        reply,
-        record { front = served.front; failed = served.failed; possible = served.possible; reply_is = c.pending-pending.ensures.bytes ∙ pending_seen _ done served.stands s; new_is = refl },
-        refl,
-        refl,
-      );
+      at = record {
+        hub = subst (λ k. StandsFor c.step.new.self k) (ap (λ r. r.0) (sends_alike done s (length reply) leads.0 (granted More false)))
+            (reached c.serve.new.hub c.step.new.self (Sends s (length reply)) c.step.result leads done served.stands).stands;
+        labels = is_at.labels;
+      };
+      prints = subst (λ st. PrintsIn st here s line (record { hub = after done (Sends s (length reply)); labels = here.labels })
+          (printed_line line.label reply)) (sym opened) (
+            reply,
+            record {
+              front = served.front;
+              failed = served.failed;
+              possible = served.possible;
+              reply_is = c.pending-pending.ensures.bytes ∙ pending_seen _ done served.stands s;
+              new_is = refl;
+            },
+            refl,
+            refl,
+          );
       appends = subst (λ bytes. Appends (g.O.Write.contents c.args.out.now) (g.O.Write.contents c.write_out.new.out) bytes) printed c.in_ok-write_out.ensures;
     }
 
@@ -56,7 +82,8 @@ returns-in_err-write_frame g c here is_at = rw (err_is c.from_residual.result Me
 pub returns-in_err-serve : goal.returns-in_err-serve
 returns-in_err-serve g c here is_at =
     let why = c.in_err-serve.ensures here.hub is_at.hub in
-    rw (err_is c.from_residual-in_err-serve.result Memory (subst (λ f. IsErrAnd c.from_residual-in_err-serve.result (λ x. x ≡ f)) why c.from_residual-in_err-serve.ensures.1)) refl
+    rw (err_is c.from_residual-in_err-serve.result Memory
+    (subst (λ f. IsErrAnd c.from_residual-in_err-serve.result (λ x. x ≡ f)) why c.from_residual-in_err-serve.ensures.1)) refl
 
 pub returns-in_err-write_reply : goal.returns-in_err-write_reply
 returns-in_err-write_reply g c here is_at = rw (err_is c.from_residual-in_err-write_reply.result Memory c.from_residual-in_err-write_reply.ensures.1) refl
@@ -68,22 +95,32 @@ returns-in_err-write_out g c here is_at =
     let s = c.args.session in
     let line = c.args.line.now in
     let opened : status_in (stream_of here.hub s) ≡ Open = sym (c.status.ensures ∙ status_seen _ here.hub is_at.hub s) ∙ c.in-Open.is in
-    let frame : c.deref.result.now ≡ frame_of line.words = c.deref.ensures.value ∙ c.in_ok-write_frame.ensures.ok ∙ ap (λ xs. xs ++ frame_of line.words) c.clear.ensures.items in
+    let frame : c.deref.result.now ≡ frame_of line.words =
+    c.deref.ensures.value ∙ c.in_ok-write_frame.ensures.ok ∙ ap (λ xs. xs ++ frame_of line.words) c.clear.ensures.items in
     let came : HubState = received here.hub s (frame_of line.words) in
-    let served : Served c.serve.new.hub came s = subst (λ bytes. Served c.serve.new.hub (received here.hub s bytes) s) frame (c.in_ok-serve.ensures here.hub is_at.hub) in
+    let served : Served c.serve.new.hub came s =
+    subst (λ bytes. Served c.serve.new.hub (received here.hub s bytes) s) frame (c.in_ok-serve.ensures here.hub is_at.hub) in
     let done : HubState = (hub_step came (Serves s) (granted served.front served.failed)).0 in
     let reply : Bytes = c.pending-pending.result.now in
     let printed : c.deref-2.result.now ≡ printed_line line.label reply =
-    c.deref-2.ensures.value ∙ c.in_ok-write_reply.ensures ∙ ap (λ xs. xs ++ printed_line c.label.result reply) c.clear-2.ensures.items ∙ ap (λ n. printed_line n reply) c.label.ensures in
+    c.deref-2.ensures.value ∙ c.in_ok-write_reply.ensures ∙ ap (λ xs. xs ++ printed_line c.label.result reply) c.clear-2.ensures.items
+    ∙ ap (λ n. printed_line n reply) c.label.ensures in
     let why = c.in_err-write_out.ensures in
     let next : Scene = record { hub = after done (Sends s (length reply)); labels = here.labels } in
-    rw (err_is c.from_residual-in_err-write_out.result File (subst (λ f. IsErrAnd c.from_residual-in_err-write_out.result (λ x. x ≡ f)) why.0 c.from_residual-in_err-write_out.ensures.1)) (record {
+    rw (err_is c.from_residual-in_err-write_out.result File
+    (subst (λ f. IsErrAnd c.from_residual-in_err-write_out.result (λ x. x ≡ f)) why.0 c.from_residual-in_err-write_out.ensures.1)) (record {
       scene = next;
       part = why.1.0;
       rest = why.1.1;
       prints = subst (λ st. PrintsIn st here s line next (why.1.0 ++ why.1.1)) (sym opened) (
         reply,
-        record { front = served.front; failed = served.failed; possible = served.possible; reply_is = c.pending-pending.ensures.bytes ∙ pending_seen _ done served.stands s; new_is = refl },
+        record {
+          front = served.front;
+          failed = served.failed;
+          possible = served.possible;
+          reply_is = c.pending-pending.ensures.bytes ∙ pending_seen _ done served.stands s;
+          new_is = refl;
+        },
         refl,
         sym why.1.2 ∙ printed,
       );

@@ -1,5 +1,8 @@
-use Rattle.scripts.proofs.Words.{IfSome, lines_of, Scene, IsAt, RunSoFar}
 use Rattle.scripts.proofs.playing.Script.play_lines.Given as goal
+use Rattle.std.specs.Prelude.{IfSome}
+use Rattle.scripts.specs.Calls.{IsAt, RunSoFar}
+use Rattle.scripts.specs.Lines.{lines_of}
+use Rattle.scripts.specs.Transcript.{Scene}
 
 -- the lines so far were run
 abbrev pub invariant-loop-number : goal.invariant-loop-number

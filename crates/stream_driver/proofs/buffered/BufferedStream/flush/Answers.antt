@@ -1,6 +1,7 @@
-use Rattle.stream_driver.proofs.Words.{rules, ◌≢◌, [], held_in}
-use Rattle.stream_driver.proofs.Buffering.{flushed_blocked, flushed_failed, flushed_more, flushed_none}
 use Rattle.stream_driver.proofs.buffered.BufferedStream.flush.Goals as goal
+use Rattle.std.proofs.Common.{rules, ◌≢◌, []}
+use Rattle.stream_driver.proofs.Buffering.{flushed_blocked, flushed_failed, flushed_more, flushed_none}
+use Rattle.stream_driver.specs.Buffers.{held_in}
 
 pub loop-self-init : goal.loop-self-init
 loop-self-init g c = flushed_none c.args.self.now

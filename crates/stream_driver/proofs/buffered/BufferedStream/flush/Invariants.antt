@@ -1,6 +1,7 @@
-use Rattle.stream_driver.proofs.Words.{length, held_in}
-use Rattle.stream_driver.proofs.Buffering.{FlushedSoFar}
 use Rattle.stream_driver.proofs.buffered.BufferedStream.flush.Given as goal
+use Rattle.std.proofs.Common.{length}
+use Rattle.stream_driver.proofs.Buffering.{FlushedSoFar}
+use Rattle.stream_driver.specs.Buffers.{held_in}
 
 abbrev pub invariant-loop-self : goal.invariant-loop-self
 invariant-loop-self g l = FlushedSoFar g.S.Stream.tells g.S.Stream.traffic (g.D.Sectors.moment l.device) l.initial.self l.self

@@ -1,18 +1,21 @@
-use Rattle.stream_driver.proofs.Words.{◌≡◌, ◌<◌, ◌≤◌, ◌⊎◌, inl, inr, not, false, length, arith, nat_tests}
-use Rattle.stream_driver.proofs.Buffering.{gives_some, gives_why, short_moved, short_still}
 use Rattle.stream_driver.proofs.buffered.BufferedStream.give_some.Goals as goal
+use Rattle.std.proofs.Common.{◌≡◌, ◌<◌, ◌≤◌, ◌⊎◌, inl, inr, not, false, length, arith}
+use Rattle.std.proofs.lemmas.Bool.Decides.{nat_tests}
+use Rattle.stream_driver.proofs.Buffering.{gives_some, gives_why, short_moved, short_still}
 use Rattle.stream_driver.proofs.buffered.BufferedStream.give_some.Goals.{then-n-into, else-n-into}
 
 pub returns-after-n-into : goal.returns-after-n-into
 returns-after-n-into g c =
-    let how : ((c.in-Moved.n < length c.args.into.now) × (c.if-n-into.self ≡ not c.flush.new.self.reads_on)) ⊎ ((length c.args.into.now ≤ c.in-Moved.n) × (c.if-n-into.self ≡ false)) = elim c.if-n-into.branch [
+    let how : ((c.in-Moved.n < length c.args.into.now) × (c.if-n-into.self ≡ not c.flush.new.self.reads_on))
+    ⊎ ((length c.args.into.now ≤ c.in-Moved.n) × (c.if-n-into.self ≡ false)) = elim c.if-n-into.branch [
       | then-n-into w ↦ inl (omega (arith, w.if-n-into.true), w.self-is)
       | else-n-into w ↦ inr (omega (arith, w.if-n-into.false), grind (arith, nat_tests, w.if-n-into.false, w.self-is))
     ] in
     record {
       gives = gives_some c.if-n-into.self _ c.in-All.ensures
           c.in-Moved.ensures.within c.in-Moved.ensures.given c.in-Moved.ensures.taken c.in-Moved.ensures.departed
-          (short_moved c.in-Moved.n (length c.args.into.now) c.args.self.now.reads_on c.flush.new.self.reads_on c.if-n-into.self c.in-All.ensures.kept.reads_on how);
+          (short_moved c.in-Moved.n (length c.args.into.now) c.args.self.now.reads_on c.flush.new.self.reads_on c.if-n-into.self c.in-All.ensures.kept.reads_on
+          how);
       why = gives_why c.if-n-into.self _ c.in-All.ensures c.in-Moved.ensures.answered c.if-self.false;
     }
 

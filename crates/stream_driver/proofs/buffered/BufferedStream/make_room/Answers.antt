@@ -1,6 +1,6 @@
+use Rattle.stream_driver.proofs.buffered.BufferedStream.make_room.Goals as goal
 use Rattle.std.proofs.Common.{arith}
 use Rattle.stream_driver.proofs.Buffering.{room_after, room_flushed}
-use Rattle.stream_driver.proofs.buffered.BufferedStream.make_room.Goals as goal
 
 pub returns-clause-why : goal.returns-clause-why
 returns-clause-why g c = room_after g.S.Stream.traffic c.flush.result c.args.self.now c.flush.new.self c.flush.ensures.why

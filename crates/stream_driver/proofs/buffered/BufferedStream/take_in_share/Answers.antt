@@ -1,7 +1,8 @@
-use Rattle.stream_driver.proofs.Words.{◌≡◌, ◌<◌, ◌≤◌, inl, inr, length, take, refl, ap, arith, common_steps}
+use Rattle.stream_driver.proofs.buffered.BufferedStream.take_in_share.Goals as goal
+use Rattle.std.proofs.Common.{◌≡◌, ◌<◌, ◌≤◌, inl, inr, length, take, refl, ap, arith}
+use Rattle.std.proofs.lemmas.Grind.{common_steps}
 use Rattle.std.proofs.lemmas.List.{length-take-le}
 use Rattle.stream_driver.proofs.Buffering.{takes_front, took_front, took_none}
-use Rattle.stream_driver.proofs.buffered.BufferedStream.take_in_share.Goals as goal
 
 pub take_some-requires : goal.take_some-requires
 take_some-requires g c =
@@ -13,7 +14,11 @@ pub returns-then-most-eq0 : goal.returns-then-most-eq0
 returns-then-most-eq0 g c =
     let some : 0 < length c.args.from.now = grind (arith, common_steps) in
     let none_left : c.args.self.now.share ≡ 0 = omega arith in
-    record { takes = took_none c.args.self.now c.args.from.now; why = inl (record { none_left = none_left; inner_is = refl; held_is = refl }, refl); share = omega arith }
+    record {
+      takes = took_none c.args.self.now c.args.from.now;
+      why = inl (record { none_left = none_left; inner_is = refl; held_is = refl }, refl);
+      share = omega arith;
+    }
 
 pub returns : goal.returns
 returns g c =
@@ -24,6 +29,6 @@ returns g c =
     let took = took_front most (take most c.args.from.now) c.args.from.now refl le c.take_some.ensures.takes in
     record {
       takes = takes_front most (take most c.args.from.now) c.args.from.now refl le c.take_some.ensures.takes;
-      why = inr (some, c.take_some.ensures.why);
+      why = inr (inr (record { some = some; failed = grind (arith, common_steps) }, c.take_some.ensures.why));
       share = omega arith;
     }

@@ -1,13 +1,15 @@
-use Rattle.stream_driver.proofs.Words.{rules, ◌≡◌, ◌<◌, [], length, arith, common_steps, held_in}
-use Rattle.stream_driver.specs.Buffers.{room_in}
-use Rattle.stream_driver.proofs.Buffering.{takes_in, takes_on, takes_why}
 use Rattle.stream_driver.proofs.buffered.BufferedStream.take_some.Goals as goal
+use Rattle.std.proofs.Common.{rules, ◌≡◌, ◌<◌, [], length, arith}
+use Rattle.std.proofs.lemmas.Grind.{common_steps}
+use Rattle.stream_driver.proofs.Buffering.{takes_in, takes_on, takes_why}
+use Rattle.stream_driver.specs.Buffers.{held_in, room_in}
 
 pub returns-then-is_empty : goal.returns-then-is_empty
 returns-then-is_empty g c =
     let none : held_in c.make_room.new.self.held ≡ [] = search rules in
     record {
-      takes = takes_on c.in-All.ensures.kept c.in-All.ensures.failed none c.write.ensures.within c.write.ensures.given c.write.ensures.taken c.write.ensures.departed;
+      takes = takes_on c.in-All.ensures.kept c.in-All.ensures.failed none c.write.ensures.within c.write.ensures.given c.write.ensures.taken
+          c.write.ensures.departed;
       why = takes_why g.S.Stream.traffic c.args.self.now c.make_room.new.self c.write.result c.in-All.ensures.why.1 c.write.ensures.answered;
     }
 
@@ -17,6 +19,9 @@ returns g c =
     let room : 0 < room_in c.make_room.new.self.held = c.in-All.ensures.why.0 in
     let count = c.put.ensures.count in
     record {
-      takes = takes_in c.in-All.ensures.kept c.in-All.ensures.failed c.put.new.self (grind (arith, common_steps), grind (arith, common_steps)) c.put.ensures.bytes;
+      takes = takes_in c.in-All.ensures.kept c.in-All.ensures.failed c.put.new.self (
+        grind (arith, common_steps),
+        grind (arith, common_steps),
+      ) c.put.ensures.bytes;
       why = c.in-All.ensures.why.1;
     }

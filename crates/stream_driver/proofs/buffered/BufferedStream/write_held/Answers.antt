@@ -1,10 +1,11 @@
+use Rattle.stream_driver.proofs.buffered.BufferedStream.write_held.Goals as goal
 use Rattle.std.proofs.Common.{true, refl}
 use Rattle.stream_driver.proofs.Buffering.{kept_held, wrote_held}
-use Rattle.stream_driver.proofs.buffered.BufferedStream.write_held.Goals as goal
 
 pub returns-in-Moved : goal.returns-in-Moved
 returns-in-Moved g c =
-    wrote_held c.in-Moved.ensures.given c.in-Moved.ensures.departed c.leave.new.self c.in-Moved.ensures.answered.0 c.as_slice.ensures c.in-Moved.ensures.within c.leave.ensures.bytes c.in-Moved.ensures.taken
+    wrote_held c.in-Moved.ensures.given c.in-Moved.ensures.departed c.leave.new.self c.in-Moved.ensures.answered.0 c.as_slice.ensures c.in-Moved.ensures.within
+    c.leave.ensures.bytes c.in-Moved.ensures.taken
 
 pub returns-in-Blocked : goal.returns-in-Blocked
 returns-in-Blocked g c =

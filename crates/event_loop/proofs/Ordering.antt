@@ -1,0 +1,240 @@
+-- Whose turn it is.
+use Rattle.std.proofs.Common.{◌≡◌, ◌≢◌, ◌⊎◌, inl, inr, ℕ, zero, suc, ◌+◌, ◌<◌, ◌≤◌, Bool, true, false, cond, List, []}
+use Rattle.std.proofs.Common.{◌∷◌, Option, Some, None, refl, sym, ap, subst, ◌∙◌, arith, not, ◌==◌}
+use Rattle.std.proofs.lemmas.Bool.{cases_eq, and_parts, cases_Bool}
+use Rattle.std.proofs.lemmas.Bool.Decides.{nat_tests}
+use Rattle.std.proofs.lemmas.Grind.{common_steps}
+use Rattle.std.specs.Prelude.{nat_lt, ◌&&◌, ◌||◌}
+use Rattle.mio.specs.Events.{items}
+use Rattle.mio.specs.declared.event.event.Event.{Event}
+use Rattle.slab.specs.Slab.{Slab}
+use denote.Struct.Props.{props}
+use Rattle.model.proofs.Lookups.{some_same}
+use Rattle.sector.specs.declared.device.Sectors.{Ghosts}
+use Rattle.sessions.specs.StandsFor.{device}
+use Rattle.sessions.specs.declared.hub.Hub.{Hub}
+use Rattle.stream_driver.proofs.States.{seen_after}
+use Rattle.stream_driver.specs.Buffers.{has_had_share, is_settled, traffic_through}
+use Rattle.stream_driver.specs.Entries.{DrivenAll, KeepSessions, DrivenIn, DrivenSlot, is_gone, is_over, state_at_end}
+use Rattle.stream_driver.specs.Sessions.{Point}
+use Rattle.stream_driver.specs.Traffic.{Traffic, untouched}
+use Rattle.stream_driver.specs.declared.buffered.BufferedStream.{BufferedStream}
+use Rattle.stream_driver.specs.declared.entries.Entry.{Entry}
+use Rattle.stream_driver.specs.declared.entries.EntryState.{EntryState}
+use Rattle.stream_driver.specs.declared.entries.EntryState.TheVariants.{Idle, Gone, Ready}
+use Rattle.event_loop.proofs.Entries.{Remain, no_entry}
+use Rattle.event_loop.proofs.Polled.{told_was}
+use Rattle.event_loop.proofs.Slots.{Slots}
+use Rattle.event_loop.specs.Numbers.{HavePlaces}
+use Rattle.event_loop.specs.Order.{after_turn, behind, is_passed, is_ready_slot, waits_as, AreNext, IsNext}
+use Rattle.event_loop.specs.Order.{ComesNearer}
+use Rattle.event_loop.specs.Order.{in_turn, is_of, writes_in}
+use Rattle.event_loop.specs.declared.order.Kind.{Kind}
+use Rattle.event_loop.specs.declared.order.Kind.TheVariants.{Any, Reader, Writer}
+use Rattle.event_loop.specs.declared.order.Turns.{Turns}
+use Rattle.event_loop.specs.Tables.{AdmitsEach, EndsTurn, after_poll, slot_at, is_ready}
+use Rattle.event_loop.specs.Tables.AdmitsEach.{Nobody, OneMore}
+use Rattle.event_loop.specs.Turns.{Accepted, IsDrivenSoon, IsTurn, accepts_now}
+use Rattle.event_loop.specs.declared.server.EventLoop.{EventLoop}
+use Rattle.event_loop.specs.declared.socket.Socket.{Socket}
+
+-- of the keys so many places behind this one, and of those before them, none waits
+abbrev pub NoneWithin : (ℕ → Bool) → ℕ → ℕ → Type 0
+NoneWithin waits last places = (key : ℕ) → key < 128 → behind last key ≤ places → waits key ≡ false
+
+module _ {T D : Type 0} {g : Ghosts D} (hub : Hub D g) (turns : Turns) where
+  abbrev pub turned_slot : ℕ → Option (Entry (BufferedStream T)) → Option (Entry (BufferedStream T))
+  turned_slot key slot = after_turn (is_passed hub turns key slot) slot
+
+  -- those below this key have taken their turns
+  abbrev pub TurnedBelow : ℕ → (old new : Slots (BufferedStream T)) → Type 0
+  TurnedBelow count old new = (key : ℕ) → slot_at new key ≡ cond (nat_lt key count) (turned_slot key (slot_at old key)) (slot_at old key)
+
+-- the same keys wait
+next_as : (waits then : ℕ → Bool) → ((key : ℕ) → waits key ≡ then key) → (last next : ℕ) → IsNext waits last next → IsNext then last next
+next_as waits then same last next (inl first) = inl (record {
+  place = first.place;
+  waiting = sym (same next) ∙ first.waiting;
+  first = λ key in_key waiting. first.first key in_key (same key ∙ waiting);
+})
+next_as waits then same last next (inr none) = inr (none.0, λ key in_key. sym (same key) ∙ none.1 key in_key)
+
+-- as the poll told, and then as their turns are
+module _ {T D : Type 0} {g : Ghosts D} (hub : Hub D g) (last next : Turns) (old polled : Slots (BufferedStream T)) (events : List Event) (told : (key : ℕ)
+    → slot_at polled key ≡ after_poll events key (slot_at old key)) where
+  pub polled_taken : (ready : Slots (BufferedStream T)) → ((key : ℕ) → slot_at ready key ≡ turned_slot hub next key (slot_at polled key)) → (key : ℕ)
+      → slot_at ready key ≡ turned_slot hub next key (after_poll events key (slot_at old key))
+  polled_taken ready turned key = turned key ∙ ap (turned_slot hub next key) (told key)
+
+  pub polled_next : AreNext hub (slot_at polled) last next → AreNext hub (λ key. after_poll events key (slot_at old key)) last next
+  polled_next are = record {
+    next = next_as (λ key. waits_as hub Any (slot_at polled key)) _ (λ key. ap (waits_as hub Any) (told key)) last.next next.next are.next;
+    kind = are.kind ∙ ap (λ slot. cond (writes_in hub slot) Reader Writer) (told next.next);
+    beside = next_as (λ key. waits_as hub next.kind (slot_at polled key)) _ (λ key. ap (waits_as hub next.kind) (told key)) last.beside next.beside are.beside;
+  }
+
+-- ---- the places of the table
+
+module _ {T : Type 0} where
+  pub remain_places : (old new : Slots T) → Remain old new → HavePlaces old → HavePlaces new
+  remain_places old new remain places key entry e = let b = remain key entry e in places key b.0 b.1
+
+  pub places_after : (old new : Slots T) → KeepSessions old new → HavePlaces old → HavePlaces new
+  places_after old new keep places key entry e = let b = keep key entry e in places key b.0 b.1
+
+  module _ {D : Type 0} {g : Ghosts D} {IsNew : ℕ → ℕ → T → Type 0} {hub : Hub D g} {next : ℕ} {slots : Slots T} where
+    pub each_placed : {count : ℕ} {later : Hub D g} {then : ℕ} {new : Slots T} → AdmitsEach IsNew hub next slots count later then new → HavePlaces slots
+        → HavePlaces new
+    each_placed Nobody places key entry e = places key entry e
+    each_placed (OneMore count mid later number then between new each (inl away)) places key entry e =
+        each_placed each places key entry (ap (λ l. slot_at l key) (sym away.slots_are) ∙ e)
+    each_placed (OneMore count mid later number then between new each (inr l)) places key entry e = elim (cases_eq key l.key) [
+      | inl same ↦ subst (λ k. k < 128) (sym same) l.key_is
+      | inr differs ↦ each_placed each places key entry (sym (l.others key differs) ∙ e)
+    ]
+
+    -- who is there stays as connections come
+    pub each_stays : {count : ℕ} {later : Hub D g} {then : ℕ} {new : Slots T} → AdmitsEach IsNew hub next slots count later then new
+        → (key : ℕ) (entry : Entry T) → slot_at slots key ≡ Some entry → slot_at new key ≡ Some entry
+    each_stays Nobody key entry e = e
+    each_stays (OneMore count mid later number then between new each (inl away)) key entry e =
+        ap (λ l. slot_at l key) away.slots_are ∙ each_stays each key entry e
+    each_stays (OneMore count mid later number then between new each (inr l)) key entry e =
+        let there = each_stays each key entry e in
+        l.others key (λ same. absurd (let bad : None ≡ Some entry = sym l.vacant ∙ ap (slot_at between) (sym same) ∙ there in cc)) ∙ there
+
+-- ---- each has its turn
+
+behind_few : (last key : ℕ) → key < 128 → behind last key ≤ 128
+behind_few last key place = elim (cases_Bool (nat_lt last key)) [
+  | inl above ↦ grind (arith, common_steps, nat_tests)
+  | inr below ↦ grind (arith, common_steps, nat_tests)
+]
+
+apart : (a b : ℕ) → (a == b) ≡ false → a ≡ b → ⊥
+apart a b differs same = grind (arith, common_steps, nat_tests)
+
+not_first : (a b : Bool) → not (a || b) ≡ true → a ≡ false
+not_first true b is = absurd (cc)
+not_first false b is = refl
+
+ready_at : (state : EntryState) → is_ready state ≡ true → state ≡ Ready
+ready_at Ready is = refl
+ready_at Idle is = absurd (cc)
+ready_at Gone is = absurd (cc)
+
+-- what the poll told of was there before
+was_told : {T : Type 0} (events : List Event) (key : ℕ) (slot : Option (Entry (BufferedStream T))) (entry : Entry (BufferedStream T))
+    → after_poll events key slot ≡ Some entry
+    → (before : Entry (BufferedStream T)) × (slot ≡ Some before)
+was_told {T} events key slot entry is = let m = told_was (λ (x : T). untouched) events key slot entry is in (m.0, m.1)
+
+-- who is idle stays as it was
+module _ {T : Type 0} (tells : Type 0) (traffic : T → Traffic) where
+  idle_entry : (state : EntryState) (earlier : Point) (old : Entry T) (later : Point) (new : Entry T) → DrivenIn tells traffic state earlier old later new
+      → state ≡ Idle → new ≡ old
+  idle_entry Idle earlier old later new d idle = d.0
+  idle_entry Ready earlier old later new d idle = absurd (cc)
+  idle_entry Gone earlier old later new d idle = d.0
+
+  idle_slot : (earlier : Point) (slot : Option (Entry T)) (later : Point) (after : Option (Entry T)) → DrivenSlot tells traffic earlier slot later after
+      → (was : Entry T) → slot ≡ Some was → was.state ≡ Idle → after ≡ Some was
+  idle_slot earlier None later after d was e idle = absurd (let bad : None ≡ Some was = e in cc)
+  idle_slot earlier (Some old) later after (new, is, d) was e idle =
+      let same : old ≡ was = some_same e in
+      is ∙ ap (λ (x : Entry T). Some x) (idle_entry old.state earlier old later new d (ap (λ (x : Entry T). x.state) same ∙ idle) ∙ same)
+
+  idle_stays : (earlier : Point) (slots : Slots T) (later : Point) (new : Slots T) → DrivenAll tells traffic earlier slots later new → (key : ℕ) (was : Entry T)
+      → slot_at slots key ≡ Some was → was.state ≡ Idle
+      → slot_at new key ≡ Some was
+  idle_stays earlier [] later new d key was e idle = absurd (no_entry [] refl key was e)
+  idle_stays earlier (slot ∷ slots) later new (first, mid, others, is, d, rest) zero was e idle =
+      ap (λ l. slot_at l zero) is ∙ idle_slot earlier slot mid first d was e idle
+  idle_stays earlier (slot ∷ slots) later new (first, mid, others, is, d, rest) (suc key) was e idle =
+      ap (λ l. slot_at l (suc key)) is ∙ idle_stays mid slots later others rest key was e idle
+
+module _ {T : Type 0} (tells : Type 0) (traffic : T → Traffic) (moment : ℕ) where
+  -- who has no share of the turn is ready at its end
+  ended_ready : (was : Entry (BufferedStream T)) (new : Option (Entry (BufferedStream T))) → EndsTurn tells traffic moment (Some was) new → was.state ≡ Idle
+      → was.stream.share ≡ 0
+      → (entry : Entry (BufferedStream T)) × (new ≡ Some entry) × (entry.state ≡ Ready)
+  ended_ready was new (mid, ends, is) idle none =
+      let ready : mid.state ≡ Ready = ends.state ∙ ap (λ s. state_at_end s (has_had_share was.stream)) idle ∙ ap (λ n. state_at_end Idle (n == 0)) none in
+      let lasts : is_over mid ≡ false = ap (λ s. is_gone s && is_settled mid.stream) ready in
+      (mid, is ∙ ap (λ b. cond b None (Some mid)) lasts, ready)
+
+  -- as it is passed over
+  passed : (entry : Entry (BufferedStream T)) → entry.state ≡ Ready
+      → (after : Entry (BufferedStream T)) × (after_turn true (Some entry) ≡ Some after) × (after.state ≡ Idle) × (after.stream.share ≡ 0)
+  passed entry ready =
+      let after : Entry (BufferedStream T) = record entry { state = Idle; stream = record entry.stream { share = 0 } } in
+      (after, ap (λ s. Some (in_turn s true entry)) ready, refl, refl)
+
+  driven : (entry : Entry (BufferedStream T)) → entry.state ≡ Ready → is_ready_slot (after_turn false (Some entry)) ≡ true
+  driven entry ready = ap (λ s. is_ready (in_turn s false entry).state) ready ∙ ap is_ready ready
+
+module _ {D : Type 0} {g : Ghosts D} (tells : Type 0) (traffic : Socket
+    → Traffic) (old new : EventLoop D g) (turn : IsTurn tells traffic old new) (key : ℕ) where
+  abbrev polled : Option (Entry (BufferedStream Socket))
+  polled = after_poll (items new.poller.events) key (slot_at old.table.slots key)
+
+  -- the table after the accepts, and then the turn's
+  accepted_stays : (due : Bool) → Accepted due turn.driven turn.accepted → (entry : Entry (BufferedStream Socket))
+      → slot_at turn.driven.table.slots key ≡ Some entry → slot_at new.table.slots key ≡ Some entry
+  accepted_stays true accepts entry e =
+      ap (λ (t : Slab (Entry (BufferedStream Socket))). slot_at t.slots key) turn.gives_back.table ∙ each_stays accepts.became.0 key entry e
+  accepted_stays false untouched entry e = ap (λ (t : Slab (Entry (BufferedStream Socket))). slot_at t.slots key) (turn.gives_back.table ∙ untouched.table) ∙ e
+
+  -- one that was passed over is ready at the end
+  still_ready : (was : Entry (BufferedStream Socket)) → slot_at turn.drives.ready key ≡ Some was → was.state ≡ Idle → was.stream.share ≡ 0
+      → is_ready_slot (slot_at new.table.slots key) ≡ true
+  still_ready was e idle none =
+      seen_after (hlevel props) old.stands turn.drives.drives.leads (λ h k was_stood stands d.
+      let there : slot_at turn.drives.driven key ≡ Some was =
+      idle_stays tells (traffic_through traffic) h turn.drives.ready k turn.drives.driven d key was e idle in
+      let ended = ended_ready tells traffic (g.moment (device turn.driven.hub)) was (slot_at turn.driven.table.slots key)
+      (subst (λ slot. EndsTurn tells traffic (g.moment (device turn.driven.hub)) slot (slot_at turn.driven.table.slots key)) there (turn.drives.ended key)) idle
+      none in
+      ap is_ready_slot (accepted_stays (accepts_now old.backlog (items new.poller.events)) turn.accepts ended.0 ended.1) ∙ ap is_ready ended.2)
+
+  abbrev Soon : Type 0
+  Soon = (is_ready_slot (slot_at turn.drives.ready key) ≡ true)
+      ⊎ ((behind new.turns.next key < behind old.turns.next key) × (is_ready_slot (slot_at new.table.slots key) ≡ true))
+
+  module _ (nearer : (waits : ℕ → Bool) (last next key : ℕ)
+      → ComesNearer waits last next key) (entry : Entry (BufferedStream Socket)) (is : polled ≡ Some entry) (ready : entry.state ≡ Ready) (place : key
+      < 128) where
+    told : slot_at turn.drives.ready key ≡ after_turn (is_passed old.hub turn.driven.turns key (Some entry)) (Some entry)
+    told = turn.drives.told key ∙ ap (λ slot. after_turn (is_passed old.hub turn.driven.turns key slot) slot) is
+
+    by_passed : (b : Bool) → is_passed old.hub turn.driven.turns key (Some entry) ≡ b → Soon
+    by_passed false not_passed = inl (ap is_ready_slot (told ∙ ap (λ b. after_turn b (Some entry)) not_passed) ∙ driven tells traffic 0 entry ready)
+    by_passed true is_so =
+        let another = key == turn.driven.turns.next || (key == turn.driven.turns.beside && is_of old.hub turn.driven.turns.kind entry) in
+        let parts = and_parts (not another) (is_of old.hub Any entry) is_so in
+        let waits : waits_as old.hub Any polled ≡ true = ap (waits_as old.hub Any) is ∙ ap (λ s. is_ready s && is_of old.hub Any entry) ready ∙ parts.1 in
+        let differs : (key == turn.driven.turns.next) ≡ false = not_first (key == turn.driven.turns.next) _ parts.0 in
+        let after = passed tells traffic 0 entry ready in
+        let ends = still_ready after.0 (told ∙ ap (λ b. after_turn b (Some entry)) is_so ∙ after.1) after.2 after.3 in
+        elim (nearer (λ other. waits_as old.hub Any (after_poll (items new.poller.events) other (slot_at old.table.slots other))) old.turns.next
+        turn.driven.turns.next key turn.drives.turn_of.next old.next_place place waits) [
+          | inl same ↦ absurd (apart key turn.driven.turns.next differs same)
+          | inr near ↦ inr (subst (λ (n : Turns). behind n.next key < behind old.turns.next key) (sym turn.turns_are) near, ends)
+        ]
+
+    pub soon : IsDrivenSoon tells traffic old new turn key
+    soon = record { soon = by_passed (is_passed old.hub turn.driven.turns key (Some entry)) refl; bound = behind_few old.turns.next key place }
+
+  -- who is ready once the poll told stands at a place of the table
+  polled_place : (entry : Entry (BufferedStream Socket)) → polled ≡ Some entry → key < 128
+  polled_place entry is =
+      let before = was_told (items new.poller.events) key (slot_at old.table.slots key) entry is in
+      old.places key before.0 before.1
+
+  pub each_soon : ((waits : ℕ → Bool) (last next key : ℕ) → ComesNearer waits last next key) → is_ready_slot polled ≡ true
+      → IsDrivenSoon tells traffic old new turn key
+  each_soon nearer ready = by polled refl
+    where
+      by : (slot : Option (Entry (BufferedStream Socket))) → polled ≡ slot → IsDrivenSoon tells traffic old new turn key
+      by None is = absurd (let bad : true ≡ false = sym ready ∙ ap is_ready_slot is in cc)
+      by (Some entry) is = soon nearer entry is (ready_at entry.state (sym (ap is_ready_slot is) ∙ ready)) (polled_place entry is)

@@ -1,0 +1,87 @@
+-- Which of the entries that are ready a turn drives: who has written nothing and was short, and of the others one that
+-- writes, and one that reads.
+use Rattle.std.specs.Prelude.{◌≡◌, ◌⊎◌, ℕ, ◌+◌, ◌-◌, ◌<◌, ◌≤◌, ◌==◌, ◌&&◌, ◌||◌, nat_lt, not, Bool, true, false, cond}
+use Rattle.std.specs.Prelude.{Option, Some, None}
+use Rattle.sector.specs.declared.device.Sectors.{Ghosts}
+use Rattle.sessions.specs.StandsFor.{has_written}
+use Rattle.sessions.specs.declared.hub.Hub.{Hub}
+use Rattle.stream_driver.specs.declared.buffered.BufferedStream.{BufferedStream}
+use Rattle.stream_driver.specs.declared.entries.Entry.{Entry}
+use Rattle.stream_driver.specs.declared.entries.EntryState.{EntryState}
+use Rattle.stream_driver.specs.declared.entries.EntryState.TheVariants.{Idle, Ready, Gone}
+use Rattle.event_loop.specs.Tables.{is_ready}
+use Rattle.event_loop.specs.declared.order.Kind.{Kind}
+use Rattle.event_loop.specs.declared.order.Kind.TheVariants.{Any, Reader, Writer}
+use Rattle.event_loop.specs.declared.order.Turns.{Turns}
+
+-- how many places a key stands behind another, round the 128 places of the table: from 1, and 128 behind itself
+abbrev pub behind : ℕ → ℕ → ℕ
+behind last key = cond (nat_lt last key) (key - last) (128 + key - last)
+
+-- of the keys that wait, the first behind this one
+pub record IsFirst (waits : ℕ → Bool) (last next : ℕ) : Type 0 where
+  pub place : next < 128
+  pub waiting : waits next ≡ true
+  pub first : (key : ℕ) → key < 128 → waits key ≡ true → behind last next ≤ behind last key
+
+-- and where none waits, this one still
+abbrev pub IsNext : (ℕ → Bool) → ℕ → ℕ → Type 0
+IsNext waits last next = IsFirst waits last next ⊎ ((next ≡ last) × ((key : ℕ) → key < 128 → waits key ≡ false))
+
+-- a key that waits is the next, or that one is nearer to it
+abbrev pub ComesNearer : (ℕ → Bool) → ℕ → ℕ → ℕ → Type 0
+ComesNearer waits last next key = IsNext waits last next → last < 128 → key < 128 → waits key ≡ true
+    → (key ≡ next) ⊎ (behind next key < behind last key)
+
+module _ {T D : Type 0} {g : Ghosts D} (hub : Hub D g) where
+  -- has the session's open transaction written, or did its last drive append a record?
+  abbrev pub is_writer : Entry (BufferedStream T) → Bool
+  is_writer entry = has_written hub entry.session || entry.stream.appended
+
+  -- of those that take turns: all, those that write, and the others, whose last drive was heavy
+  abbrev pub is_of : Kind → Entry (BufferedStream T) → Bool
+  is_of Any entry = is_writer entry || entry.stream.is_heavy
+  is_of Writer entry = is_writer entry
+  is_of Reader entry = not (is_writer entry) && entry.stream.is_heavy
+
+  -- is it of this kind, and is it to be driven?
+  abbrev pub waits_as : Kind → Option (Entry (BufferedStream T)) → Bool
+  waits_as kind None = false
+  waits_as kind (Some entry) = is_ready entry.state && is_of kind entry
+
+  abbrev pub writes_in : Option (Entry (BufferedStream T)) → Bool
+  writes_in None = false
+  writes_in (Some entry) = is_writer entry
+
+  -- does it take turns, and is it another's?
+  abbrev pub is_passed_over : Turns → ℕ → Entry (BufferedStream T) → Bool
+  is_passed_over turns key entry =
+      not (key == turns.next || (key == turns.beside && is_of turns.kind entry)) && is_of Any entry
+
+  abbrev pub is_passed : Turns → ℕ → Option (Entry (BufferedStream T)) → Bool
+  is_passed turns key None = false
+  is_passed turns key (Some entry) = is_passed_over turns key entry
+
+  -- The turns of the entries at these keys: the next has one, and beside it the next of the other kind. So one at most
+  -- that writes has one.
+  pub record AreNext (slots : ℕ → Option (Entry (BufferedStream T))) (last turns : Turns) : Type 0 where
+    pub next : IsNext (λ key. waits_as Any (slots key)) last.next turns.next
+    pub kind : turns.kind ≡ cond (writes_in (slots turns.next)) Reader Writer
+    pub beside : IsNext (λ key. waits_as turns.kind (slots key)) last.beside turns.beside
+
+-- is it to be driven?
+abbrev pub is_ready_slot : {T : Type 0} → Option (Entry T) → Bool
+is_ready_slot None = false
+is_ready_slot (Some entry) = is_ready entry.state
+
+module _ {T : Type 0} where
+  -- an entry that is ready has a turn of its own; or it is passed over, and waits with no share of the turn
+  abbrev pub in_turn : EntryState → Bool → Entry (BufferedStream T) → Entry (BufferedStream T)
+  in_turn Ready false entry = record entry { stream = record entry.stream { appended = false; is_heavy = false } }
+  in_turn Ready true entry = record entry { state = Idle; stream = record entry.stream { share = 0 } }
+  in_turn Idle passed entry = entry
+  in_turn Gone passed entry = entry
+
+  abbrev pub after_turn : Bool → Option (Entry (BufferedStream T)) → Option (Entry (BufferedStream T))
+  after_turn passed None = None
+  after_turn passed (Some entry) = Some (in_turn entry.state passed entry)

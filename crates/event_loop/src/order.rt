@@ -1,0 +1,216 @@
+//! The order in which sessions that are ready have their turns.
+//!
+//! A COMMIT that has written waits for its syncs, and a long reply takes its time; so does everybody meanwhile. So a turn drives all that
+//! have written nothing and whose last drive was short; of the others, the next by key, round the table, and beside it one more: one that
+//! reads where the next writes, and one that writes where the next reads. So between two polls there is one that writes at most, and one
+//! that reads much; and each that waits so has its turn before it was passed over as often as the table has places.
+ghost use Rattle.std.specs.Prelude.{◌≡◌, ◌<◌, ◌≤◌, ℕ, Bool};
+ghost use Rattle.event_loop.specs.Order.{AreNext, ComesNearer, IsNext, after_turn, behind, in_turn, is_of, is_passed};
+ghost use Rattle.event_loop.specs.Order.{is_passed_over, is_writer, waits_as, writes_in};
+ghost use Rattle.event_loop.specs.Tables.{slot_at};
+
+use crate::socket::Socket;
+use sector::Sectors;
+use sessions::{Hub, SESSIONS_MAX};
+use slab::Slab;
+use stream_driver::{BufferedStream, Entry, EntryState};
+
+/// The sessions that take turns.
+#[derive(Clone, Copy, PartialEq, Eq, Debug)]
+pub enum Kind {
+    /// All of them.
+    Any,
+    /// Those that write: whose open transaction has written, or whose last drive appended a record.
+    Writer,
+    /// The others: whose last drive was heavy.
+    Reader,
+}
+
+/// Who of those that take turns has this one.
+#[derive(Clone, Copy, PartialEq, Eq, Debug)]
+pub struct Turns {
+    /// The key of the first that waits behind the one of the last turn, round the table.
+    pub next: usize,
+    /// Of which kind one more has this turn: the other than that of the next.
+    pub kind: Kind,
+    /// The key of the first of that kind behind the one that had a turn so last.
+    pub beside: usize,
+}
+
+impl Turns {
+    /// Before the first turn. Takes no memory.
+    pub(crate) fn new() -> Turns
+        ensures { (result.next < 128) × (result.beside < 128) }
+    {
+        Turns {
+            next: 0,
+            kind: Kind::Writer,
+            beside: 0,
+        }
+    }
+}
+
+// Has the session's open transaction written, or did its last drive append a record?
+fn is_writer<D: Sectors>(hub: &Hub<D>, entry: &Entry<BufferedStream<Socket>>) -> bool
+    ensures { result ≡ is_writer hub.now entry.now }
+{
+    hub.has_written(entry.session) || entry.stream.has_appended()
+}
+
+// Is it of this kind?
+fn is_of<D: Sectors>(hub: &Hub<D>, kind: Kind, entry: &Entry<BufferedStream<Socket>>) -> bool
+    ensures { result ≡ is_of hub.now kind entry.now }
+{
+    let is_writer = is_writer(hub, entry);
+    match kind {
+        Kind::Any => is_writer || entry.stream.is_heavy(),
+        Kind::Writer => is_writer,
+        Kind::Reader => !is_writer && entry.stream.is_heavy(),
+    }
+}
+
+// Is the entry at a key to be driven, and is it of this kind?
+fn waits_as<D: Sectors>(
+    hub: &Hub<D>,
+    table: &Slab<Entry<BufferedStream<Socket>>>,
+    kind: Kind,
+    key: usize,
+) -> bool
+    ensures { result ≡ waits_as hub.now kind (slot_at table.now.slots key) }
+{
+    match table.get(key) {
+        Some(entry) => entry.state == EntryState::Ready && is_of(hub, kind, entry),
+        None => false,
+    }
+}
+
+// Does the entry at a key write?
+fn writes_at<D: Sectors>(
+    hub: &Hub<D>,
+    table: &Slab<Entry<BufferedStream<Socket>>>,
+    key: usize,
+) -> bool
+    ensures { result ≡ writes_in hub.now (slot_at table.now.slots key) }
+{
+    match table.get(key) {
+        Some(entry) => is_writer(hub, entry),
+        None => false,
+    }
+}
+
+// The key so many places behind another, round the table.
+fn key_behind(last: usize, places: usize) -> usize
+    requires last { last < 128 }
+    requires some { 1 ≤ places }
+    requires few { places ≤ 128 }
+    ensures place { result < 128 }
+    ensures places { behind last result ≡ places }
+{
+    let key = last + places;
+    if key < SESSIONS_MAX {
+        key
+    } else {
+        key - SESSIONS_MAX
+    }
+}
+
+// Of those of a kind that wait, the key of the first behind this one, round the table; where none waits, this one still.
+fn first_behind<D: Sectors>(
+    hub: &Hub<D>,
+    table: &Slab<Entry<BufferedStream<Socket>>>,
+    kind: Kind,
+    last: usize,
+) -> usize
+    requires { last < 128 }
+    ensures next { IsNext (λ key. waits_as hub.now kind (slot_at table.now.slots key)) last result }
+    ensures place { result < 128 }
+{
+    for places in 0..SESSIONS_MAX {
+        let key = key_behind(last, places + 1);
+        if waits_as(hub, table, kind, key) {
+            return key;
+        }
+    }
+    last
+}
+
+/// Who has this turn, after those that had the last. Takes no memory.
+pub(crate) fn next_turns<D: Sectors>(
+    hub: &Hub<D>,
+    table: &Slab<Entry<BufferedStream<Socket>>>,
+    last: Turns,
+) -> Turns
+    requires next { last.next < 128 }
+    requires beside { last.beside < 128 }
+    ensures next { AreNext hub.now (slot_at table.now.slots) last result }
+    ensures places { (result.next < 128) × (result.beside < 128) }
+{
+    let next = first_behind(hub, table, Kind::Any, last.next);
+    let kind = if writes_at(hub, table, next) {
+        Kind::Reader
+    } else {
+        Kind::Writer
+    };
+    Turns {
+        next,
+        kind,
+        beside: first_behind(hub, table, kind, last.beside),
+    }
+}
+
+// Is it another's turn?
+fn is_passed_over<D: Sectors>(
+    hub: &Hub<D>,
+    turns: Turns,
+    key: usize,
+    entry: &Entry<BufferedStream<Socket>>,
+) -> bool
+    ensures { result ≡ is_passed_over hub.now turns key entry.now }
+{
+    if key == turns.next || (key == turns.beside && is_of(hub, turns.kind, entry)) {
+        return false;
+    }
+    is_of(hub, Kind::Any, entry)
+}
+
+// An entry that is ready has a turn of its own, unless it is another's.
+fn take_turn<D: Sectors>(
+    hub: &Hub<D>,
+    turns: Turns,
+    key: usize,
+    entry: &mut Entry<BufferedStream<Socket>>,
+)
+    ensures { entry.new ≡ in_turn entry.old.state (is_passed_over hub.now turns key entry.old) entry.old }
+{
+    if entry.state != EntryState::Ready {
+        return;
+    }
+    if is_passed_over(hub, turns, key, entry) {
+        entry.state = EntryState::Idle;
+        entry.stream.pass_over();
+    } else {
+        entry.stream.begin_turn();
+    }
+}
+
+/// Passes over the entries that take turns but for those whose turn it is: they aren't ready in this turn, and are again at its end. Takes
+/// no memory.
+pub(crate) fn take_turns<D: Sectors>(
+    hub: &Hub<D>,
+    turns: Turns,
+    table: &mut Slab<Entry<BufferedStream<Socket>>>,
+)
+    ensures { (key : ℕ) → slot_at table.new.slots key
+        ≡ after_turn (is_passed hub.now turns key (slot_at table.old.slots key)) (slot_at table.old.slots key) }
+{
+    for key in 0..table.capacity() {
+        if let Some(entry) = table.get_mut(key) {
+            take_turn(hub, turns, key, entry);
+        }
+    }
+}
+
+/// Does nothing, and takes no memory. Its contract says that a key that waits is the next, or comes nearer.
+pub(crate) fn each_comes_nearer()
+    ensures { (waits : ℕ → Bool) (last next key : ℕ) → ComesNearer waits last next key }
+{}

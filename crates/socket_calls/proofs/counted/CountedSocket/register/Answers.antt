@@ -1,0 +1,6 @@
+use Rattle.socket_calls.proofs.counted.CountedSocket.register.Goals as goal
+use Rattle.std.proofs.Common.{rules}
+use Rattle.socket_calls.specs.HappenedCalls.{real_register}
+
+pub returns-clause-registered : goal.returns-clause-registered
+returns-clause-registered c = search (rules, real_register)
