@@ -11,7 +11,6 @@ use std::fs::{self, File};
 use std::net::Net;
 use std::process::Abort;
 use std::rt::Files;
-use std::sync::Wait;
 use std::time::Clock;
 use system::run;
 
@@ -40,7 +39,7 @@ fn one_write<R: Abort + AllocGlobal>(rt: &R) -> Vec<Write>
 }
 
 /// Is a log of four sectors copied, with its counts, and refused as full before the new file is made where this may have three alone?
-fn copies<R: Files<File = File> + Net + Wait + Clock>(rt: &R, alloc: Global, from: &str) -> bool {
+fn copies<R: Files<File = File> + Net + Clock>(rt: &R, alloc: Global, from: &str) -> bool {
     let to = "copied.data";
     let _ = fs::remove_file(rt, to);
     let mut out = Vec::new(alloc);

@@ -13,7 +13,6 @@ use std::fs::{self, File};
 use std::io::{self, ErrorKind, Read, Write};
 use std::net::{Net, SocketAddr, TcpListener};
 use std::rt::Files;
-use std::sync::Wait;
 use std::test::Fail;
 use std::time::Clock;
 use system::run;
@@ -46,7 +45,7 @@ struct Case {
     err: Due,
 }
 
-fn is_met<R: Files<File = File> + Net + Wait + Clock>(rt: &R, alloc: Global, case: Case) -> bool {
+fn is_met<R: Files<File = File> + Net + Clock>(rt: &R, alloc: Global, case: Case) -> bool {
     let mut out = Vec::new(alloc);
     let mut err = Vec::new(alloc);
     let status = run(rt, alloc, case.words, case.input, &mut out, &mut err);
@@ -606,7 +605,7 @@ fn devices_in_memory(rt: HostRuntime) -> Result<(), Fail> {
         let mut device = MemSectors::new(rt.alloc(), sectors)?;
         assert!(rt; format_device(&mut device) == made);
         let mut out = Vec::new(rt.alloc());
-        let counted = check_device(rt.alloc(), device, &mut out);
+        let (counted, _) = check_device(rt.alloc(), device, &mut out);
         if made.is_ok() {
             let line = format!(in rt.alloc(); "records 0 keys 0 sectors 2 of {sectors}\n")?;
             assert!(rt; counted == Ok(()) && out.as_slice() == line.as_bytes());
@@ -616,7 +615,8 @@ fn devices_in_memory(rt: HostRuntime) -> Result<(), Fail> {
     }
     let mut device = MemSectors::new(rt.alloc(), 2)?;
     assert!(rt; format_device(&mut device) == Ok(()));
-    assert!(rt; check_device(rt.alloc(), device, &mut Broken) == Err(Fault::File));
+    let (counted, _) = check_device(rt.alloc(), device, &mut Broken);
+    assert!(rt; counted == Err(Fault::File));
     Ok(())
 }
 
@@ -674,7 +674,7 @@ fn a_stop_is_told_once(rt: HostRuntime) -> Result<(), Fail> {
         ] {
             let mut server = stopping_server(stops_at, fails_at, kind);
             let mut err = Vec::new(rt.alloc());
-            let ended = serve_turns(&rt, &mut server, &mut err);
+            let ended = serve_turns(&mut server, &mut err);
             assert!(rt; ended == Err(fault) && err.as_slice() == text && server.turns == fails_at);
         }
     }
@@ -685,11 +685,9 @@ fn a_stop_is_told_once(rt: HostRuntime) -> Result<(), Fail> {
 fn a_stop_that_cannot_be_told_ends_nothing(rt: HostRuntime) -> Result<(), Fail> {
     let mut server = stopping_server(2, 5, ErrorKind::Other);
     let mut err = Counting { writes: 0 };
-    assert!(rt; serve_turns(&rt, &mut server, &mut err) == Err(Fault::Poll) && err.writes == 1);
+    assert!(rt; serve_turns(&mut server, &mut err) == Err(Fault::Poll) && err.writes == 1);
     let mut server = stopping_server(2, 5, ErrorKind::Other);
-    assert!(rt;
-        serve_turns(&rt, &mut server, &mut Broken) == Err(Fault::Poll) && server.turns == 5
-    );
+    assert!(rt; serve_turns(&mut server, &mut Broken) == Err(Fault::Poll) && server.turns == 5);
     Ok(())
 }
 

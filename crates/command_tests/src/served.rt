@@ -1,13 +1,12 @@
 //! A data file that is made, served over a socket, counted, and not made again.
 use commands::{DONE, FAULT};
 use event_loop::EventLoop;
-use sector::FileSectors;
+use sector::{FileSectors, Sectors};
 use std::fs::{self, File};
 use std::io::{Read, Write};
 use std::net::{Ipv4Addr, Net, OpenStream, SocketAddr, TcpStream};
 use std::process::Abort;
 use std::rt::Files;
-use std::sync::Wait;
 use std::time::{Clock, Duration};
 use system::run;
 use test_hubs::open_hub;
@@ -24,7 +23,7 @@ const CREATE: &[&str] = &[
 const CHECK: &[&str] = &["ssikvd", "check", "--data", "served.data"];
 
 /// Does the command end with this status, and print these lines?
-fn ends<R: Files<File = File> + Net + Wait + Clock + AllocGlobal>(
+fn ends<R: Files<File = File> + Net + Clock + AllocGlobal>(
     rt: &R,
     words: &[&str],
     status: u8,
@@ -44,12 +43,8 @@ fn ends<R: Files<File = File> + Net + Wait + Clock + AllocGlobal>(
     ended == status && printed.as_slice() == out && told.as_slice() == err
 }
 
-/// A transaction of a client, which puts a to 1, through the loop over the file of this name.
-fn commit_into<R: Files<File = File> + Net + Clock + Abort + AllocGlobal>(rt: &R, name: &str) {
-    let device = FileSectors::open(rt, name).expect(rt, "a file");
-    let hub = open_hub(rt.alloc(), device).expect(rt, "a hub");
-    let anywhere = SocketAddr::from((Ipv4Addr::LOCALHOST, 0));
-    let mut events = EventLoop::bind(rt, rt.alloc(), anywhere, hub).expect(rt, "a loop");
+/// A transaction of a client, which puts a to 1, through a loop.
+fn commit_over<D: Sectors, R: Net + Clock + Abort>(rt: &R, events: &mut EventLoop<D>) {
     let address = events.address().expect(rt, "an address");
     let mut client = TcpStream::connect(rt, address).expect(rt, "connected");
     client.set_nonblocking(true).expect(rt, "not waiting");
@@ -68,6 +63,15 @@ fn commit_into<R: Files<File = File> + Net + Clock + Abort + AllocGlobal>(rt: &R
         }
     }
     assert!(rt; got.starts_with(b"+OK\r\n+OK\r\n:1\r\n"));
+}
+
+/// The same, through the loop over the file of this name.
+fn commit_into<R: Files<File = File> + Net + Clock + Abort + AllocGlobal>(rt: &R, name: &str) {
+    let device = FileSectors::open(rt, name).expect(rt, "a file");
+    let hub = open_hub(rt.alloc(), device).expect(rt, "a hub");
+    let anywhere = SocketAddr::from((Ipv4Addr::LOCALHOST, 0));
+    let mut events = EventLoop::bind(rt, rt.alloc(), anywhere, hub).expect(rt, "a loop");
+    commit_over(rt, &mut events);
 }
 
 /// One commit through the loop into a file of four sectors.

@@ -2,12 +2,12 @@
 //! type that `serve` runs. No function here has a proof of its own.
 #![tactic(auto)]
 
-ghost use Rattle.std.specs.Prelude.{◌≡◌, ◌≢◌, ◌↔◌, ◌+◌, true, false, [], ◌∷◌, ◌++◌, IfErr, IfOk, OnOk, IsErrOf};
-ghost use Rattle.sector.specs.Failures.{Rose};
+ghost use Rattle.std.specs.Prelude.{◌≡◌, true, false, IfErr, IfOk, IsErrOf};
 ghost use Rattle.sector.specs.FileModel.{FileKeepsModel};
 ghost use Rattle.commit_log.specs.Format.{current};
 ghost use Rattle.commit_log.specs.RecordFormat.{IsWriteSet};
-ghost use Rattle.commit_log.specs.LogState.{AppendLeaves, AppendLeft, LacksRoom, OfItsLists, StandsFor as LogStandsFor, failure_count, is_stopped, record_count};
+ghost use Rattle.commit_log.specs.Appending.{Fails, IsAdded, KeepsLists};
+ghost use Rattle.commit_log.specs.LogState.{LacksRoom, is_stopped};
 ghost use Rattle.sessions.specs.Crashes.{AppliesWhole, KeepsCommitted};
 ghost use Rattle.sessions.specs.StandsFor.{HubLeads, event_of};
 ghost use Rattle.sessions.specs.Lives.{LivesLoseNothing, LivesFromNothing};
@@ -23,15 +23,11 @@ use std::alloc::Global;
 /// leaves the log with the record or without it.
 pub fn append(log: &mut Log<FileSectors>, alloc: Global, writes: &[Write]) -> Result<u64, LogFault>
     requires { IsWriteSet current writes.now }
-    ensures index { IfOk result (λ index. index ≡ record_count log.old) }
-    ensures counted { OnOk result (record_count log.new ≡ record_count log.old + 1) }
-    ensures stopped { IsErrOf result LogFault.Stopped ↔ (is_stopped log.old ≡ true) }
-    ensures full { IsErrOf result LogFault.Full ↔ ((is_stopped log.old ≡ false) × LacksRoom log.old writes.now) }
-    ensures device { IsErrOf result LogFault.Device → Rose (failure_count log.old) (failure_count log.new) }
-    ensures unchanged { IfErr result (λ e. e ≢ LogFault.Device → log.new ≡ log.old) }
-    ensures crash { FileKeepsModel → AppendLeaves log.old log.new writes.now }
-    ensures left { FileKeepsModel → AppendLeft log.old log.new writes.now }
-    ensures appended { FileKeepsModel → OfItsLists log.old (λ lists. OnOk result (LogStandsFor log.new (lists ++ writes.now ∷ []))) }
+    ensures added { IfOk result (IsAdded log.old log.new writes.now) }
+    ensures fails { IfErr result (Fails log.old log.new writes.now) }
+    ensures stopped { is_stopped log.old ≡ true → IsErrOf result LogFault.Stopped }
+    ensures full { is_stopped log.old ≡ false → LacksRoom log.old writes.now → IsErrOf result LogFault.Full }
+    ensures keeps { FileKeepsModel → KeepsLists log.old log.new writes.now result }
 {
     log.append(alloc, writes)
 }

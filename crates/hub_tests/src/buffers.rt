@@ -171,3 +171,21 @@ fn more_than_a_share(rt: HostRuntime) {
         }
     }
 }
+
+/// Transactions of one written key, one behind another, and what they are answered.
+const TRANSACTIONS: &[u8] =
+    b"*1\r\n$5\r\nBEGIN\r\n*3\r\n$3\r\nSET\r\n$1\r\na\r\n$1\r\n1\r\n*1\r\n$6\r\nCOMMIT\r\n\
+*1\r\n$5\r\nBEGIN\r\n*3\r\n$3\r\nSET\r\n$1\r\na\r\n$1\r\n2\r\n*1\r\n$6\r\nCOMMIT\r\n";
+
+/// The first COMMIT's reply is there in the turn that appends its record, and what comes behind it in the next; in between another is
+/// served.
+#[test]
+fn an_append_ends_the_share(rt: HostRuntime) {
+    let first = b"+OK\r\n+OK\r\n:1\r\n".as_slice();
+    let both = b"+OK\r\n+OK\r\n:1\r\n+OK\r\n+OK\r\n:2\r\n".as_slice();
+    for (turns, due) in [(1u32, first), (2, both)] {
+        let (one, other) = got_after(&rt, turns, TRANSACTIONS);
+        assert!(rt; one.taken() == due, "{turns} turns");
+        assert!(rt; other.taken().is_empty() == (turns == 1));
+    }
+}

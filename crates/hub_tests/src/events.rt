@@ -218,7 +218,8 @@ fn who_leaves_drops_versions(rt: HostRuntime) {
     assert!(rt; kept(with_reader).0 == Some(2));
 }
 
-/// Beside an old transaction each of four keys got a version more, in a commit of its own. Its end leaves two of them to the ends that follow.
+/// Beside an old transaction each of four keys got a version more, in a commit of its own. Its end leaves two of them to the ends that
+/// follow.
 const FOUR_KEYS: &[(&str, &str)] = &[
     ("2 BEGIN", "+OK"),
     ("2 SET b 1", "+OK"),

@@ -76,8 +76,8 @@ fn after_six_commits<R: Abort + AllocGlobal>(rt: &R) -> Versions {
     versions
 }
 
-/// Where no number before the last is held, older versions go in three steps, since each of six commits has a list, and a step looks at two.
-/// The deleted key before the other isn't shown.
+/// Where no number before the last is held, older versions go in three steps, since each of six commits has a list, and a step looks at
+/// two. The deleted key before the other isn't shown.
 #[test]
 fn few_lists_go_in_three_steps(rt: HostRuntime) {
     let (a, b) = (key(b"a"), key(b"b"));

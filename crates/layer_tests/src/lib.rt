@@ -1,5 +1,5 @@
-//! Tests of the crates below the engine against values from outside: keys, requests, replies, devices, logs, versions, last readers, transactions
-//! and the check of a commit.
+//! Tests of the crates below the engine against values from outside: keys, requests, replies, devices, logs, versions, last readers,
+//! transactions and the check of a commit.
 #![tactic(auto)]
 
 #[cfg(test)]

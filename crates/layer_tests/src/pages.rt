@@ -5,30 +5,33 @@ use sorted_pages::{Aging, SortedPages};
 use std::cell::Cell;
 use std::process::Abort;
 
-// A value that the numbers from `first` on and below `last` see. It counts how often this is asked.
+// A value that the numbers from `first` on and below `last` see, and those from `again` on where it shows again. It counts how often this
+// is asked.
 #[derive(Drop)]
 struct Watched<'a> {
     asked: &'a Cell<u64>,
     first: u64,
     last: u64,
+    shows: bool,
+    again: u64,
 }
 
 impl Aging for Watched<'_> {
-    ghost use Rattle.std.specs.Prelude.{◌||◌, nat_le, nat_lt, false};
+    ghost use Rattle.std.specs.Prelude.{◌||◌, ◌&&◌, nat_le, nat_lt, false, not, if◌then◌else◌};
 
     ghost trimmed = { λ _ value. value };
 
     ghost has = { λ _ _. false };
 
-    ghost hides = { λ number value. nat_lt number value.first || nat_le value.last number };
+    ghost hides = { λ number v. nat_lt number v.first || (nat_le v.last number && (not v.shows || nat_lt number v.again)) };
 
-    ghost is_blank = { λ value. nat_le value.last value.first };
+    ghost is_blank = { λ value. nat_le value.last value.first && not value.shows };
 
-    ghost shows = { λ _. false };
+    ghost shows = { λ value. value.shows };
 
     ghost first = { λ value. value.first };
 
-    ghost last = { λ value. value.last };
+    ghost last = { λ value. if value.shows then value.again else value.last };
 
     fn trim(&mut self, _numbers: &[u64]) {}
 
@@ -38,15 +41,15 @@ impl Aging for Watched<'_> {
 
     fn hides(&self, number: u64) -> bool {
         self.asked.set(self.asked.get().saturating_add(1));
-        number < self.first || self.last <= number
+        number < self.first || self.last <= number && (!self.shows || number < self.again)
     }
 
     fn is_blank(&self) -> bool {
-        self.last <= self.first
+        self.last <= self.first && !self.shows
     }
 
     fn shows(&self) -> bool {
-        false
+        self.shows
     }
 
     fn first(&self) -> u64 {
@@ -54,7 +57,17 @@ impl Aging for Watched<'_> {
     }
 
     fn last(&self) -> u64 {
-        self.last
+        if self.shows { self.again } else { self.last }
+    }
+
+    fn hidden_from(&self, low: u64, high: u64) -> u64 {
+        if self.shows && self.first.max(self.again) < high {
+            return low.max(high);
+        }
+        if self.first < self.last.min(high) {
+            return low.max(self.last.min(high));
+        }
+        low
     }
 }
 
@@ -64,6 +77,8 @@ fn live(asked: &Cell<u64>) -> Watched<'_> {
         asked,
         first: 1,
         last: u64::MAX,
+        shows: false,
+        again: 0,
     }
 }
 
@@ -154,6 +169,33 @@ fn deleted_pages_are_passed_over(rt: HostRuntime) {
     let pages = filled(&rt, 2_000, 5, &asked);
     assert!(rt; looks(&pages, 4, &asked) == 1);
     assert!(rt; looks(&pages, 5, &asked) < 1_000);
+}
+
+// Sets each of the values again, with this number, in its place.
+fn set_again<R: Abort>(rt: &R, pages: &mut SortedPages<Watched<'_>>, number: u64) {
+    for i in 0..2_000u16 {
+        let bytes = i.to_be_bytes();
+        let at = KeyRef::new(bytes.as_slice()).expect(rt, "a key");
+        match pages.get_mut(at) {
+            Some(value) => {
+                value.shows = true;
+                value.again = number;
+            }
+            None => panic!(rt; "a key is missing"),
+        }
+    }
+}
+
+/// Nor of a page of which all was deleted and set again, for a number between, though older numbers see all of it, and newer ones too.
+#[test]
+fn refilled_pages_are_passed_over(rt: HostRuntime) {
+    let asked = Cell::new(0);
+    let mut pages = filled(&rt, 2_000, 5, &asked);
+    set_again(&rt, &mut pages, 9);
+    assert!(rt; looks(&pages, 4, &asked) == 1);
+    assert!(rt; looks(&pages, 5, &asked) < 1_000);
+    assert!(rt; looks(&pages, 8, &asked) < 1_000);
+    assert!(rt; looks(&pages, 9, &asked) == 1);
 }
 
 /// Values at the front of a page that no number sees are passed over once one of the page was trimmed.

@@ -223,6 +223,24 @@ fn pivot_after_its_neighbour_was_forgotten(rt: HostRuntime) {
     assert_eq!(rt; committed.kept(), 1);
 }
 
+const WRITER_NOBODY_AND_READER: [Commit; 3] = [
+    (0, b"", b"m", Answer::Clear),
+    (1, b"", b"", Answer::Clear),
+    (2, b"k", b"", Answer::Clear),
+];
+
+/// What is counted is of how many commits something is held: none is of one that read and wrote nothing, nor of those that are forgotten.
+#[test]
+fn commits_are_counted_by_what_is_held(rt: HostRuntime) {
+    let mut committed = Committed::new(rt.alloc());
+    assert_eq!(rt; committed.kept(), 0);
+    run(&rt, &mut committed, "before", &WRITER_NOBODY_AND_READER);
+    for (oldest, held) in [(0u64, 2usize), (1, 1), (2, 1), (3, 0)] {
+        forget(&mut committed, oldest);
+        assert_eq!(rt; (committed.last(), committed.kept()), (3, held));
+    }
+}
+
 // A transaction that writes 64 keys, which no other such one writes.
 fn writer<R: Abort + AllocGlobal>(rt: &R, begin: u64, n: u8) -> Transaction {
     let mut tx = Transaction::new(rt.alloc(), begin);
@@ -303,7 +321,7 @@ fn while_large_runs_are_merged(rt: HostRuntime) {
 }
 
 /// Runs of written keys stay few while old transactions come and go, and hold three places at most for each of the two keys that a commit
-/// wrote, of those that are kept and 64 more; none is left once all are forgotten.
+/// wrote, of those that aren't forgotten and 64 more; none is left once all are forgotten.
 #[test]
 fn written_keys_stay_in_few_runs(rt: HostRuntime) {
     let mut committed = Committed::new(rt.alloc());
@@ -316,7 +334,8 @@ fn written_keys_stay_in_few_runs(rt: HostRuntime) {
             committed.forget_step(n / 2);
         }
         assert!(rt; committed.runs() <= 24, "after commit {n}");
-        let most = committed.kept().saturating_add(64).saturating_mul(6);
+        let in_reach = committed.last().saturating_sub(committed.oldest());
+        let most = (in_reach as usize).saturating_add(64).saturating_mul(6);
         assert!(rt; committed.postings() <= most, "after commit {n}");
     }
     forget(&mut committed, 2_000);

@@ -1,6 +1,7 @@
 //! The accepts of a turn, from a listener in memory.
-use event_loop::{AcceptAnswer, Backlog, Listener, Socket, accept_some};
-use mio::Poll;
+use event_loop::{
+    AcceptAnswer, AcceptedSocket, Backlog, CountedPoll, Listener, Socket, accept_some,
+};
 use mio::net::TcpStream;
 use slab::Slab;
 use std::net::{Ipv4Addr, SocketAddr, TcpListener};
@@ -12,6 +13,7 @@ use test_hubs::new_hub;
 struct Waiting {
     streams: Vec<TcpStream>,
     fails: bool,
+    asked: u64,
     taken: u64,
     blocked: u64,
     failed: u64,
@@ -22,6 +24,7 @@ impl Waiting {
         Waiting {
             streams,
             fails,
+            asked: 0,
             taken: 0,
             blocked: 0,
             failed: 0,
@@ -34,13 +37,14 @@ impl Waiting {
 }
 
 impl Listener for Waiting {
-    ghost accepts = { λ w. record { taken = w.taken; blocked = w.blocked; failed = w.failed } };
+    ghost accepts = { λ w. record { asked = w.asked; taken = w.taken; blocked = w.blocked; failed = w.failed } };
 
     fn accept(&mut self) -> AcceptAnswer {
+        self.asked = self.asked.saturating_add(1);
         match self.streams.pop() {
             Some(stream) => {
                 self.taken = self.taken.saturating_add(1);
-                AcceptAnswer::Taken(stream)
+                AcceptAnswer::Taken(AcceptedSocket::new(stream))
             }
             None if self.fails => {
                 self.failed = self.failed.saturating_add(1);
@@ -58,7 +62,7 @@ impl Listener for Waiting {
 #[test]
 fn two_turns(rt: HostRuntime) {
     let alloc = rt.alloc();
-    let poll = Poll::new(&rt).expect(&rt, "a poll");
+    let poll = CountedPoll::new(&rt).expect(&rt, "a poll");
     let anywhere = SocketAddr::from((Ipv4Addr::LOCALHOST, 0));
     let listener = TcpListener::bind(&rt, anywhere).expect(&rt, "a listener");
     let address = listener.local_addr().expect(&rt, "an address");
@@ -101,7 +105,7 @@ fn two_turns(rt: HostRuntime) {
 #[test]
 fn a_failed_accept(rt: HostRuntime) {
     let alloc = rt.alloc();
-    let poll = Poll::new(&rt).expect(&rt, "a poll");
+    let poll = CountedPoll::new(&rt).expect(&rt, "a poll");
     let mut hub = new_hub(alloc, 4096).expect(&rt, "a hub");
     let mut failing = Waiting::new(Vec::new(alloc), true);
     let mut table = Slab::<Entry<BufferedStream<Socket>>>::new(alloc);

@@ -3,7 +3,7 @@ use crate::loops::{asks, client, new_loop};
 use event_loop::EventLoop;
 use model::{FRAME_MAX, KeyRef};
 use rows::reply_to;
-use sector::MemSectors;
+use sector::Sectors;
 use std::net::Net;
 use std::process::Abort;
 use std::time::{Clock, Duration, Instant};
@@ -54,7 +54,7 @@ fn steps_finish(rt: HostRuntime) {
 }
 
 /// A reader keeps old versions of 90 keys, which are written in as many commits, and ends.
-fn read_and_write<R: Net + Abort + AllocGlobal>(rt: &R, events: &mut EventLoop<MemSectors>) {
+fn read_and_write<D: Sectors, R: Net + Abort + AllocGlobal>(rt: &R, events: &mut EventLoop<D>) {
     let mut reader = client(rt, events);
     let mut writer = client(rt, events);
     for n in 0..180usize {
@@ -81,9 +81,9 @@ fn read_and_write<R: Net + Abort + AllocGlobal>(rt: &R, events: &mut EventLoop<M
 }
 
 /// How long a turn takes that may wait so long.
-fn turn_takes<R: Clock + Abort>(
+fn turn_takes<D: Sectors, R: Clock + Abort>(
     rt: &R,
-    events: &mut EventLoop<MemSectors>,
+    events: &mut EventLoop<D>,
     wait: Duration,
 ) -> Duration {
     let before = Instant::now(rt).expect(rt, "a clock");
@@ -92,16 +92,21 @@ fn turn_takes<R: Clock + Abort>(
     after.duration_since(before)
 }
 
-/// So does a loop: it doesn't wait in the turn after the reader's end, and 50 turns later it does.
+/// It doesn't wait in the turn after the reader's end, and 50 turns later it does.
+fn finishes<D: Sectors, R: Net + Clock + Abort + AllocGlobal>(rt: &R, events: &mut EventLoop<D>) {
+    read_and_write(rt, events);
+    let first = turn_takes(rt, events, Duration::from_secs(20));
+    assert!(rt; first < Duration::from_secs(10));
+    for _ in 0..50u32 {
+        turn_takes(rt, events, Duration::ZERO);
+    }
+    let wait = Duration::from_millis(300);
+    assert!(rt; turn_takes(rt, events, wait) >= wait);
+}
+
+/// So does a loop.
 #[test]
 fn idle_turns_finish(rt: HostRuntime) {
     let mut events = new_loop(&rt);
-    read_and_write(&rt, &mut events);
-    let first = turn_takes(&rt, &mut events, Duration::from_secs(20));
-    assert!(rt; first < Duration::from_secs(10));
-    for _ in 0..50u32 {
-        turn_takes(&rt, &mut events, Duration::ZERO);
-    }
-    let wait = Duration::from_millis(300);
-    assert!(rt; turn_takes(&rt, &mut events, wait) >= wait);
+    finishes(&rt, &mut events);
 }

@@ -8,4 +8,6 @@ mod idle;
 #[cfg(test)]
 mod loops;
 #[cfg(test)]
+mod order;
+#[cfg(test)]
 mod turns;

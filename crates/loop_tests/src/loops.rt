@@ -84,6 +84,34 @@ fn write_skew(rt: HostRuntime) {
     assert!(rt; !events.stopped());
 }
 
+const PING: &[u8] = b"*1\r\n$4\r\nPING\r\n";
+
+const PONG: &[u8] = b"+PONG\r\n";
+
+/// One leaves, and another comes to its place. The poll tells of each under its own key, so who came is answered again and again, and so is
+/// who stayed.
+#[test]
+fn one_leaves_and_another_comes(rt: HostRuntime) {
+    let mut events = new_loop(&rt);
+    let mut first = client(&rt, &events);
+    let mut second = client(&rt, &events);
+    assert!(rt; asks(&rt, &mut events, &mut first, PING, PONG));
+    assert!(rt; asks(&rt, &mut events, &mut second, PING, PONG));
+    drop(first);
+    for _ in 0..20u32 {
+        let turned = events.turn(Some(Duration::from_millis(10)));
+        turned.expect(&rt, "a turn");
+    }
+    let mut third = client(&rt, &events);
+    for _ in 0..3u32 {
+        assert!(rt; asks(&rt, &mut events, &mut third, PING, PONG), "who came");
+        assert!(rt;
+            asks(&rt, &mut events, &mut second, PING, PONG),
+            "who stayed"
+        );
+    }
+}
+
 /// Reads what is there, at most 1 MiB, and says how many bytes that was.
 fn reads<S: Read>(client: &mut S) -> usize {
     let mut got = [0u8; 4_096];

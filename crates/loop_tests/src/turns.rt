@@ -137,8 +137,8 @@ fn agree(one: &Hub<MemSectors>, other: &Hub<MemSectors>, session: u64) -> bool {
         && one.pending(session) == other.pending(session)
 }
 
-/// Does the peer's connection, after a turn over this hub, stand as a drive of it alone leaves it, over an equal hub; or as it was, where it
-/// wasn't ready?
+/// Does the peer's connection, after a turn over this hub, stand as a drive of it alone leaves it, over an equal hub; or as it was, where
+/// it wasn't ready?
 fn stands<R: Abort + AllocGlobal>(
     rt: &R,
     hub: &Hub<MemSectors>,

@@ -1,4 +1,5 @@
-//! The largest record: 64 keys of 256 bytes with values of 16,384. Its payload of 1,065,412 bytes, behind 44 of its own, fills 2,081 sectors.
+//! The largest record: 64 keys of 256 bytes with values of 16,384. Its payload of 1,065,412 bytes, behind 44 of its own, fills 2,081
+//! sectors.
 use crate::side_by_side::SideBySide;
 use crate::stores::reply_to;
 use model::{KEY_MAX, Memory, VALUE_MAX};

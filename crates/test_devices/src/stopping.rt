@@ -4,8 +4,8 @@ ghost use Rattle.sector.specs.Failures.{Rose, Stayed};
 
 use sector::{DeviceFault, MemSectors, Sector, Sectors};
 
-/// A device that is stopped after so many calls: each later one is a `DeviceFault`, and none reaches what is under it. `count` is no such call.
-/// Takes no memory.
+/// A device that is stopped after so many calls: each later one is a `DeviceFault`, and none reaches what is under it. `count` is no such
+/// call. Takes no memory.
 #[derive(Drop)]
 pub struct Stopping {
     /// What the calls have reached.

@@ -15,8 +15,8 @@ pub enum Trouble {
     Failed,
 }
 
-/// A peer in memory: it gives its bytes and then ends, keeps what it takes, and meets trouble at one of its calls. Of its bytes it isn't told
-/// when they left.
+/// A peer in memory: it gives its bytes and then ends, keeps what it takes, and meets trouble at one of its calls. Of its bytes it isn't
+/// told when they left.
 #[derive(PartialEq, Drop)]
 pub struct Script {
     input: Vec<u8>,
@@ -70,10 +70,16 @@ impl Script {
 }
 
 impl Stream for Script {
-    ghost use Rattle.std.specs.Prelude.{take, []};
+    ghost use Rattle.std.specs.Prelude.{take, false, []};
     ghost use Rattle.stream_driver.specs.Counts.{counted_with};
 
     ghost tells = { Unit {0} };
+
+    ghost takes_at_most = { λ most s. Unit {0} };
+
+    ghost keeps_share = { ⊥ };
+
+    ghost is_told = { λ s. false };
 
     ghost traffic = { λ s. counted_with s.counts (take s.at s.input.items) s.taken.items [] 0 };
 
@@ -122,5 +128,9 @@ impl Stream for Script {
         }
         self.counts.note_write(WriteAnswer::Moved(n));
         WriteAnswer::Moved(n)
+    }
+
+    fn end_share(&mut self, reply: usize) {
+        let _ = reply;
     }
 }

@@ -1,7 +1,7 @@
+use Rattle.layer_tests.proofs.replies.write_map.Goals as goal
 use Rattle.std.proofs.Common.{length, ap, sym, ◌∙◌, refl}
 use Rattle.std.proofs.lemmas.Iterator.Consumers.{YieldsList-from_first}
 use Rattle.model.specs.KeyBytes.{pair_bytes}
-use Rattle.layer_tests.proofs.replies.write_map.Goals as goal
 
 pub write_pairs-requires : goal.write_pairs-requires
 write_pairs-requires c κs =

@@ -1,7 +1,7 @@
+use Rattle.loop_tests.proofs.accepts.a_failed_accept.Goals as goal
 use Rattle.sessions.specs.Lives.{IsOpened}
 use Rattle.event_loop.proofs.Entries.{nobody_entries}
 use Rattle.event_loop.proofs.Serving.{opened_nobody}
-use Rattle.loop_tests.proofs.accepts.a_failed_accept.Goals as goal
 
 pub accept_some-backlog-requires-clause-entries : goal.accept_some-backlog-requires-clause-entries
 accept_some-backlog-requires-clause-entries g c =

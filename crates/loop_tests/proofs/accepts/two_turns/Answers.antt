@@ -1,7 +1,7 @@
+use Rattle.loop_tests.proofs.accepts.two_turns.Goals as goal
 use Rattle.sessions.specs.Lives.{IsOpened}
 use Rattle.event_loop.proofs.Entries.{nobody_entries}
 use Rattle.event_loop.proofs.Serving.{opened_nobody}
-use Rattle.loop_tests.proofs.accepts.two_turns.Goals as goal
 
 pub accept_some-first-requires-clause-entries : goal.accept_some-first-requires-clause-entries
 accept_some-first-requires-clause-entries g c =

@@ -1,8 +1,8 @@
+use Rattle.rows.proofs.plain.write_rows.Goals as goal
 use Rattle.std.proofs.Common.{refl}
 use Rattle.std.proofs.lemmas.Iterator.Consumers.{YieldsList-from_first}
 use Rattle.model.specs.KeyBytes.{pair_bytes}
 use Rattle.rows.specs.declared.plain.Lent.{Lent}
-use Rattle.rows.proofs.plain.write_rows.Goals as goal
 
 pub write_pairs-requires : goal.write_pairs-requires
 write_pairs-requires c κs =

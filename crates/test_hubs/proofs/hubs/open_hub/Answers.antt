@@ -1,6 +1,6 @@
+use Rattle.test_hubs.proofs.hubs.open_hub.Goals as goal
 use Rattle.sessions.specs.Lives.{IsOpened}
 use Rattle.test_hubs.proofs.Opened.{stands_once_opened}
-use Rattle.test_hubs.proofs.hubs.open_hub.Goals as goal
 
 pub returns : goal.returns
 returns g c =

@@ -1,6 +1,6 @@
+use Rattle.loop_tests.proofs.turns.Crowd.turn.Goals as goal
 use Rattle.stream_driver.proofs.States.{stands_after}
 use Rattle.event_loop.proofs.Tables.{below_after}
-use Rattle.loop_tests.proofs.turns.Crowd.turn.Goals as goal
 
 pub invariant_of-self : goal.invariant_of-self
 invariant_of-self c = record {

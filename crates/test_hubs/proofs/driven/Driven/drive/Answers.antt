@@ -1,6 +1,6 @@
+use Rattle.test_hubs.proofs.driven.Driven.drive.Goals as goal
 use Rattle.std.proofs.Common.{◌≡◌, ◌∙◌, true, false}
 use Rattle.stream_driver.proofs.States.{stands_after}
-use Rattle.test_hubs.proofs.driven.Driven.drive.Goals as goal
 
 pub drive-requires : goal.drive-requires
 drive-requires g c = (

@@ -1,0 +1,3 @@
+-- Adya's definitions over this store's histories, and the laws.
+pub mod Adya
+pub mod Laws
