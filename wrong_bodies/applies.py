@@ -2,8 +2,10 @@
 
 `applies.py [CRATE..]`, all crates where none is named: those of the folder `must-fail` of each crate, and those beside this file. Nothing is
 proved. Prints each that does not apply, and each that `gate.txt` names and that no folder `must-fail` has, and ends with status 1 where there
-is one.
+is one. `--table` prints how many there are of each crate, and `--write` writes that into docs/TESTING.md.
 """
+import argparse
+import re
 import sys
 from pathlib import Path
 
@@ -43,7 +45,35 @@ def missing():
     return [f"{place.relative_to(TOP)}: gate.txt names it, and it isn't there" for place in places.values() if not place.is_file()]
 
 
-def main(names):
+def table():
+    """How many wrong bodies there are of each crate, in the order of crates.txt."""
+    lines = (TOP / "crates.txt").read_text().split("\n")
+    names = [line.partition(":")[0].split()[0] for line in lines if line and not line.startswith("#")]
+    counts = [(name, *(len(list(folder.glob("*.edit"))) for folder in (TOP / "wrong_bodies" / name, TOP / "crates" / name / "must-fail"))) for name in names]
+    found = [count for count in counts if any(count[1:])]
+    total = ("all", *(sum(column) for column in list(zip(*found))[1:]))
+    rows = [f"| `{name}` | {others} | {gate} |" for name, others, gate in found] + ["| {} | {} | {} |".format(*total)]
+    return "\n".join(["| Crate | By `wrong_bodies/run.sh` | By the gate |", "|---|---|---|", *rows])
+
+
+def write():
+    page = TOP / "docs" / "TESTING.md"
+    page.write_text(re.sub(r"^\| Crate \| By `wrong_bodies.*?(?=\n\n)", lambda _: table(), page.read_text(), flags=re.M | re.S))
+
+
+def main():
+    parser = argparse.ArgumentParser(description=__doc__, formatter_class=argparse.RawDescriptionHelpFormatter)
+    parser.add_argument("--table", action="store_true", help="print how many there are of each crate")
+    parser.add_argument("--write", action="store_true", help="write that into docs/TESTING.md")
+    parser.add_argument("crates", nargs="*", metavar="CRATE")
+    given = parser.parse_args()
+    if given.table or given.write:
+        print(table()) if given.table else write()
+        return 0
+    return judge(given.crates)
+
+
+def judge(names):
     crates = [TOP / "crates" / name for name in names] or sorted((TOP / "crates").iterdir())
     edits = [(edit, fault_of(edit, crate)) for crate in crates for edit in edits_of(crate)]
     faults = [f"{edit.relative_to(TOP)}: {fault}" for edit, fault in edits if fault] + missing()
@@ -54,4 +84,4 @@ def main(names):
 
 
 if __name__ == "__main__":
-    sys.exit(main(sys.argv[1:]))
+    sys.exit(main())

@@ -8,6 +8,8 @@ repository; `--gate` tries those of the crates' own folders `must-fail` as well.
 Prints each wrong body that isn't refused, and ends with status 1 where there is one. `BAD` is one that doesn't compile, or of which nothing is said.
 `FORM` is one that is refused, but by the form of a proof alone: it names a fact of the real body that the wrong one lacks.
 """
+import argparse
+import os
 import re
 import shutil
 import subprocess
@@ -94,8 +96,10 @@ class Crate:
 
     def check(self, edits, functions):
         """What a check with these edits reports of each function, and all that it prints."""
-        shutil.rmtree(self.folder / "src")
-        shutil.copytree(self.fresh / "src", self.folder / "src")
+        for part in ("src", "specs"):
+            if (self.fresh / part).is_dir():
+                shutil.rmtree(self.folder / part)
+                shutil.copytree(self.fresh / part, self.folder / part)
         for path, old, new in (pair for edit in edits for pair in pairs_of(edit)):
             file = self.folder / path
             file.write_text(file.read_text().replace(old, new))
@@ -167,19 +171,36 @@ class Crate:
         return not wrong
 
 
-def main(words):
-    names = [it for it in words if it != "--gate"] or sorted(it.name for it in (TOP / "crates").iterdir())
+def taken(source, target):
+    """Copies a file; one of a folder `out`, which `rt` replaces and never changes, is linked where it can be."""
+    if "out" in Path(source).parts:
+        try:
+            return os.link(source, target)
+        except OSError:
+            pass
+    return shutil.copy2(source, target)
+
+
+def main():
+    parser = argparse.ArgumentParser(description=__doc__, formatter_class=argparse.RawDescriptionHelpFormatter)
+    parser.add_argument("--gate", action="store_true", help="those of the crates' own folders must-fail as well")
+    parser.add_argument("crates", nargs="*", metavar="CRATE")
+    words = parser.parse_args()
+    crates = sorted(it.name for it in (TOP / "crates").iterdir())
+    if unknown := sorted({*words.crates} - {*crates}):
+        parser.error(f"there is no crate {unknown[0]}")
     with tempfile.TemporaryDirectory() as folder:
         copy = Path(folder)
-        for name in ("crates", "crates.txt", "HANDLES"):
-            subprocess.run(["cp", "-r", TOP / name, copy], check=True)
+        shutil.copytree(TOP / "crates", copy / "crates", copy_function=taken)
+        for name in ("crates.txt", "HANDLES"):
+            shutil.copy(TOP / name, copy)
         good = True
-        for name in names:
+        for name in words.crates or crates:
             edits = sorted((TOP / "wrong_bodies" / name).glob("*.edit"))
-            edits += sorted((TOP / "crates" / name / "must-fail").glob("*.edit")) if "--gate" in words else []
+            edits += sorted((TOP / "crates" / name / "must-fail").glob("*.edit")) if words.gate else []
             good &= Crate(copy, name, edits).run() if edits else True
     return 0 if good else 1
 
 
 if __name__ == "__main__":
-    sys.exit(main(sys.argv[1:]))
+    sys.exit(main())
