@@ -333,10 +333,9 @@ static void run_workers(struct worker *workers) {
     }
     uint64_t least, most;
     find_least_and_most(workers, &least, &most);
-    printf("rate=%.1f p50_us=%.1f p99_us=%.1f committed=%llu refused=%llu least=%llu most=%llu busy=%.2f\n", (double)times->count / seconds,
-           histogram_us(times, 0.5), histogram_us(times, 0.99), (unsigned long long)workers[0].committed,
-           (unsigned long long)workers[0].refused,
-           (unsigned long long)least, (unsigned long long)most, (processor_seconds() - before) / (took * threads));
+    printf("rate=%.1f p50_us=%.1f p99_us=%.1f p999_us=%.1f committed=%llu refused=%llu least=%llu most=%llu busy=%.2f\n", (double)times->count / seconds,
+           histogram_us(times, 0.5), histogram_us(times, 0.99), histogram_us(times, 0.999), (unsigned long long)workers[0].committed,
+           (unsigned long long)workers[0].refused, (unsigned long long)least, (unsigned long long)most, (processor_seconds() - before) / (took * threads));
 }
 
 static void read_server(const char *text) {

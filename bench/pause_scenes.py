@@ -1,32 +1,37 @@
 """What else a server does while one client waits for it: scenes over a store of so many keys, each with the waits of a PING beside it, and the
-processor time between two polls, which harness/polls.c measures."""
+processor time and the syncs between two polls, which harness/polls.c measures."""
 
 import array
+import collections
 import contextlib
-import mmap
 import multiprocessing
 import os
 import select
 import signal
 import socket
-import struct
-import tempfile
 import time
 
+from preloaded import Shared, Syncs, environment
 from scale import BEGIN, COMMIT, COMMIT_WRITES, MARKS, Client, Store, before_all, frame, map_keys, scattered, sets
 from servers import Failure
 
 PING, PONG = frame(b"PING"), b"+PONG\r\n"
 EACH_SECONDS = 0.001
 SESSIONS, FLOODING = 128, 60
-# The largest RANGE: so many pairs of the largest values; and one of values of a quarter of that.
-PAIRS, LARGE_VALUE, MIDDLE_VALUE = 128, 16_384, 4_096
+# The largest RANGE: so many pairs of the largest values; and one of values of a quarter of that. Some is answered within so many seconds.
+PAIRS, LARGE_VALUE, MIDDLE_VALUE, ANSWERED_WITHIN = 128, 16_384, 4_096, 30
 QUEUE, STEP = 1_000, 32
 SMALL_COMMITS = 50
 # Transactions that write one key each: at most so many leave lists of older versions, so many follow, and so many are sent at once.
 SINGLE_WRITES, SAME_KEY, AT_ONCE = 20_000, 5_000, 20
 # In two scenes so many times as many keys are written. Of transactions of three requests a turn serves so many of a session.
 TIMES, THREES = 4, 21
+# So many clients read and so many write where a sync takes so long.
+READERS, WRITERS, SYNC_MS = 16, 16, 1
+# The C library joins its small free blocks where it is asked for as many bytes as such a reply has.
+LONG_REPLY_PAIRS = 100
+# So many clients write transactions of the most bytes. One key in so many is left where most were deleted.
+LARGE_WRITERS, LEFT_ONE_IN = 24, 384
 
 
 # The client that sends PING
@@ -83,62 +88,55 @@ class Pinger:
 
 # The processor time between two polls
 
-class Turns:
+class Turns(Shared):
     """What the preloaded library shares: the turns of the program between two polls."""
 
-    SIZE = 32
+    NUMBERS = 6
 
     def __init__(self, library):
-        self.library = os.path.abspath(library)
-        file, self.name = tempfile.mkstemp(prefix="ssikvd-polls-")
-        with open(file, "r+b") as opened:
-            opened.write(bytes(self.SIZE))
-            opened.flush()
-            self.shared = mmap.mmap(opened.fileno(), self.SIZE)
-
-    def environment(self):
-        return {**os.environ, "LD_PRELOAD": self.library, "POLLS_CONTROL": self.name}
-
-    def _get(self, number):
-        return struct.unpack_from("=Q", self.shared, 8 * number)[0]
-
-    def _put(self, number, value):
-        struct.pack_into("=Q", self.shared, 8 * number, value)
+        super().__init__(library, "POLLS_CONTROL", self.NUMBERS)
 
     def count(self):
-        return self._get(0)
+        return self.get(0)
 
     def longest_ms(self):
-        return round(self._get(1) / 1e6, 3)
+        return round(self.get(1) / 1e6, 3)
 
     def all_ms(self):
-        return round(self._get(2) / 1e6, 3)
+        return round(self.get(2) / 1e6, 3)
+
+    def most_syncs(self):
+        return self.get(4)
+
+    def is_idle(self):
+        """Was there a poll that was to wait?"""
+        return self.get(5) > 0
 
     def begin(self):
         """What was measured is forgotten."""
-        for number in range(3):
-            self._put(number, 0)
+        for number in range(self.NUMBERS):
+            self.put(number, 0)
 
     def waste(self, milliseconds):
         """The program wastes so much processor time in its next turn."""
-        self._put(3, int(milliseconds * 1e6))
-
-    def remove(self):
-        self.shared.close()
-        os.remove(self.name)
+        self.put(3, int(milliseconds * 1e6))
 
 
 class Scene:
-    """A server over a store of so many keys, whose turns are measured, with its clients, one of which sends PING."""
+    """A server over a store of so many keys, whose turns are measured, with its clients, one of which sends PING. A sync takes at least so long."""
 
-    def __init__(self, options, keys, commits):
+    def __init__(self, options, keys, commits, sync_ms=0):
         self.options, self.parts = options, []
-        self.turns = Turns(options.library)
-        try:
-            self.store = Store(options, keys, commits, self.turns.environment())
-        except BaseException:
-            self.turns.remove()
-            raise
+        with contextlib.ExitStack() as stack:
+            self.turns = Turns(options.library)
+            stack.callback(self.turns.remove)
+            libraries = [self.turns]
+            if sync_ms:
+                libraries.append(Syncs())
+                stack.callback(libraries[-1].remove)
+                libraries[-1].slow_down(sync_ms)
+            self.store = Store(options, keys, commits, environment(*libraries, more=options.preload))
+            self.shared = stack.pop_all()
 
     def __enter__(self):
         self.pinger, self.watcher = Pinger(self.store.address), self.client()
@@ -151,7 +149,7 @@ class Scene:
         finally:
             self.pinger.kill()
             self.store.__exit__()
-            self.turns.remove()
+            self.shared.close()
 
     def client(self):
         return Client(self.store.address)
@@ -171,20 +169,26 @@ class Scene:
         while self.turns.count() < before + 2:
             self.watcher.ask(PING)
 
+    def wait_until_idle(self):
+        """Waits for a poll that was to wait, since the figures began: the turns have given back what no transaction needs."""
+        while not self.turns.is_idle():
+            time.sleep(EACH_SECONDS)
+
     @contextlib.contextmanager
     def part(self, name):
-        """What is done within is measured, and some time behind it."""
+        """What is done within is measured, and some time behind it. It may give further figures."""
         self.settle()
         self.turns.begin()
         self.turns.waste(self.options.wasted_ms)
-        begun, load = time.monotonic(), round(os.getloadavg()[0], 1)
-        yield
+        begun, load, more = time.monotonic(), round(os.getloadavg()[0], 1), {}
+        yield more
         seconds = time.monotonic() - begun
         time.sleep(self.options.behind)
         self.settle()
         if not self.turns.count():
             raise Failure("the library that measures the turns isn't called")
         figures = {"cpu_longest_ms": self.turns.longest_ms(), "cpu_all_ms": self.turns.all_ms(), "turns": self.turns.count()}
+        figures |= {"most_syncs": self.turns.most_syncs(), **more}
         self.parts.append((name, begun, time.monotonic(), {**figures, "seconds": round(seconds, 2), "load": load}))
 
     def rows(self):
@@ -251,11 +255,11 @@ def bounds(number):
     return b"%02x" % number, b"%02x" % (number + 1) if number < MARKS - 1 else b"g"
 
 
-def marking(client, most_pairs):
+def marking(client, most_pairs, whose=0):
     """A transaction reads 256 ranges, which hold all scattered keys where these are few, and writes 64 keys that nobody else does."""
     client.ask(BEGIN)
     found = sum(len(client.ask(frame(b"RANGE", *bounds(number), b"%d" % most_pairs))) // 2 for number in range(MARKS))
-    own = [b"own%02d" % number for number in range(COMMIT_WRITES)]
+    own = [b"own%02d-%02d" % (whose, number) for number in range(COMMIT_WRITES)]
     client.ask_lines(sets(own), len(own))
     return found
 
@@ -366,6 +370,22 @@ def half_deleted(options):
     return scene
 
 
+def refilled(options):
+    """Beside an older transaction that sees all keys, one begins once they are deleted. It looks for the first of them when all are set again."""
+    keys = map_keys(scattered, 0, options.keys)
+    with Scene(options, options.keys, 2 * (options.keys // COMMIT_WRITES) + 8) as scene:
+        older, reader, client = scene.client(), scene.client(), scene.client()
+        opened(older)
+        delete_all(client, keys)
+        reader.ask(BEGIN)
+        set_all(client, scattered, options.keys)
+        with scene.part("ranges of 1 over keys that were deleted at the begin and are set again"):
+            reader.socket.sendall(AT_ONCE * frame(b"RANGE", b"0", b"g", b"1"))
+            if any(reader.reply() for _ in range(AT_ONCE)):
+                raise Failure("a range isn't empty")
+    return scene
+
+
 def straddling(options):
     """One half of the keys are deleted before the begin, though they aren't there, and the other half written after it."""
     half = options.keys // 2
@@ -432,7 +452,7 @@ def fill_large(client, value):
 
 
 def flood(address, seconds, value):
-    """Clients that each ask for a RANGE of values of so many bytes, and for one more with each reply."""
+    """Clients that each ask for a RANGE of values of so many bytes, and for one more with each reply: for so long, and until one was answered."""
     request = frame(b"RANGE", b"large", b"larges", b"%d" % PAIRS)
     whole = len(b"*%d\r\n" % (2 * PAIRS)) + PAIRS * (len(frame(large_key(0), b"x" * value)) - len(b"*2\r\n"))
     poll, clients, due, buffer = select.epoll(), {}, {}, bytearray(1 << 20)
@@ -444,8 +464,8 @@ def flood(address, seconds, value):
         poll.register(client.socket, select.EPOLLIN)
     for client in clients.values():
         client.socket.send(2 * request)
-    end, replies = time.monotonic() + seconds, 0
-    while time.monotonic() < end:
+    begin, replies = time.monotonic(), 0
+    while time.monotonic() < begin + (seconds if replies else seconds + ANSWERED_WITHIN):
         for number, _ in poll.poll(0.1):
             due[number] -= clients[number].socket.recv_into(buffer)
             if due[number] <= 0:
@@ -492,13 +512,130 @@ def coming_and_going(options):
     return scene
 
 
+def first_long_reply(options):
+    """The turns give back what an old transaction saw, in small blocks; then a client asks for a long reply. All was written by commits."""
+    with Scene(options, 0, 2 * (options.keys // COMMIT_WRITES) + 16) as scene:
+        old, client = scene.client(), scene.client()
+        set_all(client, scattered, options.keys)
+        opened(old)
+        set_all(client, scattered, options.keys)
+        with scene.part("turns in which nothing is asked for, until what an old transaction saw is given back"):
+            old.ask(COMMIT)
+            scene.wait_until_idle()
+        with scene.part("the first RANGE of 100 pairs after that"):
+            client.ask(BEGIN)
+            client.ask(frame(b"RANGE", b"0", b"g", b"%d" % LONG_REPLY_PAIRS))
+            client.ask(COMMIT)
+    return scene
+
+
+class Session:
+    """A client with one request at a time, whose transactions follow each other. It keeps how long each request waits."""
+
+    def __init__(self, client, *requests):
+        self.socket, self.requests = client.socket, collections.deque([BEGIN, *requests, COMMIT])
+        self.waits, self.came = array.array("d"), b""
+
+    def send(self):
+        self.socket.sendall(self.requests[0])
+        self.requests.rotate(-1)
+        self.sent = time.monotonic()
+
+    def receive(self):
+        """A reply is one line, or two where it is a value."""
+        self.came += self.socket.recv(1 << 16)
+        if self.came.startswith(b"-"):
+            raise Failure(f"refused: {self.came[:200]!r}")
+        if self.came.endswith(b"\r\n") and self.came.count(b"\r\n") == (2 if self.came.startswith(b"$") else 1):
+            self.waits.append(time.monotonic() - self.sent)
+            self.came = b""
+            self.send()
+
+
+def sessions_go_on(sessions, seconds):
+    """For so long each of them sends its next request once it has the reply to the one before."""
+    poll, of = select.epoll(), {it.socket.fileno(): it for it in sessions}
+    for number, session in of.items():
+        poll.register(number, select.EPOLLIN)
+        session.send()
+    end = time.monotonic() + seconds
+    while time.monotonic() < end:
+        for number, _ in poll.poll(0.1):
+            of[number].receive()
+
+
+def beside_writers(options):
+    """The bytes of requests and replies are few, so it is the syncs that anybody waits for."""
+    with Scene(options, options.keys, options.keys // COMMIT_WRITES + 1000 * int(1 + options.seconds), SYNC_MS) as scene:
+        readers = [Session(scene.client(), *(frame(b"GET", scattered(4 * number + it)) for it in range(4))) for number in range(READERS)]
+        writers = [Session(scene.client(), sets([scattered(number)])) for number in range(WRITERS)]
+        with scene.part("16 clients that read, beside 16 that write, where a sync takes 1 ms") as more:
+            sessions_go_on(readers + writers, options.seconds)
+            waits = sorted(wait for it in readers for wait in it.waits)
+            if not waits or not any(it.waits for it in writers):
+                raise Failure("nobody was answered")
+            more |= {f"reader_{name}": value for name, value in waits_ms(waits).items() if name != "pings"}
+    return scene
+
+
+# Crowds: what many clients ask for in one turn
+
+def all_commit(scene, clients):
+    with scene.stopped():
+        for client in clients:
+            client.socket.sendall(COMMIT)
+    for client in clients:
+        client.reply()
+
+
+def large_commits(options):
+    with Scene(options, options.keys, LARGE_WRITERS * 2 * COMMIT_WRITES * LARGE_VALUE // 8_192) as scene:
+        clients = [scene.client() for _ in range(LARGE_WRITERS)]
+        for whose, client in enumerate(clients):
+            client.ask(BEGIN)
+            writes = [frame(b"SET", b"large%02d-%02d" % (whose, number), b"x" * LARGE_VALUE) for number in range(COMMIT_WRITES)]
+            client.ask_lines(b"".join(writes), COMMIT_WRITES)
+        with scene.part("24 COMMITs of 64 values of 16,384 bytes, all in one turn"):
+            all_commit(scene, clients)
+    return scene
+
+
+def old_commits(options):
+    with Scene(options, options.keys, options.keys // COMMIT_WRITES + FLOODING + 8) as scene:
+        clients = [scene.client() for _ in range(FLOODING)]
+        for whose, client in enumerate(clients):
+            marking(client, PAIRS, whose)
+        set_all(scene.client(), scattered, options.keys)
+        with scene.part("60 COMMITs of ones with 256 ranges and 64 writes, beside which everything was written again, all in one turn"):
+            all_commit(scene, clients)
+    return scene
+
+
+def sparse_ranges(options):
+    keys = sorted(map(scattered, range(options.keys)))
+    with Scene(options, options.keys, options.keys // COMMIT_WRITES + 8) as scene:
+        delete_all(scene.client(), [key for number, key in enumerate(keys) if number % LEFT_ONE_IN])
+        clients = [scene.client() for _ in range(FLOODING)]
+        scene.settle()
+        with scene.part("60 clients with 21 RANGEs of 128 over keys of which one in 384 is left, all in one turn"):
+            with scene.stopped():
+                for client in clients:
+                    client.socket.sendall(BEGIN + THREES * frame(b"RANGE", b"0", b"g", b"%d" % PAIRS) + COMMIT)
+            for client in clients:
+                if len([client.reply() for _ in range(THREES + 2)][1]) != 2 * min(PAIRS, -(-options.keys // LEFT_ONE_IN)):
+                    raise Failure("a range has other keys than were left")
+    return scene
+
+
 SCENES = {
     "quiet": quiet, "load": load, "written_again": written_again, "old_commit": old_commit, "younger": younger, "same_key": same_key, "queue": queue,
-    "half_deleted": half_deleted, "straddling": straddling, "overlapping": overlapping, "written_before": written_before,
+    "half_deleted": half_deleted, "refilled": refilled, "straddling": straddling, "overlapping": overlapping, "written_before": written_before,
     "largest_ranges": largest_ranges, "middle_ranges": middle_ranges, "coming_and_going": coming_and_going,
+    "first_long_reply": first_long_reply, "beside_writers": beside_writers,
 }
+CROWDS = {"large_commits": large_commits, "old_commits": old_commits, "sparse_ranges": sparse_ranges}
 
 
 def measured(options, name):
     """The rows of a scene: what was done, and its figures."""
-    return list(SCENES[name](options).rows())
+    return list((SCENES | CROWDS)[name](options).rows())

@@ -7,14 +7,17 @@
 One client sends PING each millisecond, from a process of its own, beside: a random load; everything written again beside an old transaction, and
 the end of that one; the COMMIT of one with 256 ranges and 64 writes beside which everything was written again; the end of the younger of two old
 ones; one key written again and again while many lists of older versions are left; a queue beside an old reader; half of the keys deleted, and
-ranges over them; 256 ranges over a run of written keys that straddles the begin, side by side and each within the next; many COMMITs that have read
+ranges over them; ranges over keys that were deleted at their begin and are set again; 256 ranges over a run of written keys that straddles the begin, side by side and each within the next; many COMMITs that have read
 all that was written before their begin; 60 clients with the largest RANGEs, and with such of a quarter of the bytes; 128 connections coming and
-going. Each has a server of its own over a data file in memory (--folder).
+going; the first long reply after an old transaction, whose versions were given back; 16 clients that read beside 16 that write, where a sync takes
+1 ms. Three more are crowds, whose requests all stand ready in one turn: COMMITs of 1 MiB, COMMITs of old transactions, and RANGEs over keys most of
+which were deleted. Each has a server of its own over a data file in memory (--folder).
 
 The figures of each: the median of the waits, what all but one in a thousand stay below, the longest; the longest processor time of the server
-between the return of a poll and the next, and of all together. The waits go by the clock, so other work of the machine is in them; by how much the
-client itself came late stands beside them. The processor time hasn't any of that. It is taken by a library that is preloaded into the server
-(harness/polls.c). Needs Python 3, make and a C compiler, and at a million keys 2 GB of memory.
+between the return of a poll and the next, and of all together; the most syncs between two polls; beside writers also the waits of those that read.
+The waits go by the clock, so other work of the machine is in them; by how much the client itself came late stands beside them. The processor time
+hasn't any of that. It is taken by a library that is preloaded into the server (harness/polls.c). Needs Python 3, make and a C compiler, and at a
+million keys 2 GB of memory.
 
 `--table` prints the table of the processor times from such files, as it stands in the documents, and `--waits` that of the waits.
 `docs/pictures/draw.py` draws the picture.
@@ -24,16 +27,16 @@ import argparse
 import json
 import os
 import signal
-import subprocess
 import sys
 
 sys.dont_write_bytecode = True
 
-from pause_scenes import SCENES, measured           # noqa: E402
+from pause_scenes import CROWDS, SCENES, measured   # noqa: E402
+from preloaded import build                         # noqa: E402
 from scale import DEFAULT_PROGRAM, about            # noqa: E402
-from servers import HERE, PROGRAMS, Failure         # noqa: E402
+from servers import HERE, Failure                   # noqa: E402
 
-LIBRARY = os.path.join(PROGRAMS, "polls.so")
+ALL_SCENES = SCENES | CROWDS
 DOCUMENTED = os.path.normpath(os.path.join(HERE, "..", "docs", "pauses"))
 CLOCK = (("median_ms", "median"), ("most_ms", "99.9 %"), ("longest_ms", "longest"), ("client_late_ms", "the client itself was late"))
 
@@ -91,7 +94,7 @@ def clock_table(rows):
 def measure(options):
     results = {"about": about(options.program), "rows": []}
     for options.keys in options.sizes:
-        for name in options.scene or SCENES:
+        for name in options.scene or ALL_SCENES:
             for what, figures in measured(options, name):
                 print(f"{what}, {options.keys:,} keys: {figures}", file=sys.stderr)
                 results["rows"].append({"what": what, "keys": options.keys, "figures": figures})
@@ -106,16 +109,17 @@ def read_options():
     parser = argparse.ArgumentParser(description=__doc__, formatter_class=argparse.RawDescriptionHelpFormatter)
     parser.add_argument("--program", default=os.path.normpath(DEFAULT_PROGRAM), help="(%(default)s)")
     parser.add_argument("--keys", action="append", type=int, dest="sizes", help="the number of keys; may be given more than once (10,000)")
-    parser.add_argument("--scene", action="append", choices=SCENES, help="only this scene; may be given more than once")
+    parser.add_argument("--scene", action="append", choices=ALL_SCENES, help="only this scene; may be given more than once")
     parser.add_argument("--seconds", type=float, default=3, help="of the scenes that have no end of their own (%(default)s)")
     parser.add_argument("--behind", type=float, default=0.3, help="seconds that are measured behind each part (%(default)s)")
     parser.add_argument("--folder", default="/dev/shm", help="where data files are made (%(default)s)")
+    parser.add_argument("--preload", action="append", default=[], metavar="LIBRARY", help="into the server as well, as an allocator")
     parser.add_argument("--out", help="a file for the figures, as JSON")
     parser.add_argument("--table", nargs="+", metavar="FILE", help="prints the processor times that were measured before")
     parser.add_argument("--waits", nargs="+", metavar="FILE", help="prints the waits that were measured before")
     options = parser.parse_args()
     options.sizes = options.sizes or [10_000]
-    options.library, options.wasted_ms = LIBRARY, 0
+    options.wasted_ms = 0
     if not (options.table or options.waits) and not os.access(options.program, os.X_OK):
         parser.error(f"there is no program {options.program}")
     return options
@@ -128,7 +132,7 @@ def main():
         print(processor_table(read_rows(options.table)) if options.table else clock_table(read_rows(options.waits)))
         return
     try:
-        subprocess.run(["make", "-s", "-C", HERE, "out/polls.so"], check=True)
+        options.library = build("polls")
         rows = measure(options)
         print("The longest processor time between two polls, ms\n\n" + processor_table(rows))
         print("\nThe waits of PING by the clock, ms\n\n" + clock_table(rows))

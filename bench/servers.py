@@ -86,12 +86,12 @@ class Echo(Listening):
 
 
 class StandIn(Listening):
-    """A server in C with the same commands and none of the promises, which keeps nothing on disk."""
+    """A server in C with the same commands and none of the promises. It keeps nothing on disk, or makes the writes and syncs of commits."""
 
     name = "resp"
 
-    def __init__(self):
-        super().__init__([os.path.join(PROGRAMS, "stand_in")])
+    def __init__(self, log=None, **more):
+        super().__init__([os.path.join(PROGRAMS, "stand_in")] + [log] * bool(log), **more)
 
 
 class Ssikvd(Listening):
@@ -99,7 +99,7 @@ class Ssikvd(Listening):
 
     name = "resp"
 
-    def __init__(self, program, folder, sectors):
+    def __init__(self, program, folder, sectors, **more):
         self.program = program
         # How many commits with writes were acknowledged.
         self.committed = 0
@@ -107,7 +107,7 @@ class Ssikvd(Listening):
         self.data = os.path.join(self.folder, "data")
         try:
             run([program, "create", "--data", self.data, "--sectors", str(sectors)])
-            super().__init__([program, "serve", "--data", self.data, "--listen", "127.0.0.1:0"])
+            super().__init__([program, "serve", "--data", self.data, "--listen", "127.0.0.1:0"], **more)
         except BaseException:
             shutil.rmtree(self.folder)
             raise
@@ -130,14 +130,15 @@ class Ssikvd(Listening):
 
 
 class Redis(Process):
-    """A Redis that keeps nothing on disk. It speaks the same frames, and answers PING alike."""
+    """A Redis that keeps nothing on disk, or syncs all that it writes into a folder. It speaks the same frames, and answers PING alike."""
 
     name = "redis"
 
-    def __init__(self, program):
+    def __init__(self, program, log_folder=None, **more):
         self.address = f"127.0.0.1:{free_port()}"
-        words = [program, "--port", self.address.rsplit(":", 1)[1], "--bind", "127.0.0.1", "--save", "", "--appendonly", "no", "--dir", tempfile.gettempdir()]
-        super().__init__(words, stdout=subprocess.DEVNULL)
+        words = [program, "--port", self.address.rsplit(":", 1)[1], "--bind", "127.0.0.1", "--save", "", "--dir", log_folder or tempfile.gettempdir()]
+        words += ["--appendonly", "yes", "--appendfsync", "always", "--auto-aof-rewrite-percentage", "0"] if log_folder else ["--appendonly", "no"]
+        super().__init__(words, stdout=subprocess.DEVNULL, **more)
         for _ in range(100):
             with contextlib.suppress(OSError), socket.create_connection(("127.0.0.1", int(self.address.rsplit(":", 1)[1])), 1):
                 return
@@ -199,8 +200,9 @@ class Postgres(Process):
 
     name = "postgres"
 
-    def __init__(self, programs, folder, keys, value_bytes):
+    def __init__(self, programs, folder, keys, value_bytes, environment=None):
         self.programs = programs
+        self.environment = environment
         self.folder = tempfile.mkdtemp(prefix="ssikvd-bench-pg-", dir=folder)
         self.as_user = {"cwd": self.folder}
         try:
@@ -233,7 +235,7 @@ class Postgres(Process):
         self.port = port
         with open(os.path.join(self.folder, "log"), "wb") as log:
             words = [self.program("postgres"), "-D", data, "-p", str(port)]
-            super().__init__(words, stop_signal=signal.SIGINT, stdout=log, stderr=log, **self.as_user)
+            super().__init__(words, stop_signal=signal.SIGINT, stdout=log, stderr=log, env=self.environment, **self.as_user)
         self.wait_until_up()
 
     def wait_until_up(self):

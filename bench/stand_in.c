@@ -1,21 +1,21 @@
 /* A stand-in for ssikvd with nothing behind it: one thread, level-triggered epoll, one read and one write for each batch. It answers the
- * load generator's requests out of one sorted array: no snapshots, no conflicts, no log, and a SET stands at once. It shows what a server
- * in C does that has the same commands and none of the promises.
+ * load generator's requests out of one sorted array: no snapshots, no conflicts, and a SET stands at once. It shows what a server in C does
+ * that has the same commands and none of the promises.
  *
- *   stand_in        listens on a free port of 127.0.0.1 and prints "listening ADDRESS"
+ *   stand_in [FILE]        listens on a free port of 127.0.0.1 and prints "listening ADDRESS"
+ *
+ * With a FILE, each COMMIT behind a SET makes the writes and syncs of a commit of one small key there. Nothing is read from it.
  */
 #define _GNU_SOURCE
+#include "two_syncs.h"
 #include <arpa/inet.h>
 #include <errno.h>
 #include <netinet/in.h>
 #include <netinet/tcp.h>
 #include <stdbool.h>
-#include <stdio.h>
-#include <stdlib.h>
 #include <string.h>
 #include <sys/epoll.h>
 #include <sys/socket.h>
-#include <unistd.h>
 
 #define EVENTS 129
 #define ROOM 131072
@@ -32,6 +32,7 @@ struct entry {
 
 struct connection {
     int socket;
+    bool has_written;
     size_t length;
     char in[ROOM];
 };
@@ -41,11 +42,8 @@ static size_t count, room;
 /* What a batch is answered. There is one thread, so one buffer serves all. */
 static char *out;
 static size_t out_length, out_room;
-
-static void stop(const char *what) {
-    perror(what);
-    exit(1);
-}
+static bool is_durable;
+static struct log log_of_commits;
 
 static void *grown(void *block, size_t bytes) {
     block = realloc(block, bytes);
@@ -126,10 +124,16 @@ static bool is_named(struct text part, const char *name) {
     return part.length == strlen(name) && !memcmp(part.at, name, part.length);
 }
 
-static void answer(const struct text *parts, size_t many) {
+static void commit(struct connection *connection) {
+    if (is_durable && connection->has_written) append_commit(&log_of_commits);
+    connection->has_written = false;
+}
+
+static void answer(struct connection *connection, const struct text *parts, size_t many) {
     if (is_named(parts[0], "PING")) {
         put_line("+PONG\r\n");
     } else if (is_named(parts[0], "COMMIT")) {
+        commit(connection);
         put_line(":0\r\n");
     } else if (is_named(parts[0], "GET") && many == 2) {
         size_t place = place_of(parts[1]);
@@ -138,7 +142,10 @@ static void answer(const struct text *parts, size_t many) {
     } else if (is_named(parts[0], "RANGE") && many == 4) {
         range(parts[1], parts[2], strtoul(parts[3].at, NULL, 10));
     } else {
-        if (is_named(parts[0], "SET") && many == 3) set(parts[1], parts[2]);
+        if (is_named(parts[0], "SET") && many == 3) {
+            set(parts[1], parts[2]);
+            connection->has_written = true;
+        }
         put_line("+OK\r\n");
     }
 }
@@ -153,7 +160,7 @@ static bool take_number(const char **from, const char *end, size_t *number) {
 }
 
 /* The length of the frame that begins here, which is answered; 0 where it is not whole. */
-static size_t serve_frame(const char *from, size_t length) {
+static size_t serve_frame(struct connection *connection, const char *from, size_t length) {
     const char *at = from, *end = from + length;
     struct text parts[PARTS_MAX];
     size_t many;
@@ -164,7 +171,7 @@ static size_t serve_frame(const char *from, size_t length) {
         parts[i].at = at;
         at += parts[i].length + 2;
     }
-    answer(parts, many);
+    answer(connection, parts, many);
     return (size_t)(at - from);
 }
 
@@ -188,7 +195,8 @@ static void serve(struct connection *connection) {
     }
     connection->length += (size_t)came;
     size_t at = 0, used;
-    while (at < connection->length && (used = serve_frame(connection->in + at, connection->length - at)) > 0) at += used;
+    while (at < connection->length && (used = serve_frame(connection, connection->in + at, connection->length - at)) > 0)
+        at += used;
     memmove(connection->in, connection->in + at, connection->length - at);
     connection->length -= at;
     send_answer(connection->socket);
@@ -216,12 +224,15 @@ static void accept_one(int poll, int listener) {
     setsockopt(socket, IPPROTO_TCP, TCP_NODELAY, &one, sizeof one);
     struct connection *connection = grown(NULL, sizeof *connection);
     connection->socket = socket;
+    connection->has_written = false;
     connection->length = 0;
     watch(poll, socket, connection);
 }
 
-int main(void) {
+int main(int count_of_words, char **words) {
     struct epoll_event events[EVENTS];
+    is_durable = count_of_words == 2;
+    if (is_durable) log_of_commits = open_log(words[1]);
     int poll = epoll_create1(0), listener = listen_somewhere();
     if (poll < 0) stop("epoll_create1");
     watch(poll, listener, NULL);

@@ -8,17 +8,20 @@ read by `ssikvd-salvage`.
 What `ssikvd-verify` says of changed and forged images is what `check` says of them, but for a closed gate, of which `check` can't know.
 
 Two runs of `ssikvd-ship` over one copy, with a run begun before each call of the other: one is refused, and the copy is what it was told to be.
+Two of `ssikvd-before`, with one begun before each command of the other: one file is made, and both end with 0.
 """
 import contextlib
+import itertools
 import json
 import os
 import random
 import shutil
 import subprocess
+import time
 
-from client import PROGRAM, Deviation, Server, Tally, create, expect, folder, is_long, is_refused, need, run, run_harness
+from client import PATIENCE, PROGRAM, Deviation, Server, Tally, check, create, expect, folder, is_long, is_refused, need, run, run_harness
 from model import SECTOR, log_image
-from operation_tools import DIST, ENVIRONMENT, commit, fill, loaded, log_of, map_of, simple_client, tool
+from operation_tools import DIST, ENVIRONMENT, commit, fill, loaded, log_of, map_of, tool
 
 SECTORS = 512
 COMMITS = 30
@@ -261,18 +264,75 @@ def judge_two(data, copy, others, number):
     expect(log_of(copy) == log_of(data), "the copy is another log")
 
 
+class Befores:
+    """Runs of `ssikvd-before` over one name, of which one begins before the n-th command of the other."""
+
+    COMMANDS = ("dirname", "realpath", "flock", "rm", "ssikvd", "ln", "sync", "ssikvd-verify", "dd")
+    STAND_IN = """#!/bin/sh
+echo >>{place}/calls
+if [ $(wc -l <{place}/calls) -eq {number} ]; then
+    {{ env PATH={path} SSIKVD={program} {script} {data} 64 >{place}/other 2>&1; echo $? >>{place}/other; }} 9<&- &
+    sleep 0.2
+fi
+exec {real} "$@"
+"""
+
+    def __init__(self, place, number, script):
+        self.place, self.script, self.data = place, script, os.path.join(place, "data", "data")
+        commands = os.path.join(place, "commands")
+        os.mkdir(commands)
+        os.makedirs(os.path.dirname(self.data), exist_ok=True)
+        path, program = ENVIRONMENT["PATH"], ENVIRONMENT["SSIKVD"]
+        for name in self.COMMANDS:
+            real = program if name == "ssikvd" else shutil.which(name, path=path)
+            with open(os.path.join(commands, name), "w", encoding="utf-8") as file:
+                file.write(self.STAND_IN.format(place=place, number=number, path=path, program=program, script=script, data=self.data, real=real))
+            os.chmod(file.name, 0o755)
+        open(os.path.join(place, "calls"), "w", encoding="ascii").close()
+        self.environment = {**ENVIRONMENT, "PATH": f"{commands}:{path}", "SSIKVD": os.path.join(commands, "ssikvd")}
+
+    def play(self):
+        """Both runs: what each answered, and how many commands the first one made. There is no second one where these were fewer."""
+        first, others = tool(self.script, self.data, "64", environment=self.environment), []
+        with open(os.path.join(self.place, "calls"), encoding="ascii") as file:
+            calls = len(file.readlines())
+        name, end = os.path.join(self.place, "other"), time.monotonic() + PATIENCE
+        while os.path.exists(name) and not others and time.monotonic() < end:
+            with open(name, encoding="utf-8") as file:
+                others = file.read().splitlines()[-1:]
+            time.sleep(0.01)
+        return first, others, calls
+
+
+def judge_befores(data, first, others, is_begun):
+    """Both found a store to start, and there is one whole file."""
+    expect(first == (0, "", "") and others == ["0"] * is_begun, f"they answered {first} and {others}")
+    found = check(data)
+    expect(found == (0, 0, 2, 64) and os.listdir(os.path.dirname(data)) == ["data"], f"they left {found}, {os.listdir(os.path.dirname(data))}")
+
+
+def play_befores(place, number, script, is_first):
+    """Two runs of this script, one begun before the n-th command of the other. Were there so many commands?"""
+    befores = Befores(place, number, script)
+    if not is_first:
+        create(befores.data, 64)
+    first, others, calls = befores.play()
+    judge_befores(befores.data, first, others, number <= calls)
+    return number <= calls
+
+
 def two_befores(tally):
-    """A second `ssikvd-before` waits for the first."""
-    with folder() as place, tally.run("a second ssikvd-before waits"):
-        data = os.path.join(place, "data")
-        held = subprocess.Popen(["flock", place, "sleep", "1"])
-        found = tool("ssikvd-before", data, "64")
-        expect(found[0] == 0 and held.poll() is not None, f"it didn't wait: {found}")
-        held.wait()
+    for is_first in (True, False):
+        for number in itertools.count(1):
+            goes_on = False
+            with folder() as place, tally.run(f"another ssikvd-before before command {number} of {'a first start' if is_first else 'a start'}"):
+                goes_on = play_befores(place, number, os.path.join(DIST, "ssikvd-before"), is_first)
+            if not goes_on:
+                break
 
 
 def show_that_they_fail(tally):
-    """A ship without its lock, and a verifier that reads no digest or doesn't look behind, are reported."""
+    """A ship and a start without their locks are reported."""
     with folder() as place:
         for name in ("ssikvd-verify", "ssikvd-used", "ssikvd-ship"):
             shutil.copy(os.path.join(DIST, name), place)
@@ -292,6 +352,18 @@ def show_that_they_fail(tally):
                     ship.ship_file(data, held)
             answers = [(other.returncode, other.stdout, other.stderr) for other in others]
             expect(is_refused(lambda: judge_two(data, copy, answers, 4)), "it isn't reported")
+        with open(os.path.join(DIST, "ssikvd-before"), encoding="utf-8") as file:
+            text = file.read().replace("flock -w 60 9", "true")
+        script = os.path.join(place, "ssikvd-before")
+        with open(script, "w", encoding="utf-8") as file:
+            file.write(text)
+        os.chmod(script, 0o755)
+        found = []
+        for number in range(1, len(Befores.COMMANDS)):
+            with folder() as own:
+                found.append(is_refused(lambda place=own, number=number: play_befores(place, number, script, True)))
+        with tally.run("a start without its lock is reported"):
+            expect(any(found), "it isn't reported")
 
 
 def main():

@@ -1,22 +1,32 @@
-"""What docs/AUDIT.md names stands where it says: each promise in the README, each clause, each definition with its length, each wrong body.
+"""What docs/PROOFS.md names stands where it says: each clause, each definition with its length, each wrong body, each row of its tables.
+
+`audit.py --write` writes the lengths of the definitions into the page, and how many there are.
+
+A promise is a section that begins with lines behind `> `. Behind them stand what carries it (functions with their clauses and files), its definitions
+(`crate/File`, and of each its name, the lines of its declaration without comments, and what it says), the wrong bodies that are refused
+(`crate/name`, whose text to be replaced stands in the file that it names), and what passes. A table of a layer has for each row functions, each with
+clauses behind a colon, and files of `specs` with names in parentheses. The promise itself is that of the README.
 
 No clause of the crates has more than 140 columns, or more than two lines of them: what is longer has a name.
-
-A promise is a block of lines behind `> `, whose words stand in the README. Behind it stands what carries it: functions with their clauses and
-files. A definition's lines are those of its declaration, without the comment before it. A wrong body's text to be replaced stands in the file that
-it names.
 """
+import argparse
+import functools
 import glob
 import os
 import re
+from pathlib import Path
 
 from client import Tally, expect, run_harness
 
 TOP = os.path.normpath(os.path.join(os.path.dirname(os.path.abspath(__file__)), ".."))
+PAGE = "docs/PROOFS.md"
 CLAUSE = r"`(?:\w+::)?(\w+)`, (?:clause `(\w+)`|its clause), in `(crates/\S+\.rt)`"    # a clause that is alone may have no name
-DEFINITION = r"^\| `(\w+)` \| (\d+) \| `(crates/\S+\.antt)` \|"
+FILE_OF_DEFINITIONS = r"^- `(\w+)/(\w+)`: (`\w+` \(\d+\),.*(?:\n  .*)*)"
+DEFINITION = r"`(\w+)`\s+\((\d+)\)"
+IN_AN_HOUR = r"Up to \"(.*)\" they are (\d+) definitions of (\d+) lines"
+WITHOUT_CLAUSE = "This needs no clause"
 CLAUSE_MAX = 140
-WRONG_BODY = r"\]\(\.\./((?:crates|wrong_bodies)/\S+\.edit)\)"
+NAMED = r"`([a-z]\w*)/(\w+)`"
 
 
 def text_of(name):
@@ -45,37 +55,158 @@ def length_of(definition, name):
     return None
 
 
+# ---- The page
+
+def sections(text):
+    """The sections of the page, each its head and what stands below it."""
+    for section in re.split(r"^### ", text, flags=re.M)[1:]:
+        head, _, below = section.partition("\n")
+        yield head, re.split(r"^## ", below, flags=re.M)[0]
+
+
+def promises(text):
+    return [(head, below) for head, below in sections(text) if below.lstrip().startswith("> ")]
+
+
+def layers(text):
+    return [(head, below) for head, below in sections(text.partition("## Every clause")[2]) if re.search(r"^\| What holds ", below, re.M)]
+
+
+def definitions_in(text):
+    """The definitions that a promise names, in order: each with its lines and its file."""
+    for crate, file, those in re.findall(FILE_OF_DEFINITIONS, text, re.M):
+        for name, lines in re.findall(DEFINITION, those):
+            yield name, int(lines), f"crates/{crate}/specs/{file}.antt"
+
+
+# ---- What a promise names
+
 def clauses(tally, text):
     found = re.findall(CLAUSE, text)
     for function, clause, name in found:
         with tally.run(f"{function}, clause {clause}"):
             head = re.search(rf"\bfn {function}\b.*?\n *\{{", text_of(name), re.S)
             expect(head, f"{name} has no function {function}")
-            expect(re.search(rf"^ *ensures {clause} *\{{", head[0], re.M), f"{name}: {function} ensures no {clause}")
+            expect(re.search(rf"^ *ensures\*? {clause} *\{{", head[0], re.M), f"{name}: {function} ensures no {clause}")
     return len(found)
 
 
 def definitions(tally, text):
-    found = re.findall(DEFINITION, text, re.M)
+    found = list(definitions_in(text))
     for definition, lines, name in found:
         with tally.run(f"{definition} in {name}"):
             length = length_of(definition, name)
             expect(length, f"{name} declares no {definition}")
-            expect(length == int(lines), f"{definition} has {length} lines, and {lines} are told")
+            expect(length == lines, f"{definition} has {length} lines, and the page says {lines}")
     return len(found)
+
+
+def edit_of(crate, name):
+    """The file of a wrong body, or None."""
+    places = (os.path.join("crates", crate, "must-fail", f"{name}.edit"), os.path.join("wrong_bodies", crate, f"{name}.edit"))
+    return next((place for place in places if os.path.exists(os.path.join(TOP, place))), None)
+
+
+def applies(crate, edit):
+    lines = text_of(edit).splitlines()
+    file, old = lines[0].removeprefix("file: "), lines[1].removeprefix("old:").removeprefix(" ")
+    expect(old in text_of(os.path.join("crates", crate, file)), f"crates/{crate}/{file} has no {old}")
 
 
 def wrong_bodies(tally, text):
-    found = re.findall(WRONG_BODY, text)
-    for name in found:
-        with tally.run(name):
-            expect(os.path.exists(os.path.join(TOP, name)), "it isn't there")
-            crate = os.path.join("crates", name.split("/")[1])
-            edit = text_of(name).splitlines()
-            file, old = edit[0].removeprefix("file: "), edit[1].removeprefix("old:").removeprefix(" ")
-            expect(old in text_of(os.path.join(crate, file)), f"{crate}/{file} has no {old}")
-    return len(found)
+    """The names of a crate's files: of wrong bodies, or of definitions."""
+    count = 0
+    for crate, name in re.findall(NAMED, text):
+        if os.path.isdir(os.path.join(TOP, "crates", crate)) and not os.path.exists(os.path.join(TOP, "crates", crate, "specs", f"{name}.antt")):
+            with tally.run(f"{crate}/{name}"):
+                edit = edit_of(crate, name)
+                expect(edit, "it isn't there")
+                applies(crate, edit)
+            count += 1
+    return count
 
+
+def promise(tally, head, text):
+    counts = [check(tally, text) for check in (clauses, definitions, wrong_bodies)]
+    with tally.run(head):
+        enough = counts[2] if WITHOUT_CLAUSE in text else all(counts)
+        expect(enough, f"it names {counts[0]} clauses, {counts[1]} definitions, {counts[2]} wrong bodies")
+        expect(re.search(r"^Passes: ", text, re.M), "it doesn't say what passes")
+
+
+# ---- The tables of the layers
+
+@functools.cache
+def code_of(crate):
+    return "\n".join(Path(name).read_text(encoding="utf-8") for name in sorted(glob.glob(os.path.join(TOP, "crates", crate, "src", "**", "*.rt"), recursive=True)))
+
+
+@functools.cache
+def specs_of(crate):
+    """The files of a crate's definitions, by name."""
+    return {file.stem: file for file in sorted(Path(TOP, "crates", crate, "specs").glob("*.antt"))}
+
+
+def declares(path, name):
+    """Does a file of definitions declare or define this name, or a constructor or field of this name?"""
+    return re.search(rf"^ *(?:(?:abbrev|unfoldable|pub|record|data) )*{re.escape(name)}(?![\w'-])", path.read_text(encoding="utf-8"), re.M)
+
+
+def expanded(token):
+    """`A::{b, c}` stands for two functions."""
+    owner, _, several = token.rpartition("::") if "{" not in token else token.partition("::")
+    return [(owner, name) for name in several.strip("{}").split(", ")]
+
+
+def heads_of(crates, function):
+    return [head for crate in crates for head in re.findall(rf"\bfn {function}\b.*?(?:\n *\{{|;\n)", code_of(crate), re.S)]
+
+
+def is_known(crates, name):
+    """Is it a function or a type of the code, or a definition?"""
+    code = "\n".join(code_of(crate) for crate in crates)
+    return re.search(rf"\b(?:fn|struct|enum|trait|const|type) {name}\b", code) or any(declares(path, name) for crate in crates for path in specs_of(crate).values())
+
+
+def carried(crates, cell):
+    """Each group of functions ensures each of the clauses behind its colon; those of a type alone are its invariants and ghost fields."""
+    for group in cell.split("; "):
+        names, _, those = group.partition("`: ")
+        functions = [pair for token in re.findall(r"`([^`]+)`", f"{names}`" if those else names) for pair in expanded(token)]
+        for owner, name in functions:
+            expect(is_known(crates, name), f"there is no {name}")
+            expect(not owner or is_known(crates, owner), f"there is no {owner}")
+        fields = [name for part in re.findall(r"\(([^)]*)\)", those) for name in re.findall(r"`(\w+)`", part)]
+        for field in fields:
+            expect(any(declares(path, field) for crate in crates for path in specs_of(crate).values()), f"no definition has a field {field}")
+        heads = [head for _, name in functions for head in heads_of(crates, name)]
+        kind = r"ensures\*?" if heads else "(?:ghost|invariant|pub ghost)"
+        texts = heads or [code_of(crate) for crate in crates]
+        for clause in re.findall(r"`(\w+)`", re.sub(r"\([^)]*\)", "", those)):
+            expect(any(re.search(rf"\b{kind} {clause}\b", text) for text in texts), f"{names.strip('`')} ensures no {clause}")
+
+
+def defined(crates, cell):
+    for group in filter(None, cell.split("; ")):
+        crate, _, those = group.partition("`: ")
+        own = [crate.strip("`")] if those else crates
+        for outer, inner in re.findall(r"`(\w+)`(?: \(([^)]*)\))?", those or group):
+            files = [specs_of(one)[outer] for one in own if outer in specs_of(one)]
+            expect(files or any(declares(path, outer) for one in own for path in specs_of(one).values()), f"{own} have no {outer}")
+            for name in re.findall(r"`(\w+)`", inner):
+                expect(any(declares(path, name) for path in files), f"{outer} has no {name}")
+
+
+def layer(tally, head, text):
+    crates = re.findall(r"`(\w+)`", head)
+    rows = [[cell.strip() for cell in line.strip("|").split("|")] for line in text.splitlines() if line.startswith("| ")][1:]
+    for what, functions, files in rows:
+        with tally.run(f"{head}: {what}"):
+            carried(crates, functions)
+            defined(crates, files)
+
+
+# ---- The clauses of the crates
 
 def clauses_of(text):
     """The clauses of a file, each as its lines, with the number of the first."""
@@ -95,18 +226,52 @@ def widths(tally):
             expect(not wide, f"too wide: line {', '.join(wide)}")
 
 
+# ---- All
+
+def in_an_hour(text):
+    """The last promise that an hour is told of, and the definitions up to it with their lines."""
+    last = re.search(IN_AN_HOUR, words(text))[1]
+    found = []
+    for head, below in promises(text):
+        found += [lines for _, lines, _ in definitions_in(below)]
+        if head == last:
+            return last, len(found), sum(found)
+    return last, 0, 0
+
+
+def written(text):
+    """The page with the lengths as they are."""
+    def one(crate, file, those):
+        return re.sub(DEFINITION, lambda it: it[0].replace(f"({it[2]})", f"({length_of(it[1], f'crates/{crate}/specs/{file}.antt')})"), those)
+    text = re.sub(FILE_OF_DEFINITIONS, lambda it: f"- `{it[1]}/{it[2]}`: {one(*it.groups())}", text, flags=re.M)
+    _, number, lines = in_an_hour(text)
+    return re.sub(r"they are \d+ definitions of \d+ lines", f"they are {number} definitions of {lines} lines", text)
+
+
 def main():
+    parser = argparse.ArgumentParser(description=__doc__, formatter_class=argparse.RawDescriptionHelpFormatter)
+    parser.add_argument("--write", action="store_true", help="write the lengths of the definitions into the page")
+    parser.add_argument("form", nargs="?", choices=("quick", "long"), help="no matter here")
+    text = text_of(PAGE)
+    if parser.parse_args().write:
+        Path(TOP, PAGE).write_text(written(text), encoding="utf-8")
+        return 0
     tally = Tally("audit")
     widths(tally)
-    readme = words(text_of("README.md").replace("\n- ", "\n"))
-    for promise in re.split(r"^## ", text_of("docs/AUDIT.md"), flags=re.M)[1:]:
-        title = promise.splitlines()[0]
-        with tally.run(title):
-            said = words(" ".join(line[2:] for line in promise.splitlines() if line.startswith("> ")))
-            expect(said and said in readme, "what it promises doesn't stand in the README")
-        counts = [check(tally, promise) for check in (clauses, definitions, wrong_bodies)]
-        with tally.run(title):
-            expect(all(counts), f"it names {counts[0]} clauses, {counts[1]} definitions, {counts[2]} wrong bodies")
+    with tally.run("the promise of the README"):
+        headline = words("".join(line[2:] + " " for line in text.partition("\n## ")[0].splitlines() if line.startswith("> ")))
+        expect(headline and headline in words(text_of("README.md").replace("\n> ", "\n")), "it isn't that of the page")
+    with tally.run("the definitions of an hour"):
+        last, number, lines = in_an_hour(text)
+        expect(f"Up to \"{last}\" they are {number} definitions of {lines} lines" in words(text), f"they are {number} of {lines} lines")
+    wrong_bodies(tally, text.partition("## The promises")[0])
+    for head, below in promises(text):
+        promise(tally, head, below)
+    found = layers(text)
+    with tally.run("the layers"):
+        expect(len(found) > 10, f"there are {len(found)} tables of layers")
+    for head, below in found:
+        layer(tally, head, below)
     return 0 if tally.end() else 1
 
 

@@ -8,6 +8,7 @@ down by the library of trace.c, and a server's first line is read from a pipe, o
 import errno
 import os
 import pty
+import re
 import shutil
 import socket
 import subprocess
@@ -20,6 +21,8 @@ from model import (
 from rows import EXAMPLES, example_files, request_of, shown
 from tracing import Trace, printed
 
+with open(os.path.join(HERE, "../crates/command_line/src/commands.rt"), encoding="utf-8") as source:
+    VERSION = re.search(r'VERSION: &str = "(.*)"', source.read())[1]
 MORE = "\nFor more information, try '--help'.\n"
 OF_PROGRAM = "\nUsage: ssikvd <COMMAND>\n"
 OF_CREATE = "\nUsage: ssikvd create --data <FILE> --sectors <N>\n"
@@ -90,7 +93,7 @@ HELP_OF_COMPACT = "Copies the map of a data file into a new data file\n" + OF_CO
 Options:
       --from <FILE>  The file, which is only read
       --to <FILE>    The new file, which must not exist
-      --sectors <N>  At least how many sectors of 512 bytes, 2 to 4194304 [default: as many as the map needs]
+      --sectors <N>  At least how many sectors of 512 bytes, 2 to 4194304 [default: as many as the old file, or as the map needs if that is more]
   -h, --help         Print help
 
 Stop the server first: what it commits meanwhile may be missing from the new file.
@@ -110,7 +113,7 @@ Example:
   printf '1 BEGIN\\n1 SET a 22\\n1 COMMIT\\n' | ssikvd play
 """
 HELPS = {
-    "--version": "ssikvd 0.1.0\n", "-V": "ssikvd 0.1.0\n", "help": HELP, "--help": HELP, "-h": HELP,
+    "--version": f"ssikvd {VERSION}\n", "-V": f"ssikvd {VERSION}\n", "help": HELP, "--help": HELP, "-h": HELP,
     **{form.format(command): text
        for command, text in (("create", HELP_OF_CREATE), ("serve", HELP_OF_SERVE), ("check", HELP_OF_CHECK), ("compact", HELP_OF_COMPACT),
                              ("play", HELP_OF_PLAY))

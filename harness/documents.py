@@ -1,14 +1,16 @@
 """The documents: their commands run from a fresh copy, and how they are written.
 
 Commands stand in blocks of ```console, each behind `$ `, with what it prints on the lines below it. Those of a document are typed into one
-shell, which begins at the top of a copy of the repository's files; those of CLIENTS.md and OPERATIONS.md first start its server.
-Port 7777 is another, free one. `...` stands for anything. What isn't run is listed with the reason. `long` runs also what needs `rt` for a
-minute.
+shell, which begins at the top of a copy of the repository's files; those of CLIENTS.md and OPERATIONS.md first start its server. A server that keeps a
+terminal of its own runs in the background, and `^C` ends it. Port 7777 is another, free one. `...` stands for anything. What isn't run is listed with
+the reason. `long` runs also what needs `rt` for a minute.
 
 Then: no table cell over 120 characters and no sentence over 40 words, no link that leads nowhere, pictures as docs/pictures/draw.py draws
-them, with the figures of docs/PERFORMANCE.md, and the crates of docs/ARCHITECTURE.md as crates.txt has them. The commands and refusals of
-docs/PROTOCOL.md, docs/CLIENTS.md and man/ssikvd.7 are those of the definitions, and the tables of docs/LOG_FORMAT.md those of the model's
-logs. Of each block of ```ini and ```python: a unit that `systemd-analyze verify` takes, Python that is Python.
+them, with the figures of docs/PERFORMANCE.md, of which README.md has some, the table of sizes of docs/OPERATIONS.md as bench/sizing.py computes it,
+and the crates of docs/ARCHITECTURE.md as crates.txt has them. The
+commands and refusals of docs/PROTOCOL.md, docs/CLIENTS.md and man/ssikvd.7 are those of the definitions, and the tables of docs/LOG_FORMAT.md those of
+the model's logs. docs/TESTING.md has each harness of run.sh. Numbers of the code are its constants. Documents that are installed link to none that isn't.
+Of each block of ```ini and ```python: a unit that `systemd-analyze verify` takes, Python that is Python.
 """
 import glob
 import os
@@ -67,7 +69,7 @@ BEFORE = {"docs/CLIENTS.md": AS_README, "docs/OPERATIONS.md": AS_README}
 
 def documents():
     found = sorted(name for name in os.listdir(TOP) if name.endswith(".md")) + ["harness/README.md"]
-    found += sorted("docs/" + name for name in os.listdir(os.path.join(TOP, "docs")) if name.endswith(".md"))
+    found += sorted("docs/" + name for name in os.listdir(os.path.join(TOP, "docs")) if name.endswith(".md") and name != "DEFINITIONS.md")
     return found + sorted(os.path.relpath(name, TOP) for pattern in ("*.md", "*/*.md") for name in glob.glob(os.path.join(TOP, "clients", pattern)))
 
 
@@ -88,11 +90,18 @@ def commands(name):
     found = []
     for block in blocks(name, "console"):
         for line in block.splitlines():
-            if line.startswith("$ "):
-                found.append((line[2:], []))
+            if line.startswith("$ ") or line == "^C":
+                found.append((line.removeprefix("$ "), []))
             else:
                 found[-1][1].append(line)
     return found
+
+
+def typed(command):
+    """The command as a shell takes it that has one terminal alone."""
+    if command == "^C":
+        return "kill $!; wait $! 2> /dev/null; true"
+    return f"{command} &" if re.match(r"ssikvd serve .*[^&]$", command) else command
 
 
 def copy_of(place, crates=None):
@@ -205,7 +214,7 @@ def run_document(tally, name, crates, left_out):
                         continue
                     with tally.run(f"{name}: {command}"):
                         due = [line.replace(PORT, port) for line in due]
-                        lines, status = shell.type(command.replace(PORT, port), len(due), 300 if command.startswith("rt") else PATIENCE)
+                        lines, status = shell.type(typed(command).replace(PORT, port), len(due), 300 if command.startswith("rt") else PATIENCE)
                         expect(fits(lines, due), f"{command} printed {lines}, due is {due}")
                         expect(status == 0, f"{command} ended with {status}")
             finally:
@@ -327,12 +336,89 @@ def pictures(tally):
         place = os.path.join(TOP, "docs", "pauses")
         words = [sys.executable, "-B", os.path.join(TOP, "bench", "pauses.py"), "--table", *(os.path.join(place, name) for name in os.listdir(place))]
         expect_shown(subprocess.run(words, capture_output=True, text=True))
+    with tally.run("the sizing"):
+        words = [sys.executable, "-B", os.path.join(TOP, "bench", "sizing.py")]
+        expect_shown(subprocess.run(words, capture_output=True, text=True), "docs/OPERATIONS.md")
 
 
-def expect_shown(report):
-    """What a report printed stands in docs/PERFORMANCE.md, line by line."""
-    missing = [line for line in report.stdout.splitlines() if line not in text_of("docs/PERFORMANCE.md").splitlines()]
-    expect(report.returncode == 0 and not missing, f"PERFORMANCE.md has not {missing[:1]} {report.stderr}")
+# Constants of the code, each with how documents say it: `#` stands for the number.
+CONSTANTS = (
+    ("versions/src/reclaiming.rt", "LISTS_A_STEP", "looks at # (?:of the )?lists|(?:collects|looks at) what # commits"),
+    ("merging_runs/src/runs.rt", "GIVEN_BACK_MAX", "frees # written keys|freed, # keys at each end|does # of (?:the|that) work"),
+    ("merging_runs/src/runs.rt", "MOVES_EACH", "by # (?:keys |steps )?for each (?:key|step|written key)"),
+    ("merging_runs/src/runs.rt", "MOVES_MORE", "for each (?:key that it wrote|written key|step of its marks) and #"),
+    ("pivot_check/src/merges.rt", "MERGED_MAX", "merged, up to # keys|(?:of|has) # keys at most"),
+    ("stream_driver/src/driving.rt", "REQUESTS_MAX", "(?:up to|after) # requests|# requests at most"),
+    ("stream_driver/src/driving.rt", "READ_MAX", "reads at most # bytes"),
+    ("stream_driver/src/held_bytes.rt", "HELD_MAX", "stream holds up to # bytes|a stream of #"),
+    ("stream_driver/src/buffered.rt", "SHARE_MAX", "takes # bytes"),
+    ("sessions/src/events.rt", "OUTPUT_KEPT", "# for longer replies|longer replies has room for #|Up to # bytes of a longer reply"),
+    ("sessions/src/events.rt", "SESSIONS_MAX", "# sessions;|# connections, [0-9]+ open"),
+    ("event_loop/src/lingering.rt", "LINGERING_MAX", "newest # linger|At most # linger"),
+    ("event_loop/src/lingering.rt", "LINGERING_BYTES_A_TURN", "dropped, # bytes a turn"),
+    ("engine/src/engine.rt", "OPEN_MAX", "# open transactions"),
+    ("marks/src/marks.rt", "MARKS_MAX", "# (?:marks in|reads) a transaction"),
+    ("write_buffer/src/buffer.rt", "WRITES_MAX", "# (?:written keys and|writes and)"),
+    ("model/src/keys.rt", "KEY_MAX", "keys of # bytes, values of 16|Keys of 1 to # bytes"),
+    ("model/src/values.rt", "VALUE_MAX", "value over # bytes|value has # bytes at most|bytes and values of up to #|of 256 bytes, values of #"),
+    ("resp/src/writing.rt", "BRIEF_MAX", "an output of #|value or pairs has # bytes"),
+)
+# Figures of README.md, each with the row of docs/PERFORMANCE.md that has it, and what a unit of the one is in the other.
+FIGURES = (
+    (r"([\d,]+) transactions of four reads a second", r"^\| 6 \| PostgreSQL SERIALIZABLE \| ([\d,]+)", 1),
+    (r"([\d,]+) durable commits", r"^\| 11 \| the device, two syncs \| ([\d,]+)", 1),
+    (r"([\d,]+) PINGs", r"^\| 2 \| C epoll echo \| ([\d,]+)", 1),
+    (r"a million keys opened in ([\d.]+) s", r"^\| opening a log of N keys, ms .* ([\d,]+) \|$", 1000),
+)
+
+
+def figures(tally):
+    """The figures of README.md are those of docs/PERFORMANCE.md, within three of a hundred."""
+    for said, row, unit in FIGURES:
+        with tally.run(f"README.md: {said}"):
+            first, last = (re.findall(pattern, text_of(name), re.M) for name, pattern in (("README.md", said), ("docs/PERFORMANCE.md", row)))
+            expect(first and last, "it isn't there")
+            said, due = (float(found[-1].replace(",", "")) for found in (first, last))
+            expect(abs(said * unit - due) <= 0.03 * due, f"README.md has {said}, and docs/PERFORMANCE.md {due}")
+
+
+def constants(tally):
+    """What documents say of a constant of the code is its value."""
+    whole = {name: " ".join(text_of(name).split()) for name in documents()}
+    for path, constant, said in CONSTANTS:
+        with tally.run(f"{constant} of {path}"):
+            value = re.search(rf"\bconst {constant}: \w+ = ([\d_]+);", text_of(f"crates/{path}"))
+            expect(value, "it isn't there")
+            pattern, due = said.replace("#", r"([\d,]*\d)"), value[1].replace("_", "")
+            found = [(name, number) for name, text in whole.items() for numbers in re.findall(pattern, text, re.I)
+                     for number in ([numbers] if isinstance(numbers, str) else numbers) if number]
+            expect(found, f"no document says '{said}'")
+            wrong = [f"{name} has {number}" for name, number in found if number.replace(",", "") != due]
+            expect(not wrong, f"it is {due}: {'; '.join(wrong)}")
+
+
+def installed(tally):
+    """No link of a document that is installed leads to a file that isn't."""
+    if not shutil.which("make"):
+        print("  which files are installed isn't known, for want of make")
+        return
+    ran = subprocess.run(["make", "-s", "-C", TOP, "--eval=notes: ; @echo $(NOTES)", "notes"], capture_output=True, text=True)
+    names = set(ran.stdout.split())
+    folders = {os.path.dirname(name) for name in names}
+    with tally.run("the installed documents"):
+        expect({"README.md", "docs/PROOFS.md"} <= names, f"make installs {len(names)} files: {ran.stderr}")
+    for name in sorted(name for name in names if name.endswith(".md")):
+        with tally.run(f"the links of {name}, installed"):
+            links = [link.partition("#")[0] for link in re.findall(r"\]\(([^)]+)\)", re.sub(r"`[^`]*`", "", text_of(name)))]
+            targets = [os.path.normpath(os.path.join(os.path.dirname(name), link)) for link in links if link]
+            gone = [target for target in targets if target not in names and not any(f"{folder}/".startswith(f"{target}/") for folder in folders)]
+            expect(not gone, f"{gone[:3]} aren't installed")
+
+
+def expect_shown(report, name="docs/PERFORMANCE.md"):
+    """What a report printed stands in a document, line by line."""
+    missing = [line for line in report.stdout.splitlines() if line not in text_of(name).splitlines()]
+    expect(report.returncode == 0 and report.stdout and not missing, f"{name} has not {missing[:1]} {report.stderr}")
 
 
 def layers(tally):
@@ -350,10 +436,13 @@ def layers(tally):
 def sealed(tally):
     """The lemmas that would refute the premises on files and sockets are cited where a call is made of one, and nowhere else."""
     for crate, user, lemmas, calls in (
-        ("file_calls", "sector", "error|read|write|sync|make|open|open_to_read|length|settle_name|drop_copies",
-            [f"counted/CountedFile/{name}" for name in ("read", "write", "write_zeros", "sync", "sync_all")]
+        ("file_calls", "sector", "error|read|write|sync|close|make|open|open_to_read|length|settle_name|drop_copies",
+            [f"counted/CountedFile/{name}" for name in ("read", "write", "write_zeros", "sync", "sync_all", "close")]
             + [f"opened/OpenedFile/{name}" for name in ("make", "open", "open_to_read", "length", "settle_name", "drop_copies")]),
-        ("socket_calls", "event_loop", "receive|send|send_at_once", [f"counted/CountedSocket/{name}" for name in ("read", "write", "send_at_once")]),
+        ("socket_calls", "event_loop",
+            "fault|receive|send|send_at_once|ask_whether_there|register|reregister|end_writing|wait|listen|accepts_told|address",
+            [f"counted/CountedSocket/{name}" for name in ("read", "write", "send_at_once", "ask_whether_there", "register", "reregister", "end_writing")]
+            + [f"listening/ListeningSocket/{name}" for name in ("bind", "register", "address")] + ["polled/CountedPoll/wait"]),
     ):
         with tally.run(f"the lemmas of HappenedCalls in {crate}"):
             users = [line.partition(":")[0] for line in text_of("crates.txt").splitlines() if re.search(rf":.*\b{crate}\b", line)]
@@ -371,6 +460,18 @@ def sealed(tally):
         expect(made == ["make", "open", "open_to_read"], f"{made} give an opened file")
         expect(not re.search(r"derive\([^)]*(?:Clone|Copy)", code) and "impl Clone" not in code, "a file can be copied")
         expect(len(re.findall(r"\bOpenedFile \{\n", code)) == 3 + 2, "an opened file is made elsewhere")
+
+
+def tests(tally):
+    """Each harness that run.sh runs stands in the table of docs/TESTING.md, and so do the numbers of wrong bodies."""
+    page = text_of("docs/TESTING.md")
+    lists = re.findall(r'names="([^"]*)"|run_all ([a-z ]+)$', text_of("harness/run.sh"), re.M)
+    for name in sorted({name for several, few in lists for name in (several + few).split()}):
+        with tally.run(f"{name} in docs/TESTING.md"):
+            expect(f"`{name}.py" in page, "the table of what could go wrong doesn't have it")
+    with tally.run("the wrong bodies of each crate"):
+        printed = subprocess.run([os.path.join(TOP, "wrong_bodies", "run.sh"), "--table"], capture_output=True, text=True).stdout
+        expect(printed and printed in page, "docs/TESTING.md has not what `wrong_bodies/run.sh --table` prints: `wrong_bodies/run.sh --write` writes it")
 
 
 def names(tally):
@@ -435,7 +536,7 @@ def log_format(tally):
 def main():
     need(PROGRAM)
     tally = Tally("documents")
-    for part in (run_commands, worked, other_blocks, style, links, pictures, layers, sealed, names, log_format):
+    for part in (run_commands, worked, other_blocks, style, links, pictures, figures, constants, installed, layers, sealed, tests, names, log_format):
         part(tally)
     return 0 if tally.end() else 1
 

@@ -13,7 +13,6 @@ import re
 import select
 import shutil
 import subprocess
-import sys
 import time
 
 from client import PATIENCE, PROGRAM, Server, Tally, expect, folder, free_port, is_long, need, run, run_harness
@@ -378,10 +377,10 @@ def packed(tally, root):
 def versions(tally):
     with tally.run("the version"):
         version = run(["--version"])[1].decode().split()[1]
-        due = {"CHANGELOG.md": r"^## \[(\d.*?)\]", "debian/changelog": r"^ssikvd \(([\d.]+)", "docs/INSTALL.md": r"ssikvd.(\d+\.\d+\.\d+)"}
-        for name, form in due.items():
+        newest = version if "-" not in version else "Unreleased"    # between releases the version ends with -dev
+        for name, form, due in (("CHANGELOG.md", r"^## \[(.*?)\]", newest), ("debian/changelog", r"^ssikvd \((.*?)\)", version.replace("-", "~"))):
             found = re.findall(form, text_of(name), re.M)
-            expect(found and found[0] == version and (name != "docs/INSTALL.md" or set(found) == {version}), f"{name} has {found}, not {version}")
+            expect(found and found[0] == due, f"{name} has {found}, not {due}")
 
 
 # The Debian package
@@ -423,6 +422,17 @@ def without_program(tally, copy):
         expect(ran.returncode and "there is no program" in ran.stderr, f"it ended with {ran.returncode}: {ran.stderr[-300:]}")
 
 
+def built_package(copy):
+    """Builds the package in a copy of the repository: its file, which lies beside the copy."""
+    os.makedirs(os.path.join(copy, "crates/ssikvd/out"), exist_ok=True)
+    shutil.copy(BINARY, os.path.join(copy, "crates/ssikvd/out/ssikvd"))
+    done(["dpkg-buildpackage", "-us", "-uc", "-b"], 600, cwd=copy, env=DEBIAN_PATH)
+    place = os.path.dirname(copy)
+    found = [name for name in os.listdir(place) if name.endswith(".deb")]
+    expect(len(found) == 1, f"{found} were built")
+    return os.path.join(place, found[0])
+
+
 def package(tally):
     """Builds the package, looks at it, and installs, tries, removes and purges it over a copy of the system."""
     if left_out("the Debian package", "dpkg-buildpackage") or left_out("the Debian package", "dh"):
@@ -430,16 +440,12 @@ def package(tally):
     with folder() as place:
         copy = copy_of_top(place, "source")
         without_program(tally, copy)
-        os.makedirs(os.path.join(copy, "crates/ssikvd/out"), exist_ok=True)
-        shutil.copy(BINARY, os.path.join(copy, "crates/ssikvd/out/ssikvd"))
+        deb = None
         with tally.run("dpkg-buildpackage"):
-            done(["dpkg-buildpackage", "-us", "-uc", "-b"], 300, cwd=copy, env=DEBIAN_PATH)
-        built = sorted(name for name in os.listdir(place) if name.endswith((".deb", ".changes")))
-        with tally.run("one package"):
-            expect(len(built) == 2, f"{built} were built")
-        if len(built) != 2:
+            deb = built_package(copy)
+        if not deb:
             return
-        changes, deb = (os.path.join(place, name) for name in built)
+        changes = deb.removesuffix(".deb") + ".changes"
         if not left_out("lintian", "lintian"):
             with tally.run("lintian"):
                 said = done(["lintian", "--allow-root", "--fail-on", "error,warning", changes], 300, env=DEBIAN_PATH)
@@ -448,6 +454,65 @@ def package(tally):
             done(["dpkg-deb", "-x", deb, os.path.join(place, "unpacked")])
             expect(filecmp.cmp(os.path.join(place, "unpacked/usr/bin/ssikvd"), BINARY, False), "its bytes were changed")
         install_package(tally, place, deb, os.path.join(copy, "debian/tests/quick-start"))
+
+
+def committed(copy, *tags):
+    """Makes a repository of a copy, with one commit of these tags."""
+    git = ["git", "-C", copy, "-c", "user.name=harness", "-c", "user.email=harness@localhost"]
+    for words in (["init", "-q"], ["add", "-A"], ["commit", "-q", "-m", "all"], *(["tag", tag] for tag in tags)):
+        done(git + words)
+
+
+def refused_releases(tally):
+    """What is no release: a version of between two, a commit without the tag of its version, and one with changes since."""
+    if left_out("make release", "git"):
+        return
+    with folder() as place:
+        between = os.path.join(place, "ssikvd")
+        with open(between, "w", encoding="ascii") as file:
+            file.write("#!/bin/sh\necho ssikvd 0.3.0-dev\n")
+        os.chmod(between, 0o755)
+        number = run(["--version"])[1].decode().split()[1]
+        for what, tag, program, is_changed, due in (
+            ("between two releases", "v0.3.0-dev", between, False, "which is no release"),
+            ("without its tag", "v0.0.0", BINARY, False, f"this is not the commit with the tag v{number}"),
+            ("with changes", f"v{number}", BINARY, True, "or it has changes"),
+        ):
+            with tally.run(f"make release {what}"):
+                copy = os.path.join(place, what)
+                os.mkdir(copy)
+                for name in ("Makefile", "CHANGELOG.md"):
+                    shutil.copy(os.path.join(TOP, name), copy)
+                committed(copy, tag)
+                if is_changed:
+                    os.truncate(os.path.join(copy, "CHANGELOG.md"), 10)
+                ran = subprocess.run(["make", "-C", copy, "release", f"PROGRAM={program}"], capture_output=True, text=True, timeout=PATIENCE, check=False)
+                expect(ran.returncode and due in ran.stderr and not os.path.exists(os.path.join(copy, "out")), f"it answered {ran}")
+
+
+def released(tally):
+    """Two releases of the same program, of copies with other masks and times, one of them a commit with its tag, are equal."""
+    if left_out("make release", "dpkg-buildpackage") or left_out("make release", "dh"):
+        return
+    with folder() as place:
+        sums = []
+        for mask in (0o022, 0o077):
+            with tally.run(f"make release with a mask of {mask:03o}"):
+                copy, before = copy_of_top(place, f"a copy {mask:o}"), os.umask(mask)
+                try:
+                    done(["find", copy, "-type", "f", "-exec", "touch", "-d", f"200{mask % 9}-02-03", "{}", "+"])
+                    if mask == 0o022 and shutil.which("git"):
+                        committed(copy, "v" + run(["--version"])[1].decode().split()[1])
+                    done(["make", "-C", copy, "release", f"PROGRAM={BINARY}"], 600, env=DEBIAN_PATH)
+                finally:
+                    os.umask(before)
+                out = os.path.join(copy, "out")
+                done(["sha256sum", "--check", "SHA256SUMS"], cwd=out)
+                with open(os.path.join(out, "SHA256SUMS"), encoding="ascii") as file:
+                    sums.append(file.read())
+                expect(sums[-1].count("\n") == 2, f"it has the sums {sums[-1]}")
+        with tally.run("the bytes of two releases"):
+            expect(len(sums) == 2 and sums[0] == sums[1], f"they differ: {sums}")
 
 
 def install_package(tally, place, deb, test):
@@ -472,14 +537,16 @@ def main():
     for part in (first_manual, other_manuals, manuals_of_tools, man_lints, help_examples, completions, versions, quick_start):
         part(tally)
     with folder() as place:
-        root = os.path.join(place, "root")
+        root = os.path.join(place, "a root")
         os.mkdir(root)
         if not left_out("make install, uninstall and dist", "make"):
             installed(tally, root)
             packed(tally, root)
             uninstalled(tally, root)
+            refused_releases(tally)
     if is_long():
         package(tally)
+        released(tally)
     return 0 if tally.end() else 1
 
 

@@ -2,7 +2,8 @@
 
 Clients write as fast as the program answers them. A minute is over once they have filled 10 of 100 sectors, and a tenth of that is filled while
 a look is under way; then they fill 60 of 100 in a minute, then 80. By the rate each look compacts, also the first one after a compaction, and no
-COMMIT is answered `FULL log`. Each that was acknowledged is there at the end. By the fill alone the looks before the rise do nothing, and it is met.
+COMMIT is answered `FULL log`. Each that was acknowledged is there at the end. So it is where clients write as fast as they are answered, and a look comes
+before the file could be full, as each minute where the largest file is served. By the fill alone the looks before the rise do nothing, and it is met.
 What a look says after few and after many commits, and after a compaction, is what the rule asks for.
 """
 import contextlib
@@ -139,10 +140,7 @@ def run_looks(minutes, has_rate):
                 if found:
                     fills.append(int(found[1]))
         looks.trial.stop()
-        found = map_of(log_of(looks.trial.data))
-        for number, value in enumerate(load.acknowledged):
-            expect(int(found.get(b"client %d" % number, 0)) >= value, f"client {number} has lost a commit: {value} was acknowledged")
-        expect(not load.other, f"COMMIT was answered {load.other}")
+        judge_kept(load, map_of(log_of(looks.trial.data)))
         return load, fills
 
 
@@ -156,6 +154,51 @@ def keeps_up(tally):
     with tally.run("looks that don't"):
         load, _ = run_looks(SLOW, False)
         expect(load.full > 0, "no full log was met")
+
+
+LARGE, PACE = 262_144, 2.4    # a file of 2 GiB is full in 2.4 minutes at 14,400 commits a second
+
+
+def highest_rate():
+    """Looks beside clients that write as fast as they are answered, at the pace at which a minute's looks come where the largest file is served:
+    the load, the seconds between two looks, and what the compactions said."""
+    with looks_at(LARGE) as looks, Load(looks.trial.port) as load:
+        load.allow(10 ** 9)
+        looks.look(within=0)
+        first, begun = check_used(looks.trial.data), time.monotonic()
+        time.sleep(1.0)
+        interval = LARGE / ((check_used(looks.trial.data) - first) / (time.monotonic() - begun)) / PACE
+        said = []
+        for turn in range(1, 25):
+            status, out, err = looks.look(within=math.ceil(10 * interval))
+            expect(status == 0 and not err, f"a look ended with {status}: {out}{err}")
+            said.append(out)
+            time.sleep(max(begun + turn * interval - time.monotonic(), 0.0))
+        load.allow(0)
+        looks.trial.stop()
+        judge_kept(load, map_of(log_of(looks.trial.data)))
+        return load, interval, said
+
+
+def check_used(data):
+    """The sectors of a served log that are used."""
+    return int(re.search(r"sectors (\d+) of", tool("ssikvd-used", data)[1])[1])
+
+
+def judge_kept(load, found):
+    for number, value in enumerate(load.acknowledged):
+        expect(int(found.get(b"client %d" % number, 0)) >= value, f"client {number} has lost a commit: {value} was acknowledged")
+    expect(not load.other, f"COMMIT was answered {load.other}")
+
+
+def keeps_up_at_once(tally):
+    with tally.run("the highest rate"):
+        load, interval, said = highest_rate()
+        count = sum(": compaction\n" in out for out in said)
+        beside = sum("copied beside the server" in out for out in said)
+        print(f"  {sum(load.acknowledged)} commits, {count} compactions, {beside} beside the server, a look each {interval:.1f} s", flush=True)
+        expect(load.full == 0, f"{load.full} commits met a full log: {said}")
+        expect(count > 10, f"it was compacted {count} times")
 
 
 def rule(tally):
@@ -191,6 +234,8 @@ def main():
     tally = Tally("looks")
     rule(tally)
     keeps_up(tally)
+    if is_long():
+        keeps_up_at_once(tally)
     return 0 if tally.end() else 1
 
 

@@ -14,6 +14,7 @@
  * A sync that fails may drop pages of 4,096 bytes as Linux does: reads still give what was written, later syncs succeed and settle nothing
  * of it, until a write to the page makes it dirty again. Where the kernel has copies of the pages (`copies 1`), a read that it can't serve
  * from these gives what the device holds, so posix_fadvise takes effect. Where it has none (`copies 0`, at first; direct_io), it has no effect.
+ * A read of a file that is opened by O_DIRECT gives what the device holds of such a page, unless there are no such reads (`direct 0`).
  *
  *     seed N                   the seed of all that is random
  *     wipe                     no file is there any more
@@ -23,6 +24,7 @@
  *     ignore [WHICH..]         syncs that succeed and settle nothing: opening (the first of an open file), body and gate (the second and third
  *                              of an open file, and on in turn), folder
  *     copies 0|1               whether the kernel keeps copies of the pages of files that are opened from now on
+ *     direct 0|1               whether a file may be opened by O_DIRECT from now on
  *     state                    answers: how often it crashed, how many sectors the last crash found unsettled, what the plan met (0 or 1)
  *
  * Kinds: open, read, write, sync, folder (a sync of it), name (a file made, moved, linked or removed). Actions: before, after (a crash); kill
@@ -33,6 +35,7 @@
 #define _GNU_SOURCE
 #define FUSE_USE_VERSION 34
 #include <errno.h>
+#include <fcntl.h>
 #include <fuse_lowlevel.h>
 #include <poll.h>
 #include <signal.h>
@@ -78,6 +81,7 @@ struct change {
 struct handle {
     fuse_ino_t file;
     long life, syncs;
+    int is_direct;
 };
 
 enum kind { OPEN, READ, WRITE, SYNC, FOLDER, NAME, KINDS };
@@ -98,7 +102,7 @@ static struct folder folder, settled_folder;
 static struct change changes[CHANGES];
 static int change_count;
 static long crashes, lost_sectors;
-static unsigned ignored, copies;
+static unsigned ignored, copies, direct = 1;
 static uint64_t chance = 1;
 
 static struct {
@@ -199,13 +203,18 @@ static void write_file(struct file *file, off_t at, const char *from, size_t siz
     }
 }
 
-static size_t read_file(const struct file *file, off_t at, char *into, size_t size) {
+/* What a read gives of a sector: where it is direct, what the device holds in place of what was dropped. */
+static const unsigned char *content_of(const struct sector *sector, int is_direct) {
+    return is_direct && sector->state == DROPPED ? sector->old : sector->now;
+}
+
+static size_t read_file(const struct file *file, off_t at, char *into, size_t size, int is_direct) {
     size_t rest = file->length > at ? (size_t)(file->length - at) : 0, moved = 0;
     while (moved < size && moved < rest) {
         size_t place = (size_t)at + moved, here = SECTOR - place % SECTOR;
         here = here < size - moved ? here : size - moved;
         here = here < rest - moved ? here : rest - moved;
-        memcpy(into + moved, file->sectors[place / SECTOR].now + place % SECTOR, here);
+        memcpy(into + moved, content_of(&file->sectors[place / SECTOR], is_direct) + place % SECTOR, here);
         moved += here;
     }
     return moved;
@@ -455,7 +464,7 @@ static int open_handle(fuse_ino_t number, struct fuse_file_info *info) {
     struct handle *handle = calloc(1, sizeof *handle);
     if (!handle)
         return 0;
-    *handle = (struct handle){number, crashes, 0};
+    *handle = (struct handle){number, crashes, 0, (info->flags & O_DIRECT) != 0};
     info->fh = (uint64_t)(uintptr_t)handle;
     info->direct_io = !copies;
     info->keep_cache = copies;
@@ -550,7 +559,9 @@ static void open_file(fuse_req_t request, fuse_ino_t number, struct fuse_file_in
     enum action action;
     if (!is_made(request, number == FUSE_ROOT_ID ? KINDS : OPEN, &action) || !is_answered(request, action))
         return;
-    if (open_handle(number, info))
+    if (!direct && (info->flags & O_DIRECT))
+        fuse_reply_err(request, EINVAL);
+    else if (open_handle(number, info))
         fuse_reply_open(request, info);
     else
         fuse_reply_err(request, ENOMEM);
@@ -577,10 +588,11 @@ static void read_bytes(fuse_req_t request, fuse_ino_t number, size_t size, off_t
     (void)number;
     if (!file || !is_answered(request, action))
         return;
-    if (copies)
+    int is_direct = handle_of(info)->is_direct;
+    if (copies && !is_direct)
         read_dropped(file, at, size);
     char *bytes = malloc(size);
-    size_t moved = bytes ? read_file(file, at, bytes, moved_of(action, size)) : 0;
+    size_t moved = bytes ? read_file(file, at, bytes, moved_of(action, size), is_direct) : 0;
     fuse_reply_buf(request, bytes, moved);
     free(bytes);
 }
@@ -696,6 +708,8 @@ static int obey(char *line) {
         chance = strtoull(rest, NULL, 10) * 0x9e3779b97f4a7c15u | 1;
     else if (!strcmp(word, "copies"))
         copies = rest[0] == '1';
+    else if (!strcmp(word, "direct"))
+        direct = rest[0] == '1';
     else if (!strcmp(word, "wipe"))
         wipe();
     else if (!strcmp(word, "settle"))

@@ -11,6 +11,8 @@ that were asked for.
     faults     calls on the data file that fail, move less or are interrupted, under `serve` and in its opening
     stopped    the sync of a gate fails and drops its page; the file is opened in place, or behind `dd iflag=nocache`, or compacted; later
                commits outlive a crash
+    before     the same, and `ssikvd-before` is asked: where the system drops pages it lets the store be started; where it doesn't, and the
+               device has something else, or that can't be read, it refuses until the log was compacted or the machine restarted
     swap       a compacted file takes the old one's name; commits over it outlive a crash
     sight      syncs are left out, one kind at a time, or pages can't be dropped: each must be seen within a hundred runs
 
@@ -21,18 +23,19 @@ is served. All is left out where FUSE isn't there.
 import argparse
 import contextlib
 import errno
+import itertools
 import os
 import random
 import subprocess
-import sys
 
 import client
-from client import Connection, Deviation, Server, Tally, check, expect, folder, need, run, run_harness
+from client import PATIENCE, Connection, Deviation, Server, Tally, check, expect, folder, need, run, run_harness
 from kills import parts_of
 from model import (
     HEAD, OK, SECTOR, WRITES_MAX, Damaged, NotALog, OldFormat, apply, bulk, frame, log_image, read_log, refusal, sectors_used)
 
 LOSSY = os.path.join(client.HERE, "out", "lossy")
+BEFORE = os.path.join(client.HERE, "..", "dist", "ssikvd-before")
 CLIENTS, SHARED_KEYS, SECTORS, ROOM_LEFT, LIVES = 8, 120, 2_400, 900, 25
 STORE_FAULT, STORE_STOPPED, NONE_OPEN, FULL_LOG = (refusal(text) for text in ("STORE fault", "STORE stopped", "ERR none", "FULL log"))
 NOT_A_LOG = b"ssikvd: not a log\n"
@@ -637,6 +640,68 @@ def after_a_stop(machine, way, has_copies=True):
         commits_and_crash(store)
 
 
+# For each kind of file system: whether it drops pages where it is advised to, and whether it has reads past its cache.
+FILE_SYSTEMS = {"drops pages": (True, True), "keeps pages": (False, True), "has no direct reads": (False, False)}
+DIFFERS, UNKNOWN = "the cache differs from the device", "can't be read past the cache"
+
+
+def before(store, past_cache="yes"):
+    """What `ssikvd-before` answers: its status, which is 2 where the cache differs and 3 where that can't be known."""
+    environment = {**os.environ, "SSIKVD": client.PROGRAM, "PAST_CACHE": past_cache}
+    ran = subprocess.run([BEFORE, store.path, str(SECTORS)], env=environment, capture_output=True, text=True, timeout=6 * PATIENCE, check=False)
+    status, text = ran.returncode, ran.stderr
+    fits = (DIFFERS in text) == (status == 2) and (UNKNOWN in text) == (status == 3 or past_cache == "no" and bool(text))
+    expect(status in (0, 2, 3) and fits, f"ssikvd-before answered {status} {text!r}")
+    return status
+
+
+def before_a_start(machine, kind):
+    """A store stopped, and `ssikvd-before` is asked. Where it refuses, the log is compacted or the machine restarted, and then it doesn't.
+    Later commits outlive a crash."""
+    has_copies, has_direct_reads = FILE_SYSTEMS[kind]
+    store = Store(machine, has_copies)
+    store.disk.tell("direct", int(has_direct_reads))
+    with open(store.path, "rb", buffering=0):
+        stop_the_store(store)
+        status = before(store)
+        expect(status in {"drops pages": (0,), "keeps pages": (0, 2), "has no direct reads": (3,)}[kind], f"ssikvd-before answered {status}")
+        machine.count(f"{kind}, {'refused' if status else 'let start'}")
+        if status:
+            make_sound(store)
+            expect(before(store, "no" if status == 3 else "yes") == 0, "ssikvd-before refuses a sound store")
+        commits_and_crash(store)
+
+
+def make_sound(store):
+    """What an operator does behind a refusal: a copy by `compact` in the file's place, or the machine restarts."""
+    if store.machine.chance.random() < 0.5:
+        swap_in_compacted(store)
+        store.disk.tell("settle")
+    else:
+        store.machine.crash_at_once()
+        store.look()
+
+
+def started_all_the_same(machine):
+    """Stores stopped, which are started by PAST_CACHE=no though a sync has failed."""
+    while True:
+        store = Store(machine, False)
+        store.disk.tell("direct", 0)
+        stop_the_store(store)
+        expect(before(store, "no") == 0, "ssikvd-before doesn't heed PAST_CACHE=no")
+        commits_and_crash(store)
+        yield
+
+
+def starts(machine):
+    for kind in itertools.cycle(FILE_SYSTEMS):
+        try:
+            before_a_start(machine, kind)
+        except Deviation as found:
+            raise Deviation(f"{kind}: {found}") from None
+        yield
+
+
 def look_between(store, log):
     """Behind a crash between the renames and the opening: of the three names one at least is there, and each is the old file or the copy."""
     disk, wanted = store.disk, map_of(log)
@@ -701,6 +766,7 @@ MODES = {
     "faults": (faults_of_serve, 25, 600),
     "stopped": (lambda machine: stops(machine, ("opened in place", "dd", "compact")), 9, 300),
     "stopped without copies": (lambda machine: stops(machine, ("opened in place",), False), 0, 0),
+    "before": (starts, 9, 150),
     "swap": (lambda machine: swaps(machine, "opening"), 8, 100),
     "swap synced": (lambda machine: swaps(machine, "synced"), 0, 0),
 }
@@ -713,6 +779,7 @@ SIGHT = (
     ("the sync of the folder by `create`", "folder", MODES["create"][0]),
     ("the sync of the folder by `serve`", None, lambda machine: swaps(machine, "ignored")),
     ("the dropping of pages by an opening", None, MODES["stopped without copies"][0]),
+    ("the comparison by `ssikvd-before`", None, started_all_the_same),
 )
 
 

@@ -10,6 +10,8 @@ are read by `systemd-analyze`, not started. At last the judges are shown scripts
 """
 import contextlib
 import itertools
+import json
+import math
 import os
 import random
 import re
@@ -25,7 +27,7 @@ from client import (
     run_harness)
 from model import SECTOR, Damaged, NotALog, apply, frame, read_log
 from operation_tools import DIST, ENVIRONMENT, SECTORS, commit, fill, loaded, log_of, map_of, missing, promtool, simple_client, tool
-from operation_units import rules, scripts, texts, units
+from operation_units import allocator, rules, scripts, texts, units
 
 
 # The probe
@@ -136,6 +138,7 @@ def fills(tally):
             due = (SECTORS - second["place"] - 1) / ((second["place"] - first["place"]) / 10)
             expect(found["seconds_to_full"] == due > 0, f"{found} in place of {due}")
             expect(used.figures(data, second, 1_020.0, None)[1]["seconds_to_full"] == float("inf"), "a log that does not grow fills")
+        foreign_states(tally, used, data, state)
         with tally.run("another log of the name"):
             subprocess.run([PROGRAM, "compact", "--from", data, "--to", data + "2"], check=True, capture_output=True)
             os.replace(data + "2", data)
@@ -157,6 +160,34 @@ def fills(tally):
             expect(f'ssikvd_log_damaged{{data="{data}"}} 1\n' in open(text, encoding="utf-8").read(), "the metrics do not tell the damage")
 
 
+def states_of_others(own):
+    """What may stand in a file of states that isn't the tool's own: other JSON, none, and its own of another place, count or time."""
+    yield from ("", "{", "7", "null", "[]", '"a"', "\x00", "[" * 10_000, '{"a":' * 10_000)
+    name, kept = next(iter(own.items()))
+    yield from (json.dumps({name: value}) for value in (None, [], {}, 7, {"place": 1}))
+    strange = (None, [], {}, "", "zz", kept["last"], False, -1, 0, 1, kept["place"] + 1, SECTORS - 1, 1 << 40, 1 << 80, 10 ** 400, 0.5, math.nan, math.inf)
+    for key in kept:
+        # a text as the fault is what a run may have left
+        yield from (json.dumps({name: {**kept, key: value}}) for value in strange if value != kept[key] and (key, type(value)) != ("fault", str))
+
+
+def foreign_states(tally, used, data, state):
+    """A state that isn't the tool's own counts as none: the figures are those of the file, and its own state takes the place."""
+    with tally.run("a state that isn't its own"):
+        line = tool("ssikvd-used", data)[1]
+        expect(tool("ssikvd-used", "--state", state, "--verify", "86400", data) == (0, line, ""), "it failed")
+        with open(state, encoding="utf-8") as file:
+            own = json.load(file)
+        for text in states_of_others(own):
+            with open(state, "w", encoding="utf-8") as file:
+                file.write(text)
+            _, found = used.figures(data, used.load(state).get(data), time.time(), 86_400)
+            seen = f"{data}: records {found['records']} sectors {found['sectors_used']} of {found['sectors']}\n"
+            expect(seen == line and found["seconds_to_full"] >= 0 and not found["damaged"], f"over the state {text[:200]!r} it finds {found}")
+        found = tool("ssikvd-used", "--state", state, data)
+        expect(found == (0, line, "") and used.load(state)[data]["records"] == own[data]["records"], f"it printed {found}")
+
+
 def judge_metrics(text):
     if not promtool():
         missing("`promtool check metrics`", "promtool (Debian's prometheus)")
@@ -167,6 +198,10 @@ def judge_metrics(text):
 
 # Backups
 
+# A commit every so many seconds: as many as the file holds outlast the backups, also on a slow machine.
+PAUSE = 0.02
+
+
 def backups(tally):
     """Backups under load, each a prefix of the commits with all that were acknowledged before it began."""
     with folder() as place:
@@ -176,7 +211,7 @@ def backups(tally):
             done, is_done = [0], threading.Event()
 
             def work():
-                while not is_done.is_set() and done[0] < (800 if is_long() else 200):
+                while not is_done.wait(PAUSE) and done[0] < 800:
                     commit(server.port, done[0])
                     done[0] += 1
 
@@ -340,7 +375,7 @@ def planted(ship, data, copy):
 
 # Compaction
 
-STEPS = ("ssikvd-used", "ssikvd-verify", "ssikvd", "realpath", "df", "dirname", "date", "flock", "sync", "rm", "chown", "chmod", "ln", "mv", "sh")
+STEPS = ("ssikvd-used", "ssikvd-follow", "ssikvd", "realpath", "df", "dirname", "date", "flock", "sync", "rm", "chown", "chmod", "ln", "mv", "sh")
 WRAPPER = """#!/bin/sh
 n=$(($(/bin/cat "$STEPS") + 1))
 echo $n >"$STEPS"
@@ -428,7 +463,7 @@ exec ssikvd-probe --wait 20 --process $! 127.0.0.1:{self.port} >/dev/null
         return found
 
 
-FILES = {"data", "data.old", "data.new", "data.lock"}
+FILES = {"data", "data.old", "data.new", "data.new.state", "data.new.state.tmp", "data.lock"}
 
 
 def names(trial):
@@ -553,7 +588,9 @@ def compactions(tally):
     with tally.run("ssikvd-compact"), trial_of(script) as trial:
         lines = whole(trial)
     with tally.run("ssikvd-compact makes room"), trial_of(script, 60) as trial:
-        found = trial.run(words=["--sectors", "2048"])
+        found = trial.run(words=["--sectors", "1XiB"])
+        expect(found[0] == 1 and "usage: " in found[2] and check(trial.data)[3] != 2_048, f"a size of 1XiB gave {found[:3]}")
+        found = trial.run(words=["--sectors", "1MiB"])
         expect(found[0] == 0 and check(trial.data)[3] == 2_048, f"it ended with {found[:3]}")
     with tally.run("ssikvd-compact of a file whose map fills it"):
         growing(script)
@@ -687,6 +724,20 @@ def before_a_start(tally):
             found = tool("ssikvd-before", data, "64")
             expect(found[0] == 1 and "missing and was there before" in found[2] and not os.path.exists(data), f"it answered {found}")
             os.remove(data + ".lock")
+        with tally.run("a data file that is lost behind a link, as on a disk that isn't mounted"):
+            link, there = os.path.join(place, "link"), os.path.join(place, "there")
+            os.mkdir(there)
+            os.symlink(os.path.join(there, "data"), link)
+            open(link + ".lock", "w", encoding="ascii").close()
+            found = tool("ssikvd-before", link, "64")
+            expect(found[0] == 1 and "missing and was there before" in found[2] and not os.listdir(there), f"it answered {found}")
+        with tally.run("a size in the place of a number of sectors"):
+            for words, due in ((["32KiB"], 64), (["1MiB"], 2_048), (["1XiB"], None), (["MiB"], None), ([], None), (["1MiB", "2MiB"], None)):
+                found = tool("ssikvd-before", data, *words)
+                expect((found[0] == 0) == os.path.exists(data) == (due is not None), f"{words} was answered {found}")
+                if due:
+                    expect(check(data)[3] == due, f"{words} made {check(data)[3]} sectors")
+                    os.remove(data)
         with tally.run("what a killed create left"):
             with open(data + ".new", "wb") as file:
                 file.write(bytes(100))
@@ -733,7 +784,7 @@ def process_1(tally):
 def main():
     need(PROGRAM, SHIM)
     tally = Tally("operation")
-    for part in (probes, fills, backups, crashes_of_backups, before_a_start, compactions, process_1, units, rules, scripts, texts):
+    for part in (probes, fills, backups, crashes_of_backups, before_a_start, compactions, process_1, units, allocator, rules, scripts, texts):
         part(tally)
     return 0 if tally.end() else 1
 

@@ -1,10 +1,13 @@
 """The units of dist/ as `systemd-analyze` reads them, its alert rules as `promtool` does, its scripts, and the runbook of docs/OPERATIONS.md."""
+import contextlib
+import ctypes.util
 import os
 import re
 import shutil
+import signal
 import subprocess
 
-from client import PATIENCE, Deviation, expect, folder, is_refused
+from client import PATIENCE, PROGRAM, Deviation, expect, folder, is_refused
 from operation_tools import DIST, TOP, loaded, missing, operations, promtool, tool
 
 def units(tally):
@@ -55,7 +58,7 @@ def judge_user(text):
     """A unit runs as the service's user, and what it runs with root's rights is systemctl, or a case that calls it."""
     expect("\nUser=ssikvd\n" in text, "it runs as root")
     for line in re.findall(r"(?m)^Exec\w+=[-@:]*[+!]+[-@:]*(.*)$", text):
-        expect(re.fullmatch(r"systemctl [^;|&]*|sh -c 'case \S+ in [\w-]+\) ;; \*\) systemctl [^;|&]* ;; esac'", line), f"root runs {line}")
+        expect(re.fullmatch(r"systemctl [^;|&]*|sh -c 'case \S+ in [\w-]+\) ;; \*\)( systemctl [^;|&]*;)+; esac'", line), f"root runs {line}")
 
 
 def judge_score(unit):
@@ -74,10 +77,69 @@ def judge_score(unit):
         expect(float(found[1]) <= 2, f"the score is {found[1]}")
 
 
+def unit_command(place, allocator):
+    """The words of the server's command in its unit, over a data file in this folder, with its own allocator or another."""
+    with open(os.path.join(DIST, "ssikvd@.service"), encoding="utf-8") as file:
+        text = file.read()
+    settings = dict(word.split("=") for word in re.search(r"(?m)^Environment=(.*)$", text)[1].split())
+    settings |= {"LISTEN": "127.0.0.1:0"} | ({} if allocator is None else {"ALLOCATOR": allocator})
+    command = re.search(r"(?m)^ExecStart=(.*)$", text)[1].replace("%i", "shop").replace("/var/lib/ssikvd", place)
+    for name, value in settings.items():
+        command = command.replace(f"${{{name}}}", value)
+    return [PROGRAM if word == "ssikvd" else word for word in command.split()]
+
+
+@contextlib.contextmanager
+def started_by_unit(place, allocator):
+    """The server as the unit starts it, once it listens. Its standard error goes to a file."""
+    with open(os.path.join(place, "errors"), "wb") as errors:
+        server = subprocess.Popen(unit_command(place, allocator), stdout=subprocess.PIPE, stderr=errors)
+    try:
+        line = server.stdout.readline()
+        expect(line.startswith(b"listening "), f"it printed {line!r}")
+        yield server
+    finally:
+        server.send_signal(signal.SIGKILL)
+        server.wait(PATIENCE)
+        server.stdout.close()
+
+
+def judge_allocator(allocator, is_loaded, is_told):
+    """The server listens. Is jemalloc mapped, and is there a line of the loader's?"""
+    with folder() as place:
+        created = tool(PROGRAM, "create", "--data", os.path.join(place, "shop.data"), "--sectors", "16")
+        expect(created[0] == 0, f"create answered {created}")
+        with started_by_unit(place, allocator) as server:
+            with open(f"/proc/{server.pid}/maps", encoding="utf-8") as maps:
+                expect(("libjemalloc" in maps.read()) == is_loaded, f"jemalloc is {'not ' * is_loaded}mapped")
+        with open(os.path.join(place, "errors"), encoding="utf-8") as errors:
+            said = errors.read().splitlines()
+        expect(len(said) == is_told and all("LD_PRELOAD" in line for line in said), f"standard error has {said}")
+
+
+def allocator(tally):
+    """The unit's allocator where it is installed, none, and one that is missing, without which the server starts, too."""
+    if not ctypes.util.find_library("jemalloc"):
+        missing("the unit's allocator", "libjemalloc2")
+    else:
+        with tally.run("the unit's allocator"):
+            judge_allocator(None, True, False)
+    with tally.run("the unit with the C library's allocator"):
+        judge_allocator("", False, False)
+    with tally.run("the unit with an allocator that isn't there"):
+        judge_allocator("libmissing.so.9", False, True)
+
+
 def names_of_stat():
     """The metrics that `ssikvd-stat` writes."""
     stat = loaded("ssikvd-stat")
     return {f"ssikvd_stat_{name}" for name in (*stat.FIGURES, stat.TIME, "processor_seconds_total")}
+
+
+def names_of_metrics():
+    """The metrics that the tools write."""
+    found = {f"ssikvd_log_{name}" for name in loaded("ssikvd-used").HELP} | {"ssikvd_probe_status"} | names_of_stat()
+    return found | set(re.findall(r"# TYPE (\w+)", loaded("ssikvd-ship").metrics("data", "copy", 1.0, 1)))
 
 
 # For each alert: a series, its values each minute where it fires after an hour, and where it doesn't.
@@ -91,6 +153,8 @@ FIRES = {
     "SsikvdNoTransactions": ("ssikvd_probe_status", "2x60", "1x60"),
     "SsikvdConnectionsMany": ("ssikvd_stat_connections", "111x60", "110x60"),
     "SsikvdClientSilent": ("ssikvd_stat_idle_seconds", "601x60", "600x60"),
+    "SsikvdBackupNotMade": ("ssikvd_backup_time_seconds", "-1000x60", "900x60"),
+    "SsikvdBackupAbsent": ("ssikvd_probe_status", "0x140", None),
     "SsikvdBackupOld": ("ssikvd_stat_backup_age_seconds", "90000x60", "80000x60"),
     "SsikvdStatNotRead": ("ssikvd_stat_time_seconds", "2900x60", "3100x60"),
 }
@@ -118,13 +182,13 @@ def rules(tally):
         found = tool(promtool(), "check", "rules", os.path.join(DIST, "alerts.yml"))
         expect(found[0] == 0, f"promtool says {found}")
     for name, series in FIRES.items():
-        for is_on in (True, False):
+        for is_on in (True, False) if series[2] else (True,):
             with tally.run(f"the alert {name} {'fires' if is_on else 'does not fire'}"):
                 judge_alert(name, series[0], series[1 if is_on else 2], is_on)
     with tally.run("the metrics of the rules"):
         with open(os.path.join(DIST, "alerts.yml"), encoding="utf-8") as file:
             named = set(re.findall(r"ssikvd_[a-z]+_\w+", file.read()))
-        due = {f"ssikvd_log_{name}" for name in loaded("ssikvd-used").HELP} | {"ssikvd_probe_status"} | names_of_stat()
+        due = names_of_metrics()
         expect(named <= due, f"the rules name {sorted(named - due)}")
 
 

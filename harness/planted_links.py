@@ -9,6 +9,8 @@ planted fault must be reported.
 It has to be run as root.
 """
 import contextlib
+import functools
+import itertools
 import os
 import shutil
 import signal
@@ -21,7 +23,7 @@ from client import PROGRAM, Deviation, Tally, check, create, expect, folder, is_
 from operation_tools import DIST, ENVIRONMENT, missing, tool
 
 USER = 12_345
-TOOLS = ("ssikvd-used", "ssikvd-verify", "ssikvd-compact")
+TOOLS = ("ssikvd-used", "ssikvd-verify", "ssikvd-follow", "ssikvd-compact", "ssikvd-probe", "ssikvd-stat")
 
 
 def picture(place):
@@ -100,15 +102,26 @@ class Place:
     def used(self):
         return tool("ssikvd-used", "--state", self.state, "--metrics", self.metrics, self.data, environment=self.environment)
 
+    def probe(self):
+        return tool("ssikvd-probe", "--metrics", self.metrics, "127.0.0.1:1", environment=self.environment)
+
+    def stat(self):
+        return tool("ssikvd-stat", "--state", self.state, "--metrics", self.metrics, "--data", self.data, "--listen", "127.0.0.1:1",
+                    environment=self.environment)
+
+    def judge_outside(self, found):
+        """Nothing outside has changed."""
+        now = picture(self.outside)
+        changed = sorted(name for name in {*now, *self.before} if now.get(name) != self.before.get(name))
+        expect(not changed, f"{[os.path.relpath(name, self.outside) for name in changed]} changed outside; it answered {found}")
+        expect("Traceback" not in found[2], f"it ended with {found[2]}")
+
     def compact(self, data=None):
         return tool("ssikvd-compact", "--wait", "0.1", "--stop", "true", "--start", "true", data or self.data, environment=self.environment)
 
     def judge(self, found):
         """Nothing outside has changed, and what went wrong was told."""
-        now = picture(self.outside)
-        changed = sorted(name for name in {*now, *self.before} if now.get(name) != self.before.get(name))
-        expect(not changed, f"{[os.path.relpath(name, self.outside) for name in changed]} changed outside; it answered {found}")
-        expect("Traceback" not in found[2], f"it ended with {found[2]}")
+        self.judge_outside(found)
         expect((found[0] == 0) == (not found[2]), f"it ended with {found}")
 
 
@@ -186,6 +199,28 @@ def used(tally):
                     place.judge(place.used())
 
 
+def judge_other(ask, name, kind, changes=()):
+    """Of the probe and of the figures: the metrics are written, in the place of what was planted."""
+    with place_of(changes) as place:
+        word, dot, end = name.partition(".")
+        place.plant({"state": place.state, "metrics": place.metrics}[word] + dot + end, kind)
+        found = getattr(place, ask)()
+        place.judge_outside(found)
+        expect(found[0] in (1, 2) and stat.S_ISREG(os.lstat(place.metrics).st_mode), f"it answered {found}")
+
+
+def others(tally):
+    for ask, names in (("probe", ("metrics", "metrics.tmp")), ("stat", ("state.tmp", "metrics", "metrics.tmp"))):
+        for name, kind in itertools.product(names, KINDS):
+            with tally.run(f"ssikvd-{ask}, where {name} is {kind}"):
+                judge_other(ask, name, kind)
+        with tally.run(f"ssikvd-{ask}, where the folder of the metrics is a link"), place_of() as place:
+            place.plant(os.path.dirname(place.metrics), "a link to a folder")
+            found = getattr(place, ask)()
+            place.judge_outside(found)
+            expect("a link of another user" in found[2], f"it answered {found}")
+
+
 def judge_compact(name, kind, changes=()):
     with place_of(changes) as place:
         place.plant(place.data + name, kind)
@@ -201,7 +236,7 @@ def judge_compact(name, kind, changes=()):
 
 
 def compact(tally):
-    for name, kinds in ((".new", KINDS), (".old", KINDS), (".lock", (*KINDS[:3], "a pipe")), ("", ("a link", "a link to another store", "a pipe"))):
+    for name, kinds in ((".new", KINDS), (".new.state", KINDS), (".new.state.tmp", KINDS), (".old", KINDS), (".lock", (*KINDS[:3], "a pipe")), ("", ("a link", "a link to another store", "a pipe"))):
         for kind in kinds:
             with tally.run(f"ssikvd-compact, where DATA{name} is {kind}"):
                 judge_compact(name, kind)
@@ -225,7 +260,7 @@ def compact(tally):
         expect(found[0] == 0 and sorted(os.listdir(place.service + "/real")) == ["shop.data", "shop.data.old"], f"it answered {found}")
         expect(os.path.islink(place.data) and os.lstat(place.service + "/real/shop.data").st_uid == USER, "it left another file")
     with tally.run("ssikvd-compact beside a user who plants links"), place_of() as place:
-        for name in (".new", ".lock", ".old"):
+        for name in (".new", ".new.state", ".new.state.tmp", ".lock", ".old"):
             with planter(place, place.data + name):
                 for _ in range(30 if is_long() else 2):
                     place.judge(place.compact())
@@ -238,6 +273,8 @@ WRONG = {
         "    with within_folder(name) as (folder, word):\n        new = word + \".tmp\"\n")]),
     "a temporary file that isn't fresh": (judge_used, "metrics.tmp", "a second name", [
         ("ssikvd-used", "os.unlink(new, dir_fd=folder)\n        file =", "pass\n        file ="), ("ssikvd-used", " | os.O_EXCL", "")]),
+    "a probe that writes through links": (functools.partial(judge_other, "probe"), "metrics.tmp", "a link", [(
+        "ssikvd-probe", "neighbour(\"ssikvd-used\").write(name, text)", "open(name + \".tmp\", \"w\").write(text)")]),
     "a compaction with root's rights": (judge_compact, ".lock", "a link to nothing", [
         ("ssikvd-compact", "who=$(owner) || exit 2", "who=''"), ("ssikvd-compact", '    if [ -L "$lock" ] ||', "    if false &&")]),
     "another store, compacted with root's rights": (
@@ -262,7 +299,7 @@ def main():
     if os.getuid() or not shutil.which("setpriv"):
         missing("links that a user plants", "root, or setpriv")
     else:
-        for part in (used, compact, show_that_they_fail):
+        for part in (used, others, compact, show_that_they_fail):
             part(tally)
     return 0 if tally.end() else 1
 

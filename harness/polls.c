@@ -1,11 +1,13 @@
 /* Measures what a program does between two polls, by the processor time of the thread that polls.
  *
  * Preloaded into a program with one thread. The file named by POLLS_CONTROL is shared with whoever measures, who may read and write it at
- * any moment. It holds four numbers of 64 bits: how many turns there were, which begin where a poll returns and end where the next is
- * called; the longest of them and all of them together, in nanoseconds of the processor; and how many such nanoseconds the next turn is
- * to waste, which then sets it to 0. Without that variable all calls are passed on and nothing is measured.
+ * any moment. It holds six numbers of 64 bits: how many turns there were, which begin where a poll returns and end where the next is
+ * called; the longest of them and all of them together, in nanoseconds of the processor; how many such nanoseconds the next turn is
+ * to waste, which then sets it to 0; the most syncs of a turn; and how many polls were to wait, which says that the program had nothing
+ * left to do. Without that variable all calls are passed on and nothing is measured.
  */
 #define _GNU_SOURCE
+#include <dlfcn.h>
 #include <fcntl.h>
 #include <stdint.h>
 #include <stdlib.h>
@@ -16,12 +18,14 @@
 #include <unistd.h>
 
 struct control {
-    uint64_t turns, longest, all, waste;
+    uint64_t turns, longest, all, waste, syncs, idle;
 };
 
 static volatile struct control *control;
 /* When the last poll returned, or 0 before the first. */
 static uint64_t returned;
+/* The syncs of this turn. */
+static uint64_t syncs;
 
 __attribute__((constructor)) static void open_control(void) {
     const char *name = getenv("POLLS_CONTROL");
@@ -45,6 +49,9 @@ static void end_turn(void) {
     if (took > control->longest)
         control->longest = took;
     control->all += took;
+    if (syncs > control->syncs)
+        control->syncs = syncs;
+    syncs = 0;
     control->turns++;
 }
 
@@ -59,6 +66,8 @@ static void waste(void) {
 int epoll_wait(int poll, struct epoll_event *events, int most, int timeout) {
     if (control && returned)
         end_turn();
+    if (control && timeout != 0)
+        control->idle++;
     int found = (int)syscall(SYS_epoll_wait, poll, events, most, timeout);
     if (control) {
         returned = processor_ns();
@@ -66,4 +75,19 @@ int epoll_wait(int poll, struct epoll_event *events, int most, int timeout) {
             waste();
     }
     return found;
+}
+
+/* The sync of this name that is behind this library: the system's, or that of a library that is preloaded as well. */
+static int sync_behind(const char *name, int file) {
+    int (*next)(int) = (int (*)(int))dlsym(RTLD_NEXT, name);
+    syncs++;
+    return next(file);
+}
+
+int fdatasync(int file) {
+    return sync_behind("fdatasync", file);
+}
+
+int fsync(int file) {
+    return sync_behind("fsync", file);
 }

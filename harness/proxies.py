@@ -2,12 +2,13 @@
 
 The commands of their document are typed into a shell. Then: a client without a certificate, or with a foreign one, is refused; a silent
 client is disconnected and its transaction aborted; the clients beyond the limit wait and are served; the health check finds the server up
-and down; the tunnel leads to one port alone. For each of these the configuration is also changed, or the server ended, so that the check must
+and down; a server that is drained serves those that are connected and nobody else; the tunnel leads to one port alone. For each of these the configuration is also changed, or the server ended, so that the check must
 see it. What isn't installed is left out, and a line says so. Ports are other, free ones.
 
 `quick` waits for one second where `long` also waits in vain.
 """
 import contextlib
+import functools
 import getpass
 import os
 import pwd
@@ -347,7 +348,8 @@ def limits(tally):
             if is_long():
                 silence(lambda: client(port), server, False)
     with folder() as place:
-        sent_once(tally, "haproxy", place, haproxy, client)
+        unchecked = functools.partial(haproxy, more={" check inter 100ms": ""})    # the check sends BEGIN, too
+        sent_once(tally, "haproxy", place, unchecked, client)
     with trial(tally, "the idle limit of haproxy") as (place, server):
         with haproxy(place, server, {"timeout client 60s": "timeout client 1s"}) as port:
             wait_for(lambda: state(place) == ("UP", "L7OK"), f"the check says {state(place)}")
@@ -360,6 +362,44 @@ def limits(tally):
                 passed = seconds_until_closed(client(port), 5)
                 expect(passed is not None and 0.5 < passed < 4, f"who waited was disconnected after {passed} seconds")
                 expect(first.ask("ABORT") == b"OK", "the one that was served was disconnected")
+
+
+def drain(place, *words):
+    """drain.py, started in the folder of haproxy's socket."""
+    return subprocess.Popen([sys.executable, os.path.join(FOLDER, "drain.py"), *words], cwd=place, stdout=subprocess.PIPE, stderr=subprocess.PIPE, text=True)
+
+
+def ended(process):
+    out, err = process.communicate(timeout=PATIENCE)
+    return process.returncode, out, err
+
+
+def drained(tally):
+    """Who is in a transaction ends it, who comes meanwhile is turned away, and who stays longer is cut."""
+    if not are_there("haproxy that is drained", "haproxy"):
+        return
+    with trial(tally, "haproxy that is drained") as (place, server), haproxy(place, server) as port:
+        wait_for(lambda: state(place) == ("UP", "L7OK"), f"the check says {state(place)}")
+        store = client(port)
+        store.ask("BEGIN")
+        store.ask("SET", "a", "1")
+        process = drain(place, "drain", "--seconds", str(PATIENCE))
+        wait_for(lambda: state(place)[0] == "DRAIN", f"it is {state(place)}")
+        expect(not is_served(lambda: client(port)), "who came was served")
+        expect(store.ask("COMMIT") == 1 and process.poll() is None, "who was connected couldn't commit")
+        leave(store)
+        expect(ended(process) == (0, "drained, 0 cut\n", ""), "it wasn't drained")
+        expect(ended(drain(place, "ready")) == (0, "", "") and is_served(lambda: client(port)), "it wasn't put back")
+    with trial(tally, "haproxy that is drained beside who stays") as (place, server), haproxy(place, server) as port:
+        store = client(port)
+        store.ask("BEGIN")
+        expect(ended(drain(place, "drain", "--seconds", "0.5")) == (0, "drained, 1 cut\n", ""), "it wasn't cut")
+        with contextlib.suppress(simple_client.Lost):
+            store.ask("COMMIT")
+            raise Deviation("it committed")
+    with trial(tally, "haproxy that lets nobody drain") as (place, server), haproxy(place, server, {"level admin": "level operator"}):
+        status, _, err = ended(drain(place, "drain"))
+        expect(status == 1 and "haproxy answered" in err, f"it ended with {status}: {err}")
 
 
 class At:
@@ -454,7 +494,7 @@ def server_of(place):
 def main():
     need(PROGRAM)
     tally = Tally("proxies")
-    for part in (written, typed, tls, limits, chained, ssh):
+    for part in (written, typed, tls, limits, drained, chained, ssh):
         part(tally)
     return 0 if tally.end() else 1
 

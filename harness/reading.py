@@ -1,21 +1,21 @@
 #!/usr/bin/env python3
-"""All that the promises of docs/AUDIT.md are said with: `reading.py --write` writes docs/DEFINITIONS.md, `reading.py` looks whether it is true.
+"""All that the promises of docs/PROOFS.md are said with: `reading.py --write` writes docs/DEFINITIONS.md, `reading.py` looks whether it can be written.
 
-It takes the clauses that AUDIT.md names out of the sources, follows every name in them through the definitions of the crates
+It takes the clauses that PROOFS.md names out of the sources, follows every name in them through the definitions of the crates
 (crates/NAME/specs) down to the library's, and prints these in reading order: each after those that it needs, with its text. A name that a file
-hands on by `pub use` is followed to where it is defined. It fails where a clause or a definition is not there, where a name of a file of specs/ is
-neither defined, handed on, a constructor nor a field there, or where the page is not what it would write. Needs Python 3 alone.
+hands on by `pub use` is followed to where it is defined. It fails where a clause or a definition is not there, or where a name of a file of specs/
+is neither defined, handed on, a constructor nor a field there. The page isn't kept. Needs Python 3 alone.
 """
 import functools
 import os
 import re
 import sys
 
-from audit import CLAUSE, DEFINITION
+import audit
 
 TOP = os.path.normpath(os.path.join(os.path.dirname(os.path.abspath(__file__)), ".."))
 PAGE = "docs/DEFINITIONS.md"
-STATED = r"^Stated as `(\w+)`, in `(crates/\S+\.antt)`"
+STATED = r"^Stated as `(\w+)`, in `(\w+)/(\w+)`"
 # A relation of which the clauses say only that it holds at the beginning and from call to call: what it is said with need not be read.
 UNKNOWN = ("crates/engine/specs/StandsFor.antt", "StandsFor")
 DEFINING = ("abbrev", "unfoldable", "record", "data", "pub", "opaque")
@@ -219,11 +219,11 @@ def printed(path, name, shown):
 
 
 def promises():
-    """Of each promise of AUDIT.md the head, what it is stated as, its clauses, and the definitions that stand there."""
-    for promise in re.split(r"^## ", read("docs/AUDIT.md"), flags=re.M)[1:]:
-        named = [(path, name) for name, _, path in re.findall(DEFINITION, promise, re.M)]
-        stated = [(path, name) for name, path in re.findall(STATED, promise, re.M)]
-        yield promise.splitlines()[0], stated, re.findall(CLAUSE, promise), named
+    """Of each promise of PROOFS.md the head, what it is stated as, its clauses, and the definitions that stand there."""
+    for head, promise in audit.promises(read(audit.PAGE)):
+        named = [(path, name) for name, _, path in audit.definitions_in(promise)]
+        stated = [(f"crates/{crate}/specs/{file}.antt", name) for name, crate, file in re.findall(STATED, promise, re.M)]
+        yield head, stated, re.findall(audit.CLAUSE, promise), named
 
 
 def counted(definitions_read):
@@ -249,7 +249,7 @@ def follow_promise(reading, head, clauses, named):
         reading.follow(text, names)
     for path, name in named:
         if (path, name) not in reading.seen:
-            raise Untrue(f"AUDIT.md names {name} at {head}, of which its clauses do not speak")
+            raise Untrue(f"PROOFS.md names {name} at {head}, of which its clauses do not speak")
 
 
 def follow_unknown(reading):
@@ -267,10 +267,9 @@ BEHIND_INTRO = (
 
 HEAD = """# Definitions
 
-[AUDIT.md](AUDIT.md) names for each promise the clauses that carry it, and what to read first. Here is the rest: every definition that these clauses are
+[PROOFS.md](PROOFS.md) names for each promise the clauses that carry it, and what to read first. Here is the rest: every definition that these clauses are
 said with, down to the words of the library (numbers, lists, options), with its text. Each stands after those that it needs, where it is needed first.
-Lines are counted without comments. `harness/reading.py --write` finds the definitions by their names and writes this page. The gate fails where it
-isn't what that would write.
+Lines are counted without comments. `harness/reading.py --write` finds the definitions by their names and writes this page.
 
 Whoever has read them knows what is claimed; the proofs need not be read. The clauses also speak of types of the code:
 """
@@ -285,7 +284,7 @@ def page():
         parts.extend(section(reading, head, begun, intro))
         table.append((head, len(reading.order) - begun, sum(lines for _, _, lines in reading.order[begun:])))
 
-    every = list(promises())
+    every = [promise for promise in promises() if promise[2]]
     add(STATES, lambda: [reading.add("definition", *one) for _, stated, _, _ in every for one in stated])
     for head, _, clauses, named in every:
         add(head, lambda: follow_promise(reading, head, clauses, named))
@@ -305,12 +304,10 @@ def main():
         if "--write" in sys.argv[1:]:
             with open(os.path.join(TOP, PAGE), "w", encoding="utf-8") as file:
                 file.write(text)
-        elif read(PAGE) != text:
-            raise Untrue(f"{PAGE} is not what harness/reading.py --write writes")
     except Untrue as untrue:
         print(f"reading: {untrue}")
         return 1
-    print("reading: the definitions of all promises are as docs/DEFINITIONS.md lists them")
+    print(f"reading: {PAGE} {'is written' if '--write' in sys.argv[1:] else 'can be written'}: {len(text.splitlines())} lines")
     return 0
 
 

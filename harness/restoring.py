@@ -22,7 +22,7 @@ import threading
 
 import operation_tools
 from client import PROGRAM, Server, Tally, check, expect, folder, free_port, is_long, is_refused, need, run_harness
-from model import SECTOR
+from model import SECTOR, sectors_used
 from operation_tools import DIST, ENVIRONMENT, commit, fill, loaded, log_of, map_of, tool
 
 SECTORS = 256
@@ -296,6 +296,16 @@ def refusals(tally, files):
             found = restore(case, *case.words[:-1], copy)
             expect(found[0] == 2, f"it answered {found}")
         case.is_untouched(files.old)
+    with tally.run("a copy over which ssikvd-ship was cut off"), files.case() as case:
+        place = sectors_used(files.log[:4]) - 1
+        with open(case.copy, "r+b") as file:
+            file.seek(SECTOR * place)
+            file.write(bytes(SECTOR))
+        found = restore(case)
+        expect(found[0] == 2 and "closed gate of record 4" in found[2] and "--as-it-ends" in found[2], f"it answered {found}")
+        case.is_untouched(files.old)
+        found = restore(case, "--as-it-ends", *case.words)
+        expect(found[0] == 0 and log_of(case.data) == files.log[:4], f"it answered {found}")
     with tally.run("no room"), files.case() as case:
         full = Calls()
         full.fstatvfs = lambda _: os.statvfs_result((4096, 4096, 100, 10, 10, 100, 10, 10, 0, 255))

@@ -8,6 +8,7 @@ also over files that look odd and aren't wrong. The unit's line runs it where a 
 compaction; also without `ss`. The probe tells a full log. Each figure of the alert rules is one that a tool writes.
 """
 import contextlib
+import errno
 import fcntl
 import io
 import json
@@ -24,7 +25,7 @@ from client import PATIENCE, PROGRAM, Server, Tally, create, expect, folder, fre
 from model import SECTOR, log_image
 from operation import judge_metrics
 from operation_tools import DIST, ENVIRONMENT, fill, loaded, missing, operations, simple_client, tool
-from operation_units import names_of_stat
+from operation_units import names_of_metrics
 
 SECTORS = 512
 NOBODY = 65_534
@@ -259,6 +260,7 @@ def room(tally):
         copied = "cp --sparse=always $1 $0/a"
         cases = {
             "no room for a file to be made": ("64k", f"{program} --data $0/a --sectors 1024", f"of {1024 * SECTOR} bytes", 2),
+            "no room for a size": ("64k", f"{program} --data $0/a --sectors 2MiB", f"of {2 ** 21} bytes", 2),
             "no room for the holes of a file": ("64k", f"{copied} && : >$0/a.lock && {program} --data $0/a", "that the disk has not yet", 1),
             "no inode": ("64k,nr_inodes=2", f"{copied} && {program} --data $0/a", "has no inode left", 2),
         }
@@ -350,7 +352,8 @@ def no_cause(tally):
         with Server(data, listen=f"127.0.0.1:{port}") as server:
             expect(server.is_listening(), "it doesn't start")
     with store(tally, "a refused command line") as (_, data):
-        expect(why("--listen", "127.0.0.1:0")[0] == 2 and why("--data", data, "--sectors", "many")[0] == 2, "it took it")
+        for words in (["--listen", "127.0.0.1:0"], ["--data", data, "--sectors", "many"], ["--data", data, "--sectors", "1XiB"]):
+            expect(why(*words)[0] == 2, f"it took {words}")
 
 
 def unit_line():
@@ -450,6 +453,24 @@ def judge_process(found, process):
     expect(found["processor_seconds_total"] < 20 and found["max_descriptors"] >= 64, f"it said {found}")
 
 
+def judge_unseen(process, port):
+    """Where the descriptors of the server aren't seen, as many are counted as there are."""
+    module = loaded("ssikvd-stat")
+    due = module.descriptors(process, port, True)
+    own, module.os.listdir = module.os.listdir, refuse_descriptors
+    try:
+        found = module.descriptors(process, port, True)
+    finally:
+        module.os.listdir = own
+    inherited = len([name for name in os.listdir(f"/proc/{process}/fd") if int(name) > 2 and not os.readlink(f"/proc/{process}/fd/{name}").startswith(
+        ("socket:", "anon_inode:[eventpoll]", "/"))])
+    expect(found == due - inherited, f"{found} are counted, {due} there are, {inherited} of them this harness's")
+
+
+def refuse_descriptors(_):
+    raise PermissionError(errno.EACCES, os.strerror(errno.EACCES))
+
+
 def stats(tally):
     """Each figure is what was done."""
     with folder() as place:
@@ -464,6 +485,8 @@ def stats(tally):
                 expect((found["connections"], found["log_sectors_used"], found["log_sectors"]) == (0, 2, SECTORS), f"it said {found}")
                 expect("commits_per_minute" not in found and "backup_age_seconds" not in found, f"it knows what it can't: {found}")
                 judge_process(found, process)
+            with tally.run("descriptors that aren't seen"), connected(port, 3):
+                judge_unseen(process, port)
             with tally.run("commits and keys"):
                 before = age_state(state, 60.0)
                 put(port, 30)
@@ -543,7 +566,7 @@ def alerts(tally):
         text = file.read()
     with tally.run("the figures of the alert rules"):
         named = set(re.findall(r"\bssikvd_[a-z]+_\w+", re.sub(r"(?m)^#.*|summary:.*", "", text)))
-        due = {f"ssikvd_log_{name}" for name in loaded("ssikvd-used").HELP} | {"ssikvd_probe_status"} | names_of_stat()
+        due = names_of_metrics()
         expect(len(named) > 10 and named <= due, f"the rules name {sorted(named - due)}")
     with tally.run("the alerts in docs/OPERATIONS.md"):
         lost = [name for name in re.findall(r"alert: (\w+)", text) if f"`{name}`" not in operations()]

@@ -7,6 +7,9 @@ While a transaction is open, what the transactions that commit beside it have re
 outside the memory bound of the other harness. The address space is bounded here, so that memory is refused: the connection that met it
 is closed, sessions that need none are served, and soon after the old transaction has ended there is memory again.
 
+Under a limit on the size of files SIGXFSZ ends the server at the commit that would pass it, and `create` on the way; where the signal is ignored,
+the store stops, or `create` says so. Each commit that was answered is in the file, which is served again without the limit.
+
 Of a pipe that is full and that nobody reads, each line waits that `serve` writes to it: until the pipe is read nobody is served, a server that
 would end doesn't, and no commit that was answered is lost. A pipe with room takes both lines though nobody reads it. Where the pipe is set not
 to block, a refused first line ends the server, and `store stopped` is lost.
@@ -16,13 +19,14 @@ import errno
 import os
 import resource
 import select
+import signal
 import subprocess
 import time
 
 from client import (
-    ALL, DEVICE, PATIENCE, POLL, PROGRAM, STORE_STOPPED, Connection, Refusals, Server, Tally, check, create, expect, folder, free_port,
-    is_long, need, run_harness)
-from model import KEY_MAX, MARKS_MAX, OK, PONG, frame, refusal
+    ALL, DEVICE, FILE_FAULT, PATIENCE, POLL, PROGRAM, STORE_STOPPED, Connection, Refusals, Server, Tally, check, create, expect, folder,
+    free_port, is_long, need, run, run_harness)
+from model import KEY_MAX, MARKS_MAX, OK, PONG, SECTOR, frame, refusal
 
 DESCRIPTORS, CONNECTIONS = 24, 40
 SOON = 0.5
@@ -158,6 +162,64 @@ def scene(tally, place, name, play, limit):
         expect(server.is_listening(), f"no server: {server.error_text()!r}")
         print(f"  {name}: {play(server)}", flush=True)
         expect(server.is_alive() and server.error_text() == b"", f"it ended, or wrote {server.error_text()!r}")
+
+
+# A limit on the size of files
+
+LIMITED, WHOLE = 64, 256    # sectors
+
+
+def with_file_limit(is_ignored):
+    """A limit on the size of files, with the signal of it ignored or not."""
+    def change():
+        signal.signal(signal.SIGXFSZ, signal.SIG_IGN if is_ignored else signal.SIG_DFL)
+        resource.setrlimit(resource.RLIMIT_FSIZE, (SECTOR * LIMITED, SECTOR * LIMITED))
+
+    return change
+
+
+def commit_one(client, number):
+    """The reply to a COMMIT of one key; None where the connection was closed."""
+    client.send(BEGIN + frame("SET", "%04d" % number, "v" * 600) + COMMIT)
+    return [client.reply() for _ in range(3)][-1]
+
+
+def commits_until_refused(client):
+    """How many commits are answered, and what the next one is."""
+    for number in range(1, LIMITED):
+        reply = commit_one(client, number)
+        if reply != b":%d\r\n" % number:
+            return number - 1, reply
+    expect(False, f"{LIMITED} commits pass a limit of {LIMITED} sectors")
+
+
+def file_limit_of_serve(place, is_ignored):
+    data = os.path.join(place, "data")
+    create(data, WHOLE)
+    with Server(data, limit=with_file_limit(is_ignored)) as server:
+        with Connection(server.port) as client:
+            count, reply = commits_until_refused(client)
+            expect(reply == (refusal("STORE fault") if is_ignored else None), f"the commit that passes the limit was answered {reply!r}")
+            expect(not is_ignored or client.ask(PING) == PONG, "a stopped store answers no PING")
+        if not is_ignored:
+            expect(server.status() == -signal.SIGXFSZ, f"it ended with {server.status()}")
+        expect(server.error_text() == (STORE_STOPPED if is_ignored else b""), f"it wrote {server.error_text()!r}")
+    expect(check(data)[:2] == (count, count), f"of {count} commits check finds {check(data)}")
+    with Server(data) as server, Connection(server.port) as client:
+        expect(commit_one(client, count + 1) == b":1\r\n", "the file isn't served on without the limit")
+    expect(check(data)[:2] == (count + 1, count + 1), f"of {count + 1} commits check finds {check(data)}")
+
+
+def file_limit_of_create(place, is_ignored):
+    data = os.path.join(place, "data")
+    words = [PROGRAM, "create", "--data", data, "--sectors", str(WHOLE)]
+    ran = subprocess.run(words, capture_output=True, timeout=PATIENCE, preexec_fn=with_file_limit(is_ignored), check=False)
+    due = (3, FILE_FAULT) if is_ignored else (-signal.SIGXFSZ, b"")
+    expect((ran.returncode, ran.stderr) == due, f"create ended with {ran.returncode} {ran.stderr!r}")
+    expect(os.path.exists(data) != is_ignored, f"it left {os.listdir(place)}")
+    if not is_ignored:
+        found = run(["check", "--data", data])
+        expect(found == (3, b"", b"ssikvd: not a log\n"), f"check of what it left answered {found}")
 
 
 # A full pipe
@@ -300,6 +362,10 @@ def main():
         scene(tally, place, "few descriptors", few_descriptors, with_limit(resource.RLIMIT_NOFILE, DESCRIPTORS))
         memory = (256 if is_long() else 64) * MIB
         scene(tally, place, "an old transaction", old_transaction, with_limit(resource.RLIMIT_AS, memory))
+    for play in (file_limit_of_serve, file_limit_of_create):
+        for is_ignored in (False, True):
+            with folder() as place, tally.run(f"{play.__name__.replace('_', ' ')}, the signal {'ignored' if is_ignored else 'as it is'}"):
+                play(place, is_ignored)
     for play in PIPES:
         with folder() as place, tally.run(play.__name__.replace("_", " ")):
             play(place)

@@ -144,8 +144,9 @@ ssize_t recv(int file, void *into, size_t size, int flags) {
     return traces_memory ? note(RECEIVE, file, 0, moved, NULL, 0) : moved;
 }
 
+/* Blocks of 2,040 bytes are left out, for one of which the server asks at the end of each turn, and goes on without. */
 static void note_memory(size_t size) {
-    if (traces_memory)
+    if (traces_memory && size != 2040)
         note(MEMORY, -1, 0, (int64_t)size, NULL, 0);
 }
 

@@ -340,8 +340,8 @@ def changed(calls, data, answered):
 
 def changed_openings(calls, data):
     """Calls of another opening: a sync or the advice is left out, the advice comes before the sync of the file, or `listening` comes first."""
-    own = [call for call in calls if call.kind in (SYNC, SYNC_DATA, ADVISE)][:3]
-    places = [calls.index(call) for call in own]
+    advised = next(at for at, call in enumerate(calls) if call.kind == ADVISE)
+    places = [at for at, call in enumerate(calls[:advised + 1]) if call.kind in (SYNC, SYNC_DATA, ADVISE)][-3:]
     for name, place in zip(("the directory's sync", "the file's sync", "the advice"), places):
         yield f"{name} left out of the opening", calls[:place] + calls[place + 1:]
     sync, advice = places[1:]
@@ -403,6 +403,36 @@ def by_bare_name(tally, place):
         os.chdir(before)
 
 
+def folders_synced(calls):
+    """The folders that are synced before the first read of a file at a place, in their order."""
+    files, found = {}, []
+    for call in calls:
+        if call.kind == READ_AT:
+            break
+        if call.kind == OPEN and call.result >= 0:
+            files[call.result] = os.path.realpath(call.data.decode())
+        elif call.kind in (SYNC, SYNC_DATA) and call.result == 0 and os.path.isdir(files.get(call.file, "")):
+            found.append(files[call.file])
+    return found
+
+
+def by_link(tally, place):
+    """A file behind a link in another folder: the folders of the link and of the file are synced. A tool that synced the link's alone is
+    reported."""
+    links, there = os.path.join(place, "links"), os.path.join(place, "there")
+    data, link = os.path.join(there, "data"), os.path.join(links, "link")
+    os.mkdir(links)
+    os.mkdir(there)
+    os.symlink(os.path.join("..", "there", "data"), link)
+    with open(data, "wb") as file:
+        file.write(log_image([], SECTORS_OF_CREATE))
+    images = one_server(tally, place, data, [], SECTORS_OF_CREATE, small_steps()[:20], "server behind a link", link)[1]
+    calls = Trace(place, "server behind a link").calls()
+    with tally.run("a server behind a link, the folders"):
+        expect(folders_synced(calls) == [links, there], f"synced are {folders_synced(calls)}")
+    return images
+
+
 def without_syncs(tally, place, data, sectors, steps):
     """A server whose syncs of the file succeed and aren't made: both must report it."""
     trace = Trace(place, "without syncs", skips_sync=True)
@@ -423,7 +453,7 @@ def main():
         images += more
         _, more = one_server(tally, place, data, log, SECTORS_OF_CREATE, transaction("1", [(b"g", b"2")]), "second server")
         images += more
-        images += by_bare_name(tally, place)
+        images += by_bare_name(tally, place) + by_link(tally, place)
         lying = os.path.join(place, "lying")
         with open(lying, "wb") as file:
             file.write(log_image([], SECTORS_OF_CREATE))

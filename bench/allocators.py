@@ -1,0 +1,204 @@
+#!/usr/bin/env python3
+"""Measures what the C library's allocator, its settings and jemalloc make of the program: pauses, processor time and memory.
+
+    bench/allocators.py [--program PROGRAM] [--keys N] [--allocators NAME..] [--rounds N] [--out FILE]
+
+For each allocator in turn, over a data file in memory: a load of N keys in random order; all of them written again; all again beside an old
+transaction; that one's end, and turns until nothing is left to give back; then one RANGE of 100 pairs, the first request that asks for a long block.
+After that the program is started again over that log, in which each key is written three times, and over one in which each is written once; and a store
+of 128 values of 16,384 bytes is asked for all of them, again and again.
+
+The figures: the server's processor time for each key of the load and of what was written again; the longest turn from the end on until nothing was
+left, and of that RANGE; the resident memory after each step, `later` so many seconds after the end, in which PINGs came. The longest turns are taken
+by a library that is preloaded as well (harness/polls.c). Needs Python 3, make and a C compiler, and for a million keys 2 GB of memory. jemalloc is
+Debian's libjemalloc2.
+"""
+
+import argparse
+import contextlib
+import ctypes.util
+import json
+import os
+import signal
+import statistics
+import sys
+import time
+
+sys.dont_write_bytecode = True
+
+from pause_scenes import LARGE_VALUE, LONG_REPLY_PAIRS, PAIRS, PING, Turns, fill_large, large_key, opened, set_all  # noqa: E402
+from preloaded import build, environment                                                             # noqa: E402
+from scale import BEGIN, COMMIT, COMMIT_WRITES, DEFAULT_PROGRAM, Client, Store, about, frame, scattered  # noqa: E402
+from servers import Failure, Listening, Ssikvd                                                       # noqa: E402
+
+TUNABLES = "GLIBC_TUNABLES"
+LATER_SECONDS, PINGS_A_SECOND = 12, 100
+LARGE_RANGES = 60
+# Of each the variables of its environment.
+ALLOCATORS = {
+    "C library": {},
+    "mxfast=0": {TUNABLES: "glibc.malloc.mxfast=0"},
+    "mxfast=0, trim_threshold=131072": {TUNABLES: "glibc.malloc.mxfast=0:glibc.malloc.trim_threshold=131072"},
+    "trim_threshold=131072": {TUNABLES: "glibc.malloc.trim_threshold=131072"},
+    "hugetlb=1": {TUNABLES: "glibc.malloc.hugetlb=1"},
+    "jemalloc": {"MALLOC_CONF": ""},
+    "jemalloc, decay at once": {"MALLOC_CONF": "dirty_decay_ms:0,muzzy_decay_ms:0"},
+    "jemalloc, decay in 1 s": {"MALLOC_CONF": "dirty_decay_ms:1000,muzzy_decay_ms:0"},
+}
+COLUMNS = {
+    "load_us": "Load, us a key", "again_us": "Written again, us a key", "end_ms": "End, ms", "long_ms": "RANGE of 100, ms", "filled_mb": "Filled, MB",
+    "again_mb": "Written again, MB", "after_mb": "After the old one, MB", "later_mb": "Later, MB", "opened_again_mb": "Opened again, MB",
+    "opened_mb": "Opened, once written, MB", "opening_again_ms": "Opening again, ms", "large_us": "Largest RANGE, us",
+}
+
+
+class Opened(Listening):
+    """The server over a data file that is there."""
+
+    resident_bytes, processor_seconds = Ssikvd.resident_bytes, Store.processor_seconds
+
+    def __init__(self, options, data, variables):
+        super().__init__([options.program, "serve", "--data", data, "--listen", "127.0.0.1:0"], env=variables)
+        self.opening_ms = 1e3 * self.processor_seconds()
+
+
+class Trial:
+    """One store under one allocator."""
+
+    def __init__(self, options, server, turns):
+        self.keys, self.server, self.turns = options.keys, server, turns
+        self.client, self.found = Client(server.address), {}
+
+    def note_memory(self, name):
+        self.found[f"{name}_mb"] = self.server.resident_bytes() / 1e6
+
+    def write_all(self, name):
+        """All keys are written. The processor time for each."""
+        before = self.server.processor_seconds()
+        set_all(self.client, scattered, self.keys)
+        self.found[f"{name}_us"] = 1e6 * (self.server.processor_seconds() - before) / self.keys
+
+    def settle(self):
+        """The turn that answered last has ended."""
+        before = self.turns.count()
+        while self.turns.count() < before + 2:
+            self.client.ask(PING)
+
+    def longest(self, name, work):
+        """The longest turn in that work, and behind it until nothing is left to do."""
+        self.settle()
+        self.turns.begin()
+        work()
+        while not self.turns.is_idle():
+            time.sleep(0.001)
+        self.settle()
+        self.found[f"{name}_ms"] = self.turns.longest_ms()
+
+    def range(self):
+        self.client.ask(BEGIN)
+        self.client.ask(frame(b"RANGE", b"0", b"g", b"%d" % LONG_REPLY_PAIRS))
+        self.client.ask(COMMIT)
+
+    def pings(self, seconds):
+        for _ in range(int(seconds * PINGS_A_SECOND)):
+            self.client.ask(PING)
+            time.sleep(1 / PINGS_A_SECOND)
+
+    def run(self, later):
+        self.write_all("load")
+        self.note_memory("filled")
+        self.write_all("again")
+        self.note_memory("again")
+        old = Client(self.server.address)
+        opened(old)
+        set_all(self.client, scattered, self.keys)
+        self.longest("end", lambda: old.ask(COMMIT))
+        self.note_memory("after")
+        self.longest("long", self.range)
+        self.pings(later)
+        self.note_memory("later")
+
+
+def large_range_us(options, variables):
+    """The processor time of the largest RANGE, which is asked for again and again."""
+    with Store(options, 0, 2 * PAIRS, variables) as server:
+        client, buffer = Client(server.address), bytearray(1 << 20)
+        fill_large(client, LARGE_VALUE)
+        client.ask(BEGIN)
+        whole = len(b"*%d\r\n" % (2 * PAIRS)) + PAIRS * (len(frame(large_key(0), b"x" * LARGE_VALUE)) - len(b"*2\r\n"))
+        before = server.processor_seconds()
+        for _ in range(LARGE_RANGES):
+            client.socket.sendall(frame(b"RANGE", b"large", b"larges", b"%d" % PAIRS))
+            left = whole
+            while left > 0:
+                left -= client.socket.recv_into(buffer)
+        return 1e6 * (server.processor_seconds() - before) / LARGE_RANGES
+
+
+def measure(options, name):
+    """The figures of one run under this allocator."""
+    with contextlib.ExitStack() as stack:
+        turns = Turns(options.library)
+        stack.callback(turns.remove)
+        variables = environment(turns, more=[options.jemalloc] * name.startswith("jemalloc")) | ALLOCATORS[name]
+        server = stack.enter_context(Store(options, 0, 3 * (options.keys // COMMIT_WRITES + 1), variables))
+        trial = Trial(options, server, turns)
+        trial.run(options.later)
+        server.stop()
+        with Opened(options, server.data, variables) as again:
+            trial.found |= {"opened_again_mb": again.resident_bytes() / 1e6, "opening_again_ms": again.opening_ms}
+        with Store(options, options.keys, 0, variables) as once:
+            trial.found["opened_mb"] = once.resident_bytes() / 1e6
+        trial.found["large_us"] = large_range_us(options, variables)
+    return trial.found
+
+
+def shown(value):
+    return f"{value:,.0f}" if value >= 100 else f"{value:.3g}"
+
+
+def print_table(rows):
+    print("| Allocator | " + " | ".join(COLUMNS.values()) + " |\n|" + "---|" * (1 + len(COLUMNS)))
+    for name, found in rows.items():
+        print(f"| {name} | " + " | ".join(shown(statistics.median(it[column] for it in found)) for column in COLUMNS) + " |")
+
+
+def read_options():
+    parser = argparse.ArgumentParser(description=__doc__, formatter_class=argparse.RawDescriptionHelpFormatter)
+    parser.add_argument("--program", default=os.path.normpath(DEFAULT_PROGRAM), help="(%(default)s)")
+    parser.add_argument("--keys", type=int, default=100_000, help="(%(default)s)")
+    parser.add_argument("--allocators", nargs="+", choices=ALLOCATORS, default=list(ALLOCATORS), metavar="NAME", help="of: " + "; ".join(ALLOCATORS))
+    parser.add_argument("--rounds", type=int, default=1, help="the allocators take turns in each (%(default)s)")
+    parser.add_argument("--later", type=float, default=LATER_SECONDS, help="seconds after the end at which memory is looked at again (%(default)s)")
+    parser.add_argument("--folder", default="/dev/shm", help="where data files are made (%(default)s)")
+    parser.add_argument("--out", help="a file for the figures, as JSON")
+    options = parser.parse_args()
+    options.jemalloc = ctypes.util.find_library("jemalloc")
+    if not os.access(options.program, os.X_OK):
+        parser.error(f"there is no program {options.program}")
+    return options
+
+
+def main():
+    options = read_options()
+    signal.signal(signal.SIGTERM, lambda *_: sys.exit("stopped"))
+    names = [name for name in options.allocators if options.jemalloc or not name.startswith("jemalloc")]
+    if len(names) < len(options.allocators):
+        print("jemalloc was not found: its rows are missing.\n")
+    try:
+        options.library, rows = build("polls"), {name: [] for name in names}
+        for _ in range(options.rounds):
+            for name in names:
+                rows[name].append(measure(options, name))
+                print(f"{name}: {rows[name][-1]}", file=sys.stderr)
+        print_table(rows)
+        if options.out:
+            with open(options.out, "w", encoding="utf-8") as file:
+                json.dump({"about": about(options.program), "keys": options.keys, "rows": rows}, file, indent=1)
+                file.write("\n")
+    except Failure as failure:
+        sys.exit(f"allocators.py: {failure}")
+
+
+if __name__ == "__main__":
+    main()

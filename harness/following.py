@@ -1,0 +1,414 @@
+"""Compaction beside a running server: a copy that follows its data file, `ssikvd-follow`, and how long `ssikvd-compact` stops a server.
+
+Writes and deletions come between any two steps: before the place is noted, while the map is copied, and between each two runs of the tool. The
+copy then has the map of the data file, and the program reads it. A copy or a data file that isn't the noted one, a damaged record and a full copy
+are refused, and nothing is changed. Each image that a crash within a run may leave is a log of so many records. A tool that is killed is run
+again. Clients write while `ssikvd-compact` runs, none of their commits is lost, and how long each of them wasn't served is printed. At last the
+judges are shown tools with a planted fault.
+"""
+import contextlib
+import json
+import os
+import random
+import shutil
+import subprocess
+import threading
+import time
+
+from client import PATIENCE, PROGRAM, Deviation, Server, Tally, check, create, expect, folder, is_long, is_refused, need, run_harness
+from looks import in_memory
+from model import SECTOR, Damaged, NotALog, frame, read_log
+from operation import Recorder, Trial
+from operation_tools import DIST, loaded, log_of, map_of, simple_client, tool
+
+SECTORS = 4_096
+
+
+class Pair:
+    """A served data file, a copy that follows it, and the state of the tool."""
+
+    def __init__(self, place, chance):
+        self.data, self.new, self.state, self.chance = (*(os.path.join(place, name) for name in ("data", "new", "state")), chance)
+        create(self.data, SECTORS)
+
+    def commit(self, port, count):
+        """So many transactions that write and delete some of 40 keys."""
+        store = simple_client.Client(port)
+        for _ in range(count):
+            keys = sorted(self.chance.sample(range(40), self.chance.randint(1, 6)))
+            store.transact(lambda store: [self._write(store, b"%02d" % key) for key in keys])
+        store.close()
+
+    def _write(self, store, key):
+        if self.chance.random() < 0.3:
+            store.ask("DEL", key)
+        else:
+            store.ask("SET", key, self.chance.randbytes(self.chance.choice((0, 1, 400, 424, 425, 3_000))))
+
+    def follow(self, *words, script="ssikvd-follow"):
+        return tool(script, "--state", self.state, *words)
+
+    def compact(self, *words):
+        subprocess.run([PROGRAM, "compact", "--from", self.data, "--to", self.new, *words], check=True, capture_output=True)
+
+
+def judge_copy(pair, found):
+    """The tool ended well, and the copy has the map of the data file."""
+    expect(found[0] == 0, f"it ended with {found}")
+    expect(map_of(log_of(pair.new)) == map_of(log_of(pair.data)), "the copy has another map")
+    records, _, sectors, count = check(pair.new)
+    expect(found[1] == f"records {records} sectors {sectors} of {count}\n", f"it printed {found[1]!r}, check says {records}, {sectors}, {count}")
+
+
+def follow_through(pair, port, script="ssikvd-follow", most=12):
+    """Commits between any two steps. Gives what the last run of the tool answered."""
+    counts = [pair.chance.choice((0, 1, pair.chance.randint(2, most))) for _ in range(5)]
+    pair.commit(port, counts[0])
+    expect(pair.follow(pair.data, script=script)[0] == 0, "no place could be noted")
+    pair.commit(port, counts[1])
+    pair.compact()
+    pair.commit(port, counts[2])
+    found = pair.follow(pair.data, pair.new, script=script)
+    expect(found[0] == 0, f"it ended with {found}")
+    pair.commit(port, counts[3])
+    pair.follow("--once", pair.data, pair.new, script=script)
+    pair.commit(port, counts[4])
+    return pair.follow("--once", pair.data, pair.new, script=script)
+
+
+def follows(tally):
+    chance = random.Random(58)
+    for number in range(60 if is_long() else 6):
+        with tally.run(f"commits between any two steps, {number}"), folder() as place:
+            pair = Pair(place, chance)
+            with Server(pair.data) as server:
+                judge_copy(pair, follow_through(pair, server.port))
+    with tally.run("many records between two steps"), folder() as place:
+        pair = Pair(place, chance)
+        with Server(pair.data) as server:
+            judge_copy(pair, follow_through(pair, server.port, most=400))
+
+
+def refusals(tally):
+    """What isn't the noted file is refused, and nothing is changed."""
+    with folder() as place:
+        pair = Pair(place, random.Random(5))
+        with Server(pair.data) as server:
+            pair.commit(server.port, 10)
+            pair.follow(pair.data)
+            pair.compact()
+            pair.follow(pair.data, pair.new)
+            pair.commit(server.port, 5)
+        kept = {name: _bytes(getattr(pair, name)) for name in ("data", "new", "state")}
+
+        def refused(what, status, text, change):
+            with tally.run(what):
+                change()
+                before = _bytes(pair.new)
+                found = pair.follow("--once", pair.data, pair.new)
+                expect(found[0] == status and text in found[2] and not found[1], f"it answered {found}")
+                expect(_bytes(pair.new)[:2 * SECTOR] == before[:2 * SECTOR] and _reads(pair.new) == _reads_of(before), "the copy was changed")
+                for name, content in kept.items():
+                    _put(getattr(pair, name), content)
+
+        another = "another log than the one that was noted"
+        refused("a data file that was compacted", 2, another, lambda: _compacted(pair.data))
+        refused("a data file with a damaged record", 2, "damaged record", lambda: _damage(pair.data))
+        refused("another copy", 2, another, lambda: _compacted(pair.data, pair.new))
+        refused("a copy that goes on behind the place", 2, another, lambda: _put(pair.state, _older(kept["state"])))
+        refused("a copy that is no log", 2, "not a log", lambda: _put(pair.new, bytes(len(kept["new"]))))
+        refused("a copy that is full", 3, "log full", lambda: os.truncate(pair.new, SECTOR * (json.loads(kept["state"])["new"]["place"] + 3)))
+        refused("a state that is none", 2, "", lambda: _put(pair.state, b"{}"))
+        with tally.run("none of these changed what follows"):
+            judge_copy(pair, pair.follow("--once", pair.data, pair.new))
+
+
+def _bytes(name):
+    with open(name, "rb") as file:
+        return file.read()
+
+
+def _put(name, content):
+    with open(name, "wb") as file:
+        file.write(content)
+
+
+def _compacted(name, to=None):
+    subprocess.run([PROGRAM, "compact", "--from", name, "--to", name + ".other"], check=True, capture_output=True)
+    os.replace(name + ".other", to or name)
+
+
+def _damage(name):
+    """Turns over a byte of the last record but one."""
+    with loaded("ssikvd-used").Log(name) as log:
+        places = [log.place]
+        while log.step():
+            places.append(log.place)
+    with open(name, "r+b") as file:
+        file.seek(SECTOR * (places[-3] + 1) + 60)
+        byte = file.read(1)
+        file.seek(-1, 1)
+        file.write(bytes([byte[0] ^ 1]))
+
+
+def _older(state):
+    """A state whose place in the copy is that of its first record."""
+    found = json.loads(state)
+    found["new"] = {"place": 1, "records": 0, "last": 0, "digest": "0" * 64}
+    return json.dumps(found).encode()
+
+
+def _reads_of(image):
+    try:
+        return len(read_log(lambda at: image[SECTOR * at:SECTOR * (at + 1)], len(image) // SECTOR)[0])
+    except NotALog:
+        return None
+
+
+def _reads(name):
+    return _reads_of(_bytes(name))
+
+
+# Crashes and kills
+
+def crashes(tally):
+    """Each image that a crash within a run may leave has the records of before, or those of after."""
+    tool_module, chance = loaded("ssikvd-follow"), random.Random(3)
+    with folder() as place, tally.run("crashes of a run"):
+        pair = Pair(place, chance)
+        with Server(pair.data) as server:
+            pair.commit(server.port, 4)
+            pair.follow(pair.data)
+            pair.compact()
+            pair.follow(pair.data, pair.new)
+            pair.commit(server.port, 5)
+        print(f"  ssikvd-follow: {judge_crashes(tool_module, pair, chance)} images of crashes", flush=True)
+
+
+def judge_crashes(tool_module, pair, chance):
+    before, images = log_of(pair.new), 0
+    recorder = Recorder(_bytes(pair.new), os.path.getsize(pair.new), tool_module.read_state(pair.state)["new"]["place"])
+    own = tool_module.os.pwrite, tool_module.os.fsync
+
+    def judged(call, real):
+        def judge(*arguments):
+            nonlocal images
+            real(*arguments)
+            result = call(*arguments)
+            for image in recorder.images(chance):
+                images += 1
+                try:
+                    found = read_log(lambda at: image[SECTOR * at:SECTOR * (at + 1)], len(image) // SECTOR)[0]
+                except Damaged as damage:
+                    raise Deviation(f"a crash leaves a damaged record {damage}") from None
+                expect(len(found) in (len(before), len(before) + 5), f"a crash leaves {len(found)} records")
+            return result
+
+        return judge
+
+    tool_module.os.pwrite, tool_module.os.fsync = judged(recorder.write, own[0]), judged(recorder.sync, own[1])
+    try:
+        tool_module.follow(pair.data, pair.new, pair.state)
+    finally:
+        tool_module.os.pwrite, tool_module.os.fsync = own
+    expect(not recorder.unsettled, "what it wrote last is not settled")
+    return images
+
+
+def kills(tally):
+    """A run that is killed, at any moment: the next one either goes on, or refuses."""
+    chance = random.Random(9)
+    for number in range(40 if is_long() else 4):
+        with tally.run(f"a kill, {number}"), folder() as place:
+            pair = Pair(place, chance)
+            with Server(pair.data) as server:
+                pair.commit(server.port, 5)
+                pair.follow(pair.data)
+                pair.compact()
+                pair.commit(server.port, 60)
+                process = subprocess.Popen([os.path.join(DIST, "ssikvd-follow"), "--state", pair.state, pair.data, pair.new], stdout=subprocess.DEVNULL,
+                                           stderr=subprocess.DEVNULL)
+                time.sleep(chance.uniform(0.03, 0.15))
+                process.kill()
+                process.wait()
+                pair.commit(server.port, 5)
+                found = pair.follow("--once", pair.data, pair.new)
+                if found[0] != 2:
+                    judge_copy(pair, found)
+                else:
+                    expect("another log" in found[2] or f"{pair.new}: closed gate" in found[2], f"it answered {found}")
+
+
+# The whole of it
+
+class Writer(threading.Thread):
+    """A client that writes one key after the other, and comes again where its connection is lost. `acknowledged` has the keys whose COMMIT was answered."""
+
+    def __init__(self, port, number, is_over, pause):
+        super().__init__(daemon=True)
+        self.port, self.number, self.is_over, self.pause, self.acknowledged = port, number, is_over, pause, []
+
+    def run(self):
+        count = 0
+        while not self.is_over.is_set():
+            try:
+                store = simple_client.Client(self.port, timeout=PATIENCE)
+                while not self.is_over.is_set():
+                    count += 1
+                    key = b"%d %06d" % (self.number, count)
+                    store.transact(lambda store: store.ask("SET", key, "1"))
+                    self.acknowledged.append(key)
+                    time.sleep(self.pause)
+            except (OSError, simple_client.Lost):
+                time.sleep(0.002)
+
+
+@contextlib.contextmanager
+def writers(port, pause=0.0, first=0):
+    """Four such clients, the first of which has this number."""
+    is_over = threading.Event()
+    found = [Writer(port, first + number, is_over, pause) for number in range(4)]
+    for writer in found:
+        writer.start()
+    try:
+        yield found
+    finally:
+        is_over.set()
+        for writer in found:
+            writer.join(PATIENCE)
+
+
+class Watcher(threading.Thread):
+    """A client that asks as fast as it is answered, and comes again where it isn't: how long it wasn't served at most, in seconds."""
+
+    def __init__(self, port):
+        super().__init__(daemon=True)
+        self.port, self.is_over, self.longest = port, threading.Event(), 0.0
+
+    def run(self):
+        last = time.monotonic()
+        while not self.is_over.is_set():
+            try:
+                store = simple_client.Client(self.port, timeout=PATIENCE)
+                while not self.is_over.is_set():
+                    store.ask("PING")
+                    now = time.monotonic()
+                    self.longest, last = max(self.longest, now - last), now
+                    time.sleep(0.001)
+            except (OSError, simple_client.Lost):
+                time.sleep(0.002)
+
+    def __enter__(self):
+        self.start()
+        return self
+
+    def __exit__(self, *_):
+        self.is_over.set()
+        self.join(PATIENCE)
+
+
+def beside_a_load(tally, script="ssikvd-compact"):
+    """Clients write while the file is compacted: nothing is lost, and the copy is used."""
+    with tally.run("ssikvd-compact beside clients that write"), in_memory() as place:
+        print(f"  not served for {judge_load(place, script):.2f} s at most", flush=True)
+
+
+def judge_load(place, script):
+    trial = Trial(place, os.path.join(DIST, script) if os.sep not in script else script)
+    create(trial.data, 262_144)    # at this rate it isn't full in a minute, be the machine as busy as it may
+    trial.start()
+    try:
+        fill(trial.port, 20_000 if is_long() else 2_000)
+        with writers(trial.port, 0.002) as load, Watcher(trial.port) as watcher:
+            for _ in range(5 if is_long() else 2):
+                wait_until(lambda before=count_of(load): count_of(load) > before + 50)
+                words = [trial.script, "--stop", trial.bin + "/stops", "--start", trial.bin + "/starts", trial.data]
+                status, out, err = tool(*words, seconds=6 * PATIENCE)
+                expect(status == 0 and "copied beside the server" in out and not err, f"it ended with {status}: {out}{err}")
+        trial.stop()
+        judge_kept(load, map_of(log_of(trial.data)))
+        return watcher.longest
+    finally:
+        trial.stop()
+
+
+def judge_kept(load, found):
+    """Each commit that was acknowledged is in the map."""
+    lost = [key for writer in load for key in writer.acknowledged if key not in found]
+    expect(not lost, f"of {count_of(load)} commits {len(lost)} are lost, as {lost[:2]}")
+
+
+def count_of(load):
+    return sum(len(writer.acknowledged) for writer in load)
+
+
+def fill(port, keys):
+    """So many keys, 64 in a transaction."""
+    store = simple_client.Client(port)
+    for first in range(0, keys, 64):
+        requests = [frame("BEGIN"), *(frame("SET", b"%09d" % key, b"v" * 100) for key in range(first, min(first + 64, keys))), frame("COMMIT")]
+        store.socket.sendall(b"".join(requests))
+        for _ in requests:
+            store.replies.readline()
+    store.close()
+
+
+def wait_until(holds):
+    end = time.monotonic() + PATIENCE
+    while not holds():
+        expect(time.monotonic() < end, "clients aren't served")
+        time.sleep(0.01)
+
+
+# Tools with a fault
+
+WRONG = {
+    "a record that is left out": ("            target.append(record)\n", "            if target.log.records % 3:\n                target.append(record)\n"),
+    "an index that isn't its own": ("log.records.to_bytes(8, \"big\")", "record.index.to_bytes(8, \"big\")"),
+    "a digest of the other log": ("log.digest = hashlib.sha256(log.digest + index + record.payload).digest()", "log.digest = record.digest"),
+}
+NO_CATCH_UP = '    line=$(ssikvd-follow --once --state "$data.new.state" "$data" "$data.new") || {'
+WRONG_COMPACTIONS = {
+    "a copy that is taken as it is": (NO_CATCH_UP, NO_CATCH_UP.replace('ssikvd-follow --once --state "$data.new.state" "$data"', "ssikvd-used")),
+    "a place that is noted too late": ("    roomy_file\n    line=$(in_time", '    roomy_file\n    sleep 0.1\n    rm "$data.new.state"\n'
+                                       '    ssikvd-follow --state "$data.new.state" "$data"\n    line=$(in_time'),
+}
+
+
+def wrong_tools(tally):
+    with open(os.path.join(DIST, "ssikvd-follow"), encoding="utf-8") as file:
+        text = file.read()
+    for name, (right, wrong) in WRONG.items():
+        with tally.run(f"{name} is reported"), folder() as place:
+            expect(text.count(right) == 1, f"{name} can't be planted")
+            script = os.path.join(place, "ssikvd-follow")
+            Trial._write(script, text.replace(right, wrong))
+            shutil.copy(os.path.join(DIST, "ssikvd-verify"), place)
+            expect(any(is_refused(judge_wrong, seed, script) for seed in range(4)), f"{name} was not reported")
+    with open(os.path.join(DIST, "ssikvd-compact"), encoding="utf-8") as file:
+        text = file.read()
+    for name, (right, wrong) in WRONG_COMPACTIONS.items():
+        with tally.run(f"{name} is reported"), in_memory() as place:
+            expect(text.count(right) == 1, f"{name} can't be planted")
+            script = os.path.join(place, "ssikvd-compact")
+            Trial._write(script, text.replace(right, wrong))
+            expect(is_refused(judge_load, place, script), f"{name} was not reported")
+
+
+def judge_wrong(seed, script):
+    with folder() as place:
+        pair = Pair(place, random.Random(seed))
+        with Server(pair.data) as server:
+            judge_copy(pair, follow_through(pair, server.port, script))
+
+
+def main():
+    need(PROGRAM)
+    tally = Tally("following")
+    for part in (follows, refusals, crashes, kills, beside_a_load, wrong_tools):
+        part(tally)
+    return 0 if tally.end() else 1
+
+
+if __name__ == "__main__":
+    run_harness(main)
