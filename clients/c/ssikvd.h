@@ -10,7 +10,7 @@
 #include <stddef.h>
 #include <stdint.h>
 
-#define SSIKVD_VERSION "0.1.0"
+#define SSIKVD_VERSION "0.2.0"
 
 /* What a call answers. */
 enum ssikvd_status {

@@ -16,7 +16,7 @@ import (
 )
 
 // Version is that of the package and of the program.
-const Version = "0.1.0"
+const Version = "0.2.0"
 
 // Options say how a store is used. Of a field that is zero the default holds.
 type Options struct {

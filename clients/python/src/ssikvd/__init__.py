@@ -17,7 +17,7 @@ from . import _core
 from ._protocol import (
     Conflict, Data, Error, Full, Invalid, Lost, Pages, Refused, Stopped, Unreachable, after, end_of_prefix)
 
-__version__ = "0.1.0"
+__version__ = "0.2.0"
 __all__ = [
     "Conflict", "Data", "Error", "Full", "Invalid", "Lost", "Refused", "Stopped", "Store", "Transaction", "Unreachable", "after",
     "connect", "end_of_prefix"]

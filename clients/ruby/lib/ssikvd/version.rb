@@ -2,5 +2,5 @@
 
 module Ssikvd
   # The version of the program that this package comes with.
-  VERSION = "0.1.0"
+  VERSION = "0.2.0"
 end
