@@ -1,7 +1,9 @@
 -- The calls that runs of the program really made of a file, the last argument saying whether the call succeeded. They
 -- are left open, as the facts of a file are. The lemmas are to be cited only of the call that a proof is about, by the
 -- answers in `proofs/` of this crate.
-use Rattle.std.specs.Prelude.{ℕ, Bool, List, Result, Ok, Err, IfErr}
+use Rattle.std.specs.Path.{path_parent}
+use Rattle.std.specs.Prelude.{◌⊎◌, ℕ, ℤ, pos, Bool, true, false, List, [], ◌∷◌, Option, Some, None, Result, Ok, Err, IfErr}
+use Rattle.std.specs.Prelude.{codes}
 use Rattle.std.specs.declared.io.Error.{Error}
 use Rattle.file_calls.specs.declared.counted.CountedFile.{CountedFile}
 use Rattle.file_calls.specs.declared.opened.OpenedFile.{OpenedFile}
@@ -26,14 +28,41 @@ WasOpenedToRead file path = Unit {0}
 pub HadLength : OpenedFile → ℕ → Type 0
 HadLength file bytes = Unit {0}
 
+-- once it was open this directory was synced, and that succeeded
+pub HadDirectorySynced : OpenedFile → List ℕ → Type 0
+HadDirectorySynced file directory = Unit {0}
+
+-- the system told whether what this path names is a symbolic link
+pub WasLink : List ℕ → Bool → Type 0
+WasLink path is = Unit {0}
+
+-- the system told that a path leads to this one, in which no name is a symbolic link
+pub LeadsTo : List ℕ → List ℕ → Type 0
+LeadsTo path resolved = Unit {0}
+
+abbrev pub or_here : Option (List ℕ) → List ℕ
+or_here None = codes "."
+or_here (Some []) = codes "."
+or_here (Some (b ∷ bytes)) = b ∷ bytes
+
+-- the directory in which a path names something: what stands before its last name, or the one that is worked in
+abbrev pub directory_of : List ℕ → List ℕ
+directory_of path = or_here (path_parent path)
+
 -- once it was open the directory of this path was synced, and where the path is a symbolic link that of the file that
 -- it leads to, and that succeeded
-pub HadNameSettled : OpenedFile → List ℕ → Type 0
-HadNameSettled file path = Unit {0}
+pub record HadNameSettled (file : OpenedFile) (path : List ℕ) : Type 0 where
+  pub here : HadDirectorySynced file (directory_of path)
+  pub there : WasLink path false
+      ⊎ ((resolved : List ℕ) × LeadsTo path resolved × HadDirectorySynced file (directory_of resolved))
 
--- the system was asked to drop its copies of the pages, and agreed
-pub HadCopiesDropped : OpenedFile → Type 0
-HadCopiesDropped file = Unit {0}
+-- the system was told how so many bytes from this offset on will be read, 0 for all that follow, and answered this
+pub WasAdvised : OpenedFile → ℤ → ℤ → ℤ → ℤ → Type 0
+WasAdvised file offset len advice answer = Unit {0}
+
+-- the system was asked to drop its copies of all pages (POSIX_FADV_DONTNEED, which Linux numbers 4), and agreed
+abbrev pub HadCopiesDropped : OpenedFile → Type 0
+HadCopiesDropped file = WasAdvised file (pos 0) (pos 0) (pos 4) (pos 0)
 
 -- its next call read these bytes from this offset on
 pub WasRead : CountedFile → ℕ → List ℕ → Bool → Type 0
@@ -72,13 +101,21 @@ pub real_length : (file : OpenedFile) (bytes : ℕ) → HadLength file bytes
 unfolding HadLength
 real_length file bytes = tt
 
-pub real_settle_name : (file : OpenedFile) (path : List ℕ) → HadNameSettled file path
-unfolding HadNameSettled
-real_settle_name file path = tt
+pub real_directory : (file : OpenedFile) (directory : List ℕ) → HadDirectorySynced file directory
+unfolding HadDirectorySynced
+real_directory file directory = tt
 
-pub real_drop_copies : (file : OpenedFile) → HadCopiesDropped file
-unfolding HadCopiesDropped
-real_drop_copies file = tt
+pub real_link : (path : List ℕ) (is : Bool) → WasLink path is
+unfolding WasLink
+real_link path is = tt
+
+pub real_way : (path resolved : List ℕ) → LeadsTo path resolved
+unfolding LeadsTo
+real_way path resolved = tt
+
+pub real_advice : (file : OpenedFile) (offset len advice answer : ℤ) → WasAdvised file offset len advice answer
+unfolding WasAdvised
+real_advice file offset len advice answer = tt
 
 pub real_read : (file : CountedFile) (offset : ℕ) (bytes : List ℕ) (ok : Bool) → WasRead file offset bytes ok
 unfolding WasRead

@@ -1,5 +1,6 @@
 //! Opening a file.
 ghost use Rattle.std.specs.Prelude.{IfErr, IfOk, OnOk};
+ghost use Rattle.file_calls.specs.HappenedCalls.{LeadsTo, WasAnswered, WasLink};
 
 use std::fs::{self, File, OpenFile, OpenOptions};
 use std::io::{self, ErrorKind};
@@ -18,8 +19,10 @@ pub struct OpenedFile {
 }
 
 impl OpenedFile {
+    ghost use Rattle.std.specs.Path.{path_bytes};
     ghost use Rattle.file_calls.specs.HappenedCalls.{WasAnswered, WasMade, WasOpened, WasOpenedToRead, HadLength};
-    ghost use Rattle.file_calls.specs.HappenedCalls.{HadNameSettled, HadCopiesDropped};
+    ghost use Rattle.file_calls.specs.HappenedCalls.{HadDirectorySynced, HadNameSettled, HadCopiesDropped, WasAdvised};
+    ghost use Rattle.file_calls.specs.HappenedCalls.{directory_of};
 
     /// Makes a new file, to be read and written. Answers the system's error, also where a file of this name exists. Takes no memory.
     pub fn make<R: Files<File = File> + Clock>(rt: &R, path: &str) -> io::Result<OpenedFile>
@@ -79,12 +82,31 @@ impl OpenedFile {
         ensures settled { OnOk result (HadNameSettled self.now path.now) }
         ensures error { IfErr result (λ e. WasAnswered e) }
     {
-        sync_directory_of(rt, path)?;
-        if !fs::symlink_metadata(rt, path)?.is_symlink() {
+        self.sync_directory_of(rt, path)?;
+        if !is_link(rt, path)? {
             return Ok(());
         }
         let mut resolved = [0u8; libc::PATH_MAX];
-        sync_directory_of(rt, without_links(path, &mut resolved)?)
+        self.sync_directory_of(rt, without_links(path, &mut resolved)?)
+    }
+
+    /// Syncs the directory in which this path names something. Answers the system's error.
+    fn sync_directory_of<R: Files<File = File>>(&self, rt: &R, path: &str) -> io::Result<()>
+        ensures synced { OnOk result (HadDirectorySynced self.now (directory_of path.now)) }
+        ensures error { IfErr result (λ e. WasAnswered e) }
+    {
+        match Path::new(path).parent() {
+            Some(parent) if !parent.as_str().is_empty() => self.sync_directory(rt, parent),
+            _ => self.sync_directory(rt, Path::new(".")),
+        }
+    }
+
+    /// Syncs a directory, once the file is open. Answers the system's error.
+    fn sync_directory<R: Files<File = File>>(&self, rt: &R, directory: Path<'_>) -> io::Result<()>
+        ensures synced { OnOk result (HadDirectorySynced self.now (path_bytes directory.entry)) }
+        ensures error { IfErr result (λ e. WasAnswered e) }
+    {
+        File::open(rt, directory)?.sync_all()
     }
 
     /// Asks the system to drop its copies of the file's pages, so that what is read next comes from the device; pages that wait to be
@@ -93,26 +115,36 @@ impl OpenedFile {
         ensures dropped { OnOk result (HadCopiesDropped self.now) }
         ensures error { IfErr result (λ e. WasAnswered e) }
     {
-        let advised = libc::posix_fadvise(self.file.as_raw_fd(), 0, 0, libc::POSIX_FADV_DONTNEED);
+        let advised = self.advise(0, 0, libc::POSIX_FADV_DONTNEED);
         if advised == 0 {
             Ok(())
         } else {
             Err(io::Error::from_raw_os_error(advised))
         }
     }
+
+    /// Tells the system how so many bytes from this offset on will be read, where 0 stands for all that follow (POSIX's `posix_fadvise`).
+    /// Answers 0, or the number of the system's error.
+    fn advise(&self, offset: i64, len: i64, advice: i32) -> i32
+        ensures { WasAdvised self.now offset len advice result }
+    {
+        libc::posix_fadvise(self.file.as_raw_fd(), offset, len, advice)
+    }
 }
 
-/// Syncs the directory in which this path names something. Answers the system's error.
-fn sync_directory_of<R: Files<File = File>>(rt: &R, path: &str) -> io::Result<()> {
-    let directory = match Path::new(path).parent() {
-        Some(parent) if !parent.as_str().is_empty() => parent,
-        _ => Path::new("."),
-    };
-    File::open(rt, directory)?.sync_all()
+/// Is what this path names a symbolic link? Answers the system's error.
+fn is_link<R: Files<File = File>>(rt: &R, path: &str) -> io::Result<bool>
+    ensures told { IfOk result (λ is. WasLink path.now is) }
+    ensures error { IfErr result (λ e. WasAnswered e) }
+{
+    Ok(fs::symlink_metadata(rt, path)?.is_symlink())
 }
 
 /// The path of the same file in which no name is a link. Answers the system's error, and `InvalidFilename` where it is no UTF-8.
-fn without_links<'a>(path: &str, resolved: &'a mut [u8; libc::PATH_MAX]) -> io::Result<&'a str> {
+fn without_links<'a>(path: &str, resolved: &'a mut [u8; libc::PATH_MAX]) -> io::Result<&'a str>
+    ensures leads { IfOk result (λ name. LeadsTo path.now name.now) }
+    ensures error { IfErr result (λ e. WasAnswered e) }
+{
     if os::realpath(path.as_bytes(), resolved) < 0 {
         return Err(io::Error::from_raw_os_error(os::errno()));
     }
