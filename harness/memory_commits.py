@@ -17,12 +17,12 @@ VALUE_BYTES = 1_000
 # A turn serves 64 requests of a session. So many are sent at once, and so many such pieces ahead of what was read.
 TRANSACTIONS, AHEAD = 21, 4
 PIECES, KEYS = 200, 840
-# By how much the process may grow while commits come, and what may be held more than before once an old transaction has ended: twice what a session
-# keeps, which memory_sessions.py bounds by 215,576 bytes. Some 280,000 to 300,000 were seen; what they are beyond those of a session isn't known.
-GROWTH, BOUND = 1 << 20, 431_152
+# By how much the process may grow while commits come, and how many bytes more than before may be held once an old transaction has ended: those of the
+# versions that the last COMMITs replaced.
+GROWTH, BOUND = 1 << 20, 16_384
 # So many transactions of so many reads, and how often each may ask for memory.
 READERS, READS, CALLS = 400, 60, 180
-BEGIN, COMMIT, ABORT = (frame(word) for word in ("BEGIN", "COMMIT", "ABORT"))
+BEGIN, COMMIT, ABORT, PING = (frame(word) for word in ("BEGIN", "COMMIT", "ABORT", "PING"))
 OK = b"+OK\r\n"
 
 
@@ -64,6 +64,8 @@ def an_old_one_is_counted(tally, port, held):
     """While an old transaction is open a version of each key is kept, and those that come after its end give these back faster than they add any."""
     pieces = KEYS // TRANSACTIONS
     with Connection(port) as client, Connection(port) as old, tally.run("beside an old transaction"):
+        expect(client.ask(PING) == old.ask(PING) == b"+PONG\r\n", "a PING was not answered")
+        # Both are sessions by now, each with the memory for its inbox.
         first = held()
         expect(old.ask(BEGIN) == OK, "BEGIN was refused")
         kept = write_again(client, held, pieces) - first
