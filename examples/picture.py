@@ -291,7 +291,7 @@ def scene_of_play(title, script, output):
 def scene_of_history(title, form, events, first, count):
     """Some transactions of a history, with the dependencies that the checker finds in the whole of it."""
     sys.path.append(os.path.join(HERE, "..", "harness"))
-    from anomalies import DEPENDENCIES, History
+    from ssikvd_harness.anomalies import DEPENDENCIES, History
     history = History(form, events)
     chosen = history.all[first:first + count]
     bars = {t: bar_of(t, history) for t in chosen}

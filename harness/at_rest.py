@@ -19,9 +19,12 @@ import shutil
 import subprocess
 import time
 
-from client import PATIENCE, PROGRAM, Deviation, Server, Tally, check, create, expect, folder, is_long, is_refused, need, run, run_harness
-from model import SECTOR, log_image
-from operation_tools import DIST, ENVIRONMENT, commit, fill, loaded, log_of, map_of, tool
+from ssikvd_harness.arguments import is_long, need, run_harness
+from ssikvd_harness.deviations import Deviation, Tally, expect, is_refused
+from ssikvd_harness.log_format import SECTOR, log_image, log_of, map_of
+from ssikvd_harness.server import Server, check, create, folder, run
+from ssikvd_harness.settings import PATIENCE, PROGRAM
+from ssikvd_harness.tools import DIST, ENVIRONMENT, commit, fill, loaded, tool
 
 SECTORS = 512
 COMMITS = 30

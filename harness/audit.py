@@ -16,9 +16,10 @@ import os
 import re
 from pathlib import Path
 
-from client import Tally, expect, run_harness
+from ssikvd_harness.arguments import run_harness
+from ssikvd_harness.deviations import Tally, expect
+from ssikvd_harness.settings import TOP, text_of
 
-TOP = os.path.normpath(os.path.join(os.path.dirname(os.path.abspath(__file__)), ".."))
 PAGE = "docs/PROOFS.md"
 CLAUSE = r"`(?:\w+::)?(\w+)`, (?:clause `(\w+)`|its clause), in `(crates/\S+\.rt)`"    # a clause that is alone may have no name
 FILE_OF_DEFINITIONS = r"^- `(\w+)/(\w+)`: (`\w+` \(\d+\),.*(?:\n  .*)*)"
@@ -27,11 +28,6 @@ IN_AN_HOUR = r"Up to \"(.*)\" they are (\d+) definitions of (\d+) lines"
 WITHOUT_CLAUSE = "This needs no clause"
 CLAUSE_MAX = 140
 NAMED = r"`([a-z]\w*)/(\w+)`"
-
-
-def text_of(name):
-    with open(os.path.join(TOP, name), encoding="utf-8") as file:
-        return file.read()
 
 
 def words(text):

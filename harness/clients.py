@@ -19,18 +19,17 @@ import sys
 import threading
 import time
 
-from client import PATIENCE, PROGRAM, Connection, Deviation, Server, Tally, check, create, expect, folder, is_long, need, run_harness
-from model import OK, OPEN_MAX, frame
+from ssikvd_harness.arguments import is_long, need, run_harness
+from ssikvd_harness.connection import Connection
+from ssikvd_harness.cutting import Cutting
+from ssikvd_harness.deviations import Deviation, Tally, expect, missing
+from ssikvd_harness.examples import export, load, once, pool, simple_client, transfer, walk
+from ssikvd_harness.frames import OK, frame
+from ssikvd_harness.limits import OPEN_MAX
+from ssikvd_harness.server import Server, check, folder, fresh
+from ssikvd_harness.settings import PATIENCE, PROGRAM
+from ssikvd_harness.threads import Threads
 
-sys.path.append(os.path.join(os.path.dirname(os.path.abspath(__file__)), "..", "examples", "clients"))
-
-import export                # noqa: E402
-import load                  # noqa: E402
-import once                  # noqa: E402
-import pool                  # noqa: E402
-import simple_client         # noqa: E402
-import transfer              # noqa: E402
-import walk                  # noqa: E402
 
 try:
     import over_redis
@@ -43,10 +42,6 @@ COMMITS_MAX = 12_000    # of up to ten sectors each, so that they fit
 CLIENTS = 6
 
 
-def missing(what, needed):
-    print(f"  {what}: not run, for want of {needed}", flush=True)
-
-
 @contextlib.contextmanager
 def trial(tally, what):
     """One run, in which a refusal that an example did not look for is a deviation."""
@@ -55,35 +50,6 @@ def trial(tally, what):
             yield
         except (simple_client.Refused, simple_client.Lost, export.Damaged) as found:
             raise Deviation(f"{type(found).__name__}: {found}") from None
-
-
-class Threads:
-    """Threads whose failures are told at the end."""
-
-    def __init__(self):
-        self.threads, self.failures = [], []
-
-    def start(self, work, *arguments):
-        def play():
-            try:
-                work(*arguments)
-            except Exception as found:    # what went wrong is told by the harness
-                self.failures.append(f"{type(found).__name__}: {found}")
-
-        self.threads.append(threading.Thread(target=play, daemon=True))
-        self.threads[-1].start()
-
-    def end(self, seconds=6 * PATIENCE):
-        for thread in self.threads:
-            thread.join(seconds)
-        expect(not self.failures, f"{len(self.failures)} failed, first {self.failures[:1]}")
-        expect(not any(thread.is_alive() for thread in self.threads), "some did not end")
-
-
-def fresh(place, sectors=SECTORS):
-    data = os.path.join(place, "data")
-    create(data, sectors)
-    return data
 
 
 # Transfers
@@ -239,46 +205,6 @@ def walks(tally):
 
 
 # Additions that are made once
-
-class Cutting:
-    """A proxy that cuts connections: before a COMMIT is passed on, or behind it, before its reply comes back."""
-
-    def __init__(self, port, chance, share):
-        self.port, self.chance, self.share, self.cuts = port, chance, share, 0
-        self.listener = socket.create_server(("127.0.0.1", 0))
-        self.own_port = self.listener.getsockname()[1]
-        threading.Thread(target=self._accept, daemon=True).start()
-
-    def _accept(self):
-        while True:
-            try:
-                client, _ = self.listener.accept()
-            except OSError:
-                return
-            threading.Thread(target=self._carry, args=(client,), daemon=True).start()
-
-    def _carry(self, client):
-        try:
-            with client, socket.create_connection(("127.0.0.1", self.port)) as server:
-                while True:
-                    request = client.recv(1 << 16)
-                    is_cut = b"COMMIT" in request and self.chance.random() < self.share
-                    self.cuts += is_cut
-                    if not request or is_cut and self.chance.random() < 0.3:
-                        return
-                    server.sendall(request)
-                    if is_cut and self.chance.random() < 0.5:
-                        return    # at once, so that the COMMIT may still be under way
-                    reply = server.recv(1 << 16)
-                    if is_cut or not reply:
-                        return
-                    client.sendall(reply)
-        except OSError:
-            pass
-
-    def close(self):
-        self.listener.close()
-
 
 def over_new_connection(port):
     """Runs a transaction over a connection of its own to the port that is asked for."""

@@ -13,15 +13,20 @@ import shutil
 import socket
 import subprocess
 
-from client import (
-    DEVICE, DEVICE_FAULT, FILE_FAULT, HERE, LATE, OPENING, OUT_OF_MEMORY, PATIENCE, POLL, PROGRAM, SHIM, TRACER, Connection, Refusals, Server, Tally,
-    check, create, expect, folder, free_port, is_long, need, run, run_harness)
-from model import (
-    KEY_MAX, LARGEST_REPLY, OLD_HEAD, OK, SECTOR, SESSIONS_MAX, Store, VALUE_MAX, WRITES_MAX, body_sectors, frame, log_image, payload, sectors_used)
-from rows import EXAMPLES, example_files, request_of, shown
-from tracing import Trace, printed
+from ssikvd_harness.arguments import is_long, need, run_harness
+from ssikvd_harness.connection import Connection
+from ssikvd_harness.deviations import Tally, expect
+from ssikvd_harness.failing_calls import DEVICE, LATE, OPENING, POLL, Refusals
+from ssikvd_harness.frames import OK, frame
+from ssikvd_harness.limits import KEY_MAX, LARGEST_REPLY, SESSIONS_MAX, VALUE_MAX, WRITES_MAX
+from ssikvd_harness.log_format import OLD_HEAD, SECTOR, body_sectors, log_image, payload, sectors_used
+from ssikvd_harness.model import Store
+from ssikvd_harness.rows import EXAMPLES, example_files, request_of, shown
+from ssikvd_harness.server import DEVICE_FAULT, FILE_FAULT, OUT_OF_MEMORY, Server, check, create, folder, free_port, run
+from ssikvd_harness.settings import HARNESS, PATIENCE, PROGRAM, SHIM, TOP, TRACER
+from ssikvd_harness.tracing import Trace, printed
 
-with open(os.path.join(HERE, "../crates/command_line/src/commands.rt"), encoding="utf-8") as source:
+with open(os.path.join(HARNESS, "../crates/command_line/src/commands.rt"), encoding="utf-8") as source:
     VERSION = re.search(r'VERSION: &str = "(.*)"', source.read())[1]
 MORE = "\nFor more information, try '--help'.\n"
 OF_PROGRAM = "\nUsage: ssikvd <COMMAND>\n"
@@ -611,7 +616,7 @@ def scripts(tally):
     with tally.run("the program's stored run, which is an example"):
         stored = []
         for name in ("stdin", "stdout"):
-            with open(os.path.join(HERE, "..", "crates", "ssikvd", name), "rb") as file:
+            with open(os.path.join(TOP, "crates", "ssikvd", name), "rb") as file:
                 stored.append(file.read())
         expect(tuple(stored) == example_files("snapshot_is_kept"), "crates/ssikvd/stdin and stdout are not the example snapshot_is_kept")
     for script, due in LINES.items():

@@ -2,7 +2,7 @@
 
 Each recipe in Python is run by several clients at once, and a judge looks at what they leave. Each judge is also shown a wrong form of the recipe,
 and must see it: a range that is read in another transaction, an index without its deletion, a queue that deletes nothing. The code that
-the document shows must be that of the file. It prints how many tries a commit takes. Then recipe_calls.py runs the recipes of all languages.
+the document shows must be that of the file. It prints how many tries a commit takes. Then the recipes of all languages are run.
 
 `quick` does less of each. `links` writes the document's links to the lines of the recipes in the other languages.
 """
@@ -17,11 +17,14 @@ import sys
 import threading
 import time
 
-from client import PATIENCE, PROGRAM, Deviation, Server, Tally, create, expect, folder, is_long, need, run_harness
-from recipe_judges import (
-    TOP, Client, booked, items_of, key, not_indexed, not_inverse, once, overlaps, recipes, simple_client, torn, under, walk, wrong_holds,
-    wrong_takes)
-import recipe_calls
+from ssikvd_harness import recipe_calls
+from ssikvd_harness.arguments import is_long, need, run_harness
+from ssikvd_harness.deviations import Deviation, Tally, expect
+from ssikvd_harness.examples import simple_client, walk
+from ssikvd_harness.recipe_judges import (
+    Client, booked, items_of, key, not_indexed, not_inverse, once, overlaps, recipes, torn, under, wrong_holds, wrong_takes)
+from ssikvd_harness.server import Server, create, folder
+from ssikvd_harness.settings import PATIENCE, PROGRAM, TOP
 
 DOCUMENT = "docs/COOKBOOK.md"
 SECTORS = 262_144

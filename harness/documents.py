@@ -21,10 +21,14 @@ import subprocess
 import sys
 import time
 
-from client import PATIENCE, PROGRAM, Tally, expect, folder, free_port, is_long, need, run, run_harness
-from model import BODY_MAX, HEAD, KEY_MAX, OLD_HEAD, PARTS, SECTOR, VALUE_MAX, WRITES_MAX, body_sectors, log_image, payload
+from ssikvd_harness.arguments import is_long, need, run_harness
+from ssikvd_harness.deviations import Tally, expect
+from ssikvd_harness.frames import PARTS
+from ssikvd_harness.limits import KEY_MAX, VALUE_MAX, WRITES_MAX
+from ssikvd_harness.log_format import BODY_MAX, HEAD, OLD_HEAD, SECTOR, body_sectors, log_image, payload
+from ssikvd_harness.server import folder, free_port, run
+from ssikvd_harness.settings import PATIENCE, PROGRAM, TOP, text_of
 
-TOP = os.path.normpath(os.path.join(os.path.dirname(os.path.abspath(__file__)), ".."))
 CELL_MAX, WORDS_MAX = 120, 40
 PORT = "7777"
 NOT_RUN = (
@@ -71,11 +75,6 @@ def documents():
     found = sorted(name for name in os.listdir(TOP) if name.endswith(".md")) + ["harness/README.md"]
     found += sorted("docs/" + name for name in os.listdir(os.path.join(TOP, "docs")) if name.endswith(".md") and name != "DEFINITIONS.md")
     return found + sorted(os.path.relpath(name, TOP) for pattern in ("*.md", "*/*.md") for name in glob.glob(os.path.join(TOP, "clients", pattern)))
-
-
-def text_of(name):
-    with open(os.path.join(TOP, name), encoding="utf-8") as file:
-        return file.read()
 
 
 def blocks(name, kind):

@@ -11,9 +11,15 @@ holds is again what it was.
 import os
 import time
 
-from client import Connection, Refusals, Server, Tally, check, create, expect, folder, is_long, need, run_harness
-from model import (
-    KEY_MAX, MARKS_MAX, OK, OPEN_MAX, SECTOR, Store, VALUE_MAX, WRITES_MAX, bulk, frame, log_image, pairs, refusal, sectors_used)
+from ssikvd_harness.arguments import is_long, need, run_harness
+from ssikvd_harness.connection import Connection
+from ssikvd_harness.deviations import Tally, expect
+from ssikvd_harness.failing_calls import Refusals
+from ssikvd_harness.frames import OK, bulk, frame, pairs, refusal
+from ssikvd_harness.limits import KEY_MAX, MARKS_MAX, OPEN_MAX, VALUE_MAX, WRITES_MAX
+from ssikvd_harness.log_format import SECTOR, log_image, sectors_used
+from ssikvd_harness.model import Store
+from ssikvd_harness.server import Server, check, create, folder
 
 SECTORS = 65_536
 BEGIN, COMMIT, PING = (frame(name) for name in ("BEGIN", "COMMIT", "PING"))

@@ -24,12 +24,15 @@ import sys
 import threading
 import time
 
-from client import HERE, PATIENCE, PROGRAM, Deviation, Tally, expect, need, run_harness
-from looks import in_memory
-from operation_tools import log_of, map_of, simple_client, tool
+from ssikvd_harness.arguments import need, run_harness
+from ssikvd_harness.deviations import Deviation, Tally, expect
+from ssikvd_harness.examples import simple_client
+from ssikvd_harness.log_format import log_of, map_of
+from ssikvd_harness.settings import OUT, PATIENCE, PROGRAM
+from ssikvd_harness.tools import in_memory, tool
 from power_cuts import command, torn, wait_for
 
-MIRROR = os.path.join(HERE, "out", "mirror")
+MIRROR = os.path.join(OUT, "mirror")
 OWN_NAMES, REPLICA = "SSIKVD_FAIL_OVER", "--replica"    # set in the process that has mounts and a network of its own; the other side of a device
 IMAGE_SIZE, SECTORS, SERVED, COPIED = 32 << 20, 16_384, 7777, 7788
 LIVES, CLIENTS = 12, 4

@@ -15,11 +15,15 @@ import subprocess
 import threading
 import time
 
-from client import PATIENCE, PROGRAM, Deviation, Server, Tally, check, create, expect, folder, is_long, is_refused, need, run_harness
-from looks import in_memory
-from model import SECTOR, Damaged, NotALog, frame, read_log
-from operation import Recorder, Trial
-from operation_tools import DIST, loaded, log_of, map_of, simple_client, tool
+from ssikvd_harness.arguments import is_long, need, run_harness
+from ssikvd_harness.deviations import Deviation, Tally, expect, is_refused
+from ssikvd_harness.examples import simple_client
+from ssikvd_harness.frames import frame
+from ssikvd_harness.log_format import SECTOR, Damaged, NotALog, log_of, map_of, read_log
+from ssikvd_harness.server import Server, check, create, folder
+from ssikvd_harness.settings import PATIENCE, PROGRAM
+from ssikvd_harness.tools import DIST, in_memory, loaded, tool
+from ssikvd_harness.trials import Recorder, Trial, write_script
 
 SECTORS = 4_096
 
@@ -382,7 +386,7 @@ def wrong_tools(tally):
         with tally.run(f"{name} is reported"), folder() as place:
             expect(text.count(right) == 1, f"{name} can't be planted")
             script = os.path.join(place, "ssikvd-follow")
-            Trial._write(script, text.replace(right, wrong))
+            write_script(script, text.replace(right, wrong))
             shutil.copy(os.path.join(DIST, "ssikvd-verify"), place)
             expect(any(is_refused(judge_wrong, seed, script) for seed in range(4)), f"{name} was not reported")
     with open(os.path.join(DIST, "ssikvd-compact"), encoding="utf-8") as file:
@@ -391,7 +395,7 @@ def wrong_tools(tally):
         with tally.run(f"{name} is reported"), in_memory() as place:
             expect(text.count(right) == 1, f"{name} can't be planted")
             script = os.path.join(place, "ssikvd-compact")
-            Trial._write(script, text.replace(right, wrong))
+            write_script(script, text.replace(right, wrong))
             expect(is_refused(judge_load, place, script), f"{name} was not reported")
 
 

@@ -9,10 +9,15 @@ import os
 import re
 import socket
 
-from client import HERE, PROGRAM, Connection, Server, Tally, create, expect, folder, need, run_harness
-from model import BROKEN_FRAME, FRAME_MAX, VALUE_MAX, Broken, decode, frame
+from ssikvd_harness.arguments import need, run_harness
+from ssikvd_harness.connection import Connection
+from ssikvd_harness.deviations import Tally, expect
+from ssikvd_harness.frames import BROKEN_FRAME, Broken, decode, frame
+from ssikvd_harness.limits import FRAME_MAX, VALUE_MAX
+from ssikvd_harness.server import Server, create, folder
+from ssikvd_harness.settings import PROGRAM, TOP
 
-DOCUMENT = os.path.join(HERE, "..", "docs", "PROTOCOL.md")
+DOCUMENT = os.path.join(TOP, "docs", "PROTOCOL.md")
 COUNTS = {"one": 1, "two": 2, "three": 3, "four": 4}
 # Rows that are false; each must be refused, by the model and by the program.
 FALSE_ROWS = (

@@ -14,8 +14,9 @@ import argparse
 import os
 import re
 
-from audit import TOP, text_of
-from client import Tally, expect, run_harness
+from ssikvd_harness.arguments import run_harness
+from ssikvd_harness.deviations import Tally, expect
+from ssikvd_harness.settings import TOP, text_of
 
 HANDLES = "Files|Net|Env|HostRuntime|File|TcpStream|TcpListener|Poll"
 NEVER = "Wait|Threads|Processes"

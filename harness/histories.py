@@ -8,7 +8,7 @@
 In the form `list` transactions append to lists and read them. A list of even number is the value of one key, and one of odd number has a key for
 each element, which RANGE reads. In the form `register` they write values without reading, and read. Each value is new. The clients pick few
 keys, so that many commits are refused; some end their connection once they have sent COMMIT. The server is killed and served again amid
-the history. It must have no anomaly (anomalies.py), and run one at a time in one order, which respects real time, they read the same.
+the history. It must have no anomaly (as the module `anomalies` finds them), and run one at a time in one order, which respects real time, they read the same.
 
 The EDN is of Jepsen's form: `list` is for elle.list-append, `register` for elle.rw-register, both with :strict-serializable. Elle itself isn't
 in Debian and was not run.
@@ -24,9 +24,14 @@ import sys
 import threading
 import time
 
-from anomalies import History
-from client import PATIENCE, PROGRAM, Connection, Deviation, Server, Tally, create, expect, folder, is_long, need, run_harness
-from model import OK, Store, Transaction, decode, frame
+from ssikvd_harness.anomalies import History
+from ssikvd_harness.arguments import is_long, need, run_harness
+from ssikvd_harness.connection import Connection
+from ssikvd_harness.deviations import Deviation, Tally, expect
+from ssikvd_harness.frames import OK, decode, frame
+from ssikvd_harness.model import Store, Transaction
+from ssikvd_harness.server import Server, create, folder
+from ssikvd_harness.settings import PATIENCE, PROGRAM
 
 FORMS = ("list", "register")
 SECTORS = {"quick": 32_768, "long": 262_144}

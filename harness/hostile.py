@@ -17,11 +17,14 @@ import signal
 import socket
 import time
 
-from client import Connection, Deviation, Server, Tally, create, expect, folder, is_long, need, run_harness
-from good_client import KEY as GOOD_KEY, VALUE as GOOD_VALUE, GoodClient
-from model import (
-    BROKEN_FRAME, Broken, HELD_MAX, INBOX_MAX, KEY_MAX, LARGEST_REPLY, MARKS_MAX, OK, OPEN_MAX, OUTPUT_ROOM, PONG, SESSIONS_MAX, Store, VALUE_MAX,
-    WRITES_MAX, decode, frame, pairs, refusal)
+from ssikvd_harness.arguments import is_long, need, run_harness
+from ssikvd_harness.connection import Connection
+from ssikvd_harness.deviations import Deviation, Tally, expect
+from ssikvd_harness.frames import BROKEN_FRAME, OK, PONG, Broken, decode, frame, pairs, refusal
+from ssikvd_harness.good_client import KEY as GOOD_KEY, VALUE as GOOD_VALUE, GoodClient
+from ssikvd_harness.limits import HELD_MAX, INBOX_MAX, KEY_MAX, LARGEST_REPLY, MARKS_MAX, OPEN_MAX, OUTPUT_ROOM, SESSIONS_MAX, VALUE_MAX, WRITES_MAX
+from ssikvd_harness.model import Store
+from ssikvd_harness.server import Server, create, folder
 
 SECTORS = 262_144
 SLOWEST_REPLY = 5.0

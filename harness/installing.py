@@ -15,18 +15,15 @@ import shutil
 import subprocess
 import time
 
-from client import PATIENCE, PROGRAM, Server, Tally, expect, folder, free_port, is_long, need, run, run_harness
+from ssikvd_harness.arguments import is_long, need, run_harness
+from ssikvd_harness.deviations import Tally, expect
+from ssikvd_harness.server import Server, folder, free_port, run
+from ssikvd_harness.settings import PATIENCE, PROGRAM, TOP, text_of
 
-TOP = os.path.normpath(os.path.join(os.path.dirname(os.path.abspath(__file__)), ".."))
 BINARY = os.path.abspath(PROGRAM)
 MANUALS = ("man/ssikvd.1", "man/ssikvd.5", "man/ssikvd.7")
 GENERAL = {"-h", "--help"}
 NEVER_PRINTED = {"ssikvd: not empty"}    # of a log made in a file that isn't empty, which no command asks for
-
-
-def text_of(name):
-    with open(os.path.join(TOP, name), encoding="utf-8") as file:
-        return file.read()
 
 
 def left_out(what, tool):

@@ -16,8 +16,14 @@ import subprocess
 import threading
 import time
 
-from client import PROGRAM, Connection, Server, Tally, check, create, expect, folder, is_long, need, run, run_harness
-from model import OK, OLD_HEAD, VALUE_MAX, WRITES_MAX, body_sectors, frame, log_image, payload, refusal, sectors_used
+from ssikvd_harness.arguments import is_long, need, run_harness
+from ssikvd_harness.connection import Connection
+from ssikvd_harness.deviations import Tally, expect
+from ssikvd_harness.frames import OK, frame, parts_of, refusal
+from ssikvd_harness.limits import VALUE_MAX, WRITES_MAX
+from ssikvd_harness.log_format import OLD_HEAD, body_sectors, log_image, payload, sectors_used
+from ssikvd_harness.server import Server, check, create, folder, run
+from ssikvd_harness.settings import PROGRAM
 
 WRITERS = 6
 SECTORS = 131_072
@@ -91,18 +97,6 @@ def read_all(port):
             lo = parts[-2] + b"\0"
         expect(client.ask(frame("COMMIT")) == b":1\r\n", "the reader's COMMIT was not the first")
     return found
-
-
-def parts_of(reply):
-    """The bulks of an array."""
-    end = reply.index(b"\r\n") + 2
-    count, parts = int(reply[1:end - 2]), []
-    for _ in range(count):
-        start = reply.index(b"\r\n", end) + 2
-        length = int(reply[end + 1:start - 2])
-        parts.append(reply[start:start + length])
-        end = start + length + 2
-    return parts
 
 
 def judge(found, writers):

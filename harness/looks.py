@@ -11,14 +11,17 @@ import math
 import os
 import re
 import socket
-import tempfile
 import threading
 import time
 
-from client import PATIENCE, PROGRAM, Tally, check, create, expect, folder, is_long, need, run_harness
-from model import frame
-from operation import Trial
-from operation_tools import DIST, log_of, map_of, tool
+from ssikvd_harness.arguments import is_long, need, run_harness
+from ssikvd_harness.deviations import Tally, expect
+from ssikvd_harness.frames import frame
+from ssikvd_harness.log_format import log_of, map_of
+from ssikvd_harness.server import check, create
+from ssikvd_harness.settings import PATIENCE, PROGRAM
+from ssikvd_harness.tools import DIST, in_memory, tool
+from ssikvd_harness.trials import Trial
 
 CLIENTS, AT_ONCE = 4, 16
 
@@ -86,13 +89,6 @@ class Load:
                 return True
             self.acknowledged[number] = value
         return True
-
-
-def in_memory():
-    """A folder in memory where that is possible: the program is faster there, and no sync is judged."""
-    if os.path.isdir("/dev/shm"):
-        tempfile.tempdir = "/dev/shm"
-    return folder()
 
 
 class Looks:

@@ -28,14 +28,18 @@ import os
 import random
 import subprocess
 
-import client
-from client import PATIENCE, Connection, Deviation, Server, Tally, check, expect, folder, need, run, run_harness
-from kills import parts_of
-from model import (
-    HEAD, OK, SECTOR, WRITES_MAX, Damaged, NotALog, OldFormat, apply, bulk, frame, log_image, read_log, refusal, sectors_used)
+from ssikvd_harness import settings
+from ssikvd_harness.arguments import need, run_harness
+from ssikvd_harness.connection import Connection
+from ssikvd_harness.deviations import Deviation, Tally, expect
+from ssikvd_harness.frames import OK, bulk, frame, parts_of, refusal
+from ssikvd_harness.limits import WRITES_MAX
+from ssikvd_harness.log_format import HEAD, SECTOR, Damaged, NotALog, OldFormat, copy_of, log_image, map_of, read_log, sectors_used
+from ssikvd_harness.server import DEVICE_FAULT, FILE_FAULT, STORE_STOPPED as STOPPED_LINE, Server, check, folder, run
+from ssikvd_harness.settings import OUT, PATIENCE, TOP
 
-LOSSY = os.path.join(client.HERE, "out", "lossy")
-BEFORE = os.path.join(client.HERE, "..", "dist", "ssikvd-before")
+LOSSY = os.path.join(OUT, "lossy")
+BEFORE = os.path.join(TOP, "dist", "ssikvd-before")
 CLIENTS, SHARED_KEYS, SECTORS, ROOM_LEFT, LIVES = 8, 120, 2_400, 900, 25
 STORE_FAULT, STORE_STOPPED, NONE_OPEN, FULL_LOG = (refusal(text) for text in ("STORE fault", "STORE stopped", "ERR none", "FULL log"))
 NOT_A_LOG = b"ssikvd: not a log\n"
@@ -126,19 +130,6 @@ def log_of(content):
         return read_log(lambda at: content[SECTOR * at:SECTOR * at + SECTOR], len(content) // SECTOR)[0]
     except (NotALog, OldFormat, Damaged) as fault:
         raise Deviation(f"what is left is no log: {type(fault).__name__} {fault}") from None
-
-
-def map_of(log):
-    contents = {}
-    for writes in log:
-        apply(contents, writes)
-    return contents
-
-
-def copy_of(log):
-    """The write sets that `compact` makes of a log."""
-    rows = sorted(map_of(log).items())
-    return [rows[at:at + WRITES_MAX] for at in range(0, len(rows), WRITES_MAX)]
 
 
 class History:
@@ -432,7 +423,7 @@ class Maker:
         found = self.left()
         status, _, text = run(["check", "--data", self.disk.path(self.made)])
         expect((status == 0) == (found == "whole"), f"a file that is {found} is checked with {status} {text!r}")
-        expect(status == 0 or status == 3 and text in (NOT_A_LOG, client.FILE_FAULT), f"it is refused by {status} {text!r}")
+        expect(status == 0 or status == 3 and text in (NOT_A_LOG, FILE_FAULT), f"it is refused by {status} {text!r}")
         return found
 
     def once(self, plan):
@@ -458,11 +449,11 @@ class Maker:
 
     def look_at_end(self, status, text, is_met):
         """It ended by itself: what did it tell, and what has it left?"""
-        expect((status, text) in ((0, b""), (3, client.FILE_FAULT), (3, client.DEVICE_FAULT)), f"{status} {text!r}")
+        expect((status, text) in ((0, b""), (3, FILE_FAULT), (3, DEVICE_FAULT)), f"{status} {text!r}")
         expect(status == 0 or is_met, f"it failed by itself: {status} {text!r}")
         found = self.left()
         expect(found == "whole" or status, f"it ended with 0, and its file is {found}")
-        expect(found == "absent" or text != client.FILE_FAULT, f"it told a file fault, and left a file that is {found}")
+        expect(found == "absent" or text != FILE_FAULT, f"it told a file fault, and left a file that is {found}")
 
 
 def crash_plan(chance, calls):
@@ -518,7 +509,7 @@ class Faulty(Store):
                 expect(not self.was_met or is_soft(plan), f"it listens behind {plan}")
                 clients.end_server()
                 return
-        due = client.FILE_FAULT if plan[0] == "folder" else client.DEVICE_FAULT
+        due = FILE_FAULT if plan[0] == "folder" else DEVICE_FAULT
         expect(self.ended == (3, due) and not is_soft(plan), f"behind {plan} it ended with {self.ended}")
         self.machine.count("openings refused")
         self.finish(plan)
@@ -552,7 +543,7 @@ class Faulty(Store):
         behind = {reply for replies in clients.rounds[faults[0] + 1 if is_hard else 0:] for reply in replies}
         expect(behind <= {STORE_STOPPED} if is_hard else STORE_STOPPED not in behind, f"behind {len(faults)} faults came {behind}")
         told = clients.server.error_text()
-        expect(told == (client.STORE_STOPPED if is_hard else b""), f"it wrote {told!r}")
+        expect(told == (STOPPED_LINE if is_hard else b""), f"it wrote {told!r}")
 
     def finish(self, plan):
         """The machine crashes, or the next life opens what is there. This must drop pages, where the kernel has copies of them."""
@@ -647,7 +638,7 @@ DIFFERS, UNKNOWN = "the cache differs from the device", "can't be read past the 
 
 def before(store, past_cache="yes"):
     """What `ssikvd-before` answers: its status, which is 2 where the cache differs and 3 where that can't be known."""
-    environment = {**os.environ, "SSIKVD": client.PROGRAM, "PAST_CACHE": past_cache}
+    environment = {**os.environ, "SSIKVD": settings.PROGRAM, "PAST_CACHE": past_cache}
     ran = subprocess.run([BEFORE, store.path, str(SECTORS)], env=environment, capture_output=True, text=True, timeout=6 * PATIENCE, check=False)
     status, text = ran.returncode, ran.stderr
     fits = (DIFFERS in text) == (status == 2) and (UNKNOWN in text) == (status == 3 or past_cache == "no" and bool(text))
@@ -828,7 +819,7 @@ def arguments():
     parser = argparse.ArgumentParser(description="ssikvd over a file system that loses what wasn't synced")
     parser.add_argument("form", choices=("quick", "long"))
     parser.add_argument("modes", nargs="*", metavar="mode", help="; ".join([*MODES, "sight"]))
-    parser.add_argument("--program", default=client.PROGRAM)
+    parser.add_argument("--program", default=settings.PROGRAM)
     parser.add_argument("--seed", type=int, default=7)
     parser.add_argument("--runs", type=int, help="so many of each mode")
     asked = parser.parse_args()
@@ -840,8 +831,8 @@ def arguments():
 
 def main():
     asked = arguments()
-    client.PROGRAM = asked.program
-    need(client.PROGRAM)
+    settings.PROGRAM = asked.program
+    need(settings.PROGRAM)
     if not os.access(LOSSY, os.X_OK):
         print("lossy: left out, since libfuse3 wasn't there when the harnesses were built")
         return 0

@@ -18,11 +18,17 @@ import select
 import subprocess
 from collections import Counter
 
-from client import HERE, MEMORY, PATIENCE, SHIM, Deviation, Refusals, Tally, expect, folder, need, run_harness
-from model import OUTPUT_ROOM, SECTOR, Store, log_image
-from rows import ROWS, request_of, shown
+from ssikvd_harness.arguments import need, run_harness
+from ssikvd_harness.deviations import Deviation, Tally, expect
+from ssikvd_harness.failing_calls import MEMORY, Refusals
+from ssikvd_harness.limits import OUTPUT_ROOM
+from ssikvd_harness.log_format import SECTOR, log_image
+from ssikvd_harness.model import Store
+from ssikvd_harness.rows import ROWS, request_of, shown
+from ssikvd_harness.server import folder
+from ssikvd_harness.settings import PATIENCE, SHIM, TOP
 
-PROGRAM = os.environ.get("REFUSED_MEMORY") or os.path.join(HERE, "..", "crates", "refused_memory", "out", "refused_memory")
+PROGRAM = os.environ.get("REFUSED_MEMORY") or os.path.join(TOP, "crates", "refused_memory", "out", "refused_memory")
 SECTORS = 64
 OUT_OF_MEMORY = b"refused_memory: out of memory\n"
 ROUNDS = 3

@@ -5,9 +5,12 @@ A run ends with status 3 and `ssikvd: out of memory`, after a beginning of the r
 """
 import os
 
-from client import ALL, MEMORY, OUT_OF_MEMORY, Refusals, Tally, check, create, expect, folder, need, run, run_harness
-from model import log_image, sectors_used
-from rows import ROWS, model_agrees, script_of
+from ssikvd_harness.arguments import need, run_harness
+from ssikvd_harness.deviations import Tally, expect
+from ssikvd_harness.failing_calls import ALL, MEMORY, Refusals
+from ssikvd_harness.log_format import log_image, sectors_used
+from ssikvd_harness.rows import ROWS, model_agrees, script_of
+from ssikvd_harness.server import OUT_OF_MEMORY, check, create, folder, run
 
 CALLS_MAX, ERRORS_MAX = 10_000, 10
 

@@ -9,8 +9,12 @@ moves, and not with its last, would ask for it more than twice as often.
 """
 import os
 
-from client import MEMORY, Connection, Refusals, Server, Tally, create, expect, folder, need, run_harness
-from model import frame
+from ssikvd_harness.arguments import need, run_harness
+from ssikvd_harness.connection import Connection
+from ssikvd_harness.deviations import Tally, expect
+from ssikvd_harness.failing_calls import MEMORY, Refusals
+from ssikvd_harness.frames import frame
+from ssikvd_harness.server import Server, create, folder
 
 SECTORS = 65_536
 VALUE_BYTES = 1_000

@@ -8,9 +8,13 @@ so no room is spare; and they are fewer than what is swept while it is collected
 import os
 import sys
 
-from client import HERE, Refusals, Tally, expect, folder, is_refused, need, run, run_harness
+from ssikvd_harness.arguments import need, run_harness
+from ssikvd_harness.deviations import Tally, expect, is_refused
+from ssikvd_harness.failing_calls import Refusals
+from ssikvd_harness.server import folder, run
+from ssikvd_harness.settings import TOP
 
-sys.path.append(os.path.join(HERE, "..", "bench"))
+sys.path.append(os.path.join(TOP, "bench"))
 
 from logs import write_records      # noqa: E402
 

@@ -8,9 +8,13 @@ Commits stand beside an old transaction, so that what they wrote and read is mer
 """
 import os
 
-from client import Connection, Server, Tally, create, expect, folder, is_refused, need, run_harness, TRACER
-from model import frame
-from tracing import MEMORY, RECEIVE, SEND, WRITE_AT, Call, Trace
+from ssikvd_harness.arguments import need, run_harness
+from ssikvd_harness.connection import Connection
+from ssikvd_harness.deviations import Tally, expect, is_refused
+from ssikvd_harness.frames import frame
+from ssikvd_harness.server import Server, create, folder
+from ssikvd_harness.settings import TRACER
+from ssikvd_harness.tracing import MEMORY, RECEIVE, SEND, WRITE_AT, Call, Trace
 
 SECTORS = 16_384
 COMMITS, KEYS_EACH = 150, 12

@@ -5,8 +5,13 @@ connection is closed and a new one finds the map as it was; it commits the same 
 """
 import os
 
-from client import MEMORY, Connection, Refusals, Server, Tally, create, expect, folder, need, run_harness
-from model import Store, frame
+from ssikvd_harness.arguments import need, run_harness
+from ssikvd_harness.connection import Connection
+from ssikvd_harness.deviations import Tally, expect
+from ssikvd_harness.failing_calls import MEMORY, Refusals
+from ssikvd_harness.frames import frame
+from ssikvd_harness.model import Store
+from ssikvd_harness.server import Server, create, folder
 
 SECTORS = 4_096
 KEYS = 64 * 9

@@ -6,8 +6,14 @@ the bytes that an output keeps needs it each time, since the room was given back
 """
 import os
 
-from client import MEMORY, Connection, Refusals, Server, Tally, create, expect, folder, need, run_harness
-from model import KEY_MAX, LARGEST_REPLY, Store, VALUE_MAX, frame
+from ssikvd_harness.arguments import need, run_harness
+from ssikvd_harness.connection import Connection
+from ssikvd_harness.deviations import Tally, expect
+from ssikvd_harness.failing_calls import MEMORY, Refusals
+from ssikvd_harness.frames import frame
+from ssikvd_harness.limits import KEY_MAX, LARGEST_REPLY, VALUE_MAX
+from ssikvd_harness.model import Store
+from ssikvd_harness.server import Server, create, folder
 
 SECTORS = 8_192
 KEYS = [b"%03d" % i + b"k" * (KEY_MAX - 3) for i in range(100)]

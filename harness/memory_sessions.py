@@ -6,8 +6,13 @@ whole, so while one is, the count must be above that bound: otherwise it would s
 import os
 import time
 
-from client import MEMORY, Connection, Refusals, Server, Tally, create, expect, folder, is_long, need, run_harness
-from model import HELD_MAX, INBOX_MAX, KEY_MAX, OUTPUT_ROOM, VALUE_MAX, frame
+from ssikvd_harness.arguments import is_long, need, run_harness
+from ssikvd_harness.connection import Connection
+from ssikvd_harness.deviations import Tally, expect
+from ssikvd_harness.failing_calls import MEMORY, Refusals
+from ssikvd_harness.frames import frame
+from ssikvd_harness.limits import HELD_MAX, INBOX_MAX, KEY_MAX, OUTPUT_ROOM, VALUE_MAX
+from ssikvd_harness.server import Server, create, folder
 
 SECTORS = 16_384
 COUNT = 120

@@ -7,9 +7,12 @@ square does.
 import os
 import sys
 
-from client import HERE, PROGRAM, Server, Tally, expect, folder, is_refused, need, run_harness
+from ssikvd_harness.arguments import need, run_harness
+from ssikvd_harness.deviations import Tally, expect, is_refused
+from ssikvd_harness.server import Server, folder
+from ssikvd_harness.settings import PROGRAM, TOP
 
-sys.path.append(os.path.join(HERE, "..", "bench"))
+sys.path.append(os.path.join(TOP, "bench"))
 
 from logs import write_records      # noqa: E402
 

@@ -22,12 +22,18 @@ import subprocess
 import threading
 import time
 
-from client import (
-    DEVICE, PATIENCE, PROGRAM, SHIM, Connection, Deviation, Refusals, Server, Tally, check, create, expect, folder, free_port, is_long, need,
-    run_harness)
-from model import SECTOR, Damaged, NotALog, apply, frame, read_log
-from operation_tools import DIST, ENVIRONMENT, SECTORS, commit, fill, loaded, log_of, map_of, missing, promtool, simple_client, tool
-from operation_units import allocator, rules, scripts, texts, units
+from ssikvd_harness.arguments import is_long, need, run_harness
+from ssikvd_harness.connection import Connection
+from ssikvd_harness.deviations import Deviation, Tally, expect, missing
+from ssikvd_harness.examples import simple_client
+from ssikvd_harness.failing_calls import DEVICE, Refusals
+from ssikvd_harness.frames import frame
+from ssikvd_harness.log_format import SECTOR, Damaged, NotALog, log_of, map_of, read_log
+from ssikvd_harness.server import Server, check, create, folder, free_port
+from ssikvd_harness.settings import PROGRAM, SHIM
+from ssikvd_harness.tools import DIST, SECTORS, commit, fill, loaded, tool
+from ssikvd_harness.trials import Recorder, Trial, write_script
+from ssikvd_harness.units import allocator, judge_metrics, rules, scripts, texts, units
 
 
 # The probe
@@ -188,14 +194,6 @@ def foreign_states(tally, used, data, state):
         expect(found == (0, line, "") and used.load(state)[data]["records"] == own[data]["records"], f"it printed {found}")
 
 
-def judge_metrics(text):
-    if not promtool():
-        missing("`promtool check metrics`", "promtool (Debian's prometheus)")
-        return
-    ran = subprocess.run([promtool(), "check", "metrics"], input=text, capture_output=True, text=True)
-    expect(ran.returncode == 0 and not ran.stderr, f"promtool says {ran.stderr}")
-
-
 # Backups
 
 # A commit every so many seconds: as many as the file holds outlast the backups, also on a slow machine.
@@ -260,42 +258,6 @@ def backups(tally):
             with Server(data + ".back") as server:
                 commit(server.port, 1)
             expect(len(log_of(data + ".back")) == len(log_of(copy)) + 1, "what was put back is not served")
-
-
-class Recorder:
-    """Writes and syncs of a process, taken in the place of the system's. What stands behind the copy's last closed gate is any bytes."""
-
-    FEW = 8
-
-    def __init__(self, image, size, place):
-        self.settled, self.unsettled = bytearray(image[:SECTOR * (place + 1)].ljust(size, b"\1")), {}
-
-    def images(self, chance):
-        """What a crash now may leave: of the unsettled sectors all old, all new, one of them otherwise, or each for itself."""
-        new, old = dict(self.unsettled), {at: bytes(self.settled[SECTOR * at:SECTOR * (at + 1)]) for at in self.unsettled}
-        yield from (self._image(old), self._image(new))
-        places = sorted(new)
-        for at in {*places[:self.FEW], *places[-self.FEW:]}:
-            yield from (self._image({**old, at: new[at]}), self._image({**new, at: old[at]}), self._image({**new, at: b"\1" * SECTOR}))
-        for _ in range(3):
-            yield self._image({at: chance.choice([old[at], new[at], chance.randbytes(SECTOR)]) for at in new})
-
-    def _image(self, sectors):
-        image = bytearray(self.settled)
-        for at, content in sectors.items():
-            image[SECTOR * at:SECTOR * (at + 1)] = content
-        return bytes(image)
-
-    def write(self, _, data, at):
-        expect(at % SECTOR == 0 and len(data) % SECTOR == 0, "a write of no whole sectors")
-        for i in range(len(data) // SECTOR):
-            self.unsettled[at // SECTOR + i] = bytes(data[SECTOR * i:SECTOR * (i + 1)])
-        return len(data)
-
-    def sync(self, _):
-        for at, new in self.unsettled.items():
-            self.settled[SECTOR * at:SECTOR * (at + 1)] = new
-        self.unsettled = {}
 
 
 def judge_ship(ship, data, copy, is_new):
@@ -374,94 +336,6 @@ def planted(ship, data, copy):
 
 
 # Compaction
-
-STEPS = ("ssikvd-used", "ssikvd-follow", "ssikvd", "realpath", "df", "dirname", "date", "flock", "sync", "rm", "chown", "chmod", "ln", "mv", "sh")
-WRAPPER = """#!/bin/sh
-n=$(($(/bin/cat "$STEPS") + 1))
-echo $n >"$STEPS"
-echo {name} "$@" >>"$STEPS.log"
-[ $n != "$BEFORE" ] || kill -9 0
-[ $n != "$FAILS" ] || exit 9
-{real} "$@"
-status=$?
-[ $n != "$AFTER" ] || kill -9 0
-exit $status
-"""
-
-
-class Trial:
-    """A served data file, and `ssikvd-compact` over it, each of whose steps is counted and may be the last."""
-
-    def __init__(self, place, script):
-        self.data, self.script, self.port = os.path.join(place, "data"), script, free_port()
-        self.steps, self.pid = os.path.join(place, "steps"), os.path.join(place, "pid")
-        self.bin = os.path.join(place, "bin")
-        os.mkdir(self.bin)
-        self.acknowledged = 0
-        for name in STEPS:
-            real = os.path.abspath(PROGRAM) if name == "ssikvd" else shutil.which(name, path=ENVIRONMENT["PATH"])
-            self._write(os.path.join(self.bin, name), WRAPPER.format(name=name, real=real))
-        flock = shutil.which("flock")
-        self._write(self.bin + "/starts", f"""#!/bin/sh
-{flock} -n {self.data}.lock true || exit 0    # as systemctl start of a unit that runs
-setsid {flock} -n -F -E 75 {self.data}.lock {os.path.abspath(PROGRAM)} serve --data {self.data} --listen 127.0.0.1:{self.port} \\
-    </dev/null >>{place}/out 2>&1 9>&- &
-echo $! >{self.pid}
-exec ssikvd-probe --wait 20 --process $! 127.0.0.1:{self.port} >/dev/null
-""")
-        self._write(self.bin + "/stops", f"#!/bin/sh\nkill -9 $(cat {self.pid})\n{flock} -w 10 {self.data}.lock true\n")
-
-    @staticmethod
-    def _write(name, text):
-        with open(name, "w", encoding="utf-8") as file:
-            file.write(text)
-        os.chmod(name, 0o755)
-
-    def start(self):
-        found = tool(self.bin + "/starts")
-        expect(found[0] == 0, f"no server could be started: {found}")
-
-    def stop(self):
-        """Ends the server by its id, if there is one."""
-        with contextlib.suppress(FileNotFoundError, ProcessLookupError):
-            with open(self.pid, encoding="ascii") as file:
-                process = int(file.read())
-            with open(f"/proc/{process}/cmdline", "rb") as file:
-                if self.data.encode() in file.read():
-                    os.kill(process, signal.SIGKILL)
-            tool("flock", "-w", "10", self.data + ".lock", "true")
-
-    def commit(self, count=1):
-        for _ in range(count):
-            commit(self.port, self.acknowledged)
-            self.acknowledged += 1
-
-    def run(self, before="no", after="no", fails="no", words=()):
-        """Runs the script, killed with all that it started before or after this step, or with this step failing: its status, its output,
-        and the commands that it ran."""
-        with open(self.steps, "w", encoding="ascii") as file:
-            file.write("0\n")
-        open(self.steps + ".log", "w", encoding="ascii").close()
-        environment = {**ENVIRONMENT, "PATH": self.bin + ":" + ENVIRONMENT["PATH"], "SSIKVD": "ssikvd", "STEPS": self.steps}
-        environment.update(BEFORE=str(before), AFTER=str(after), FAILS=str(fails))
-        words = [self.script, "--stop", self.bin + "/stops", "--start", self.bin + "/starts", *words, self.data]
-        ran = subprocess.Popen(words, stdin=subprocess.DEVNULL, stdout=subprocess.PIPE, stderr=subprocess.PIPE, env=environment,
-                               start_new_session=True, text=True)
-        out, err = ran.communicate(timeout=3 * PATIENCE)
-        with open(self.steps + ".log", encoding="utf-8") as file:
-            return ran.returncode, out, err, file.read().splitlines()
-
-    def contents(self):
-        """The map of the file."""
-        return map_of(log_of(self.data))
-
-    def due(self):
-        """The map after the acknowledged commits."""
-        found = {}
-        for number in range(self.acknowledged):
-            apply(found, [(b"%06d" % (number % 40), b"v" * (number * 97 % 1_500)), (b"last", b"%d" % number)])
-        return found
-
 
 FILES = {"data", "data.old", "data.new", "data.new.state", "data.new.state.tmp", "data.lock"}
 
@@ -675,7 +549,7 @@ def show_that_they_fail(tally, script):
             with tally.run(f"{name} is reported"):
                 expect(old in text, f"{name} can't be planted")
                 changed = os.path.join(place, "ssikvd-compact")
-                Trial._write(changed, text.replace(old, new))
+                write_script(changed, text.replace(old, new))
                 expect(is_reported(changed), f"{name} was not reported")
 
 

@@ -25,85 +25,30 @@ A language that isn't installed is left out, and a line says so.
 """
 import collections
 import concurrent.futures
-import contextlib
 import os
 import re
 import shutil
 import signal
 import socket
-import subprocess
-import threading
 import time
 
-from client import PATIENCE, PROGRAM, Connection, Deviation, Server, Tally, expect, folder, is_long, is_refused, need, run, run_harness
-from clients import fresh, missing
-from languages import WORKERS, Proxy, Run, shell
-from model import OK, PONG, WRITES_MAX, bulk, decode, frame, log_image, pairs, refusal
+from ssikvd_harness.arguments import is_long, need, run_harness
+from ssikvd_harness.connection import Connection
+from ssikvd_harness.cutting import CLOSE, PIVOT, SILENCE, Scripted
+from ssikvd_harness.deviations import Deviation, Tally, expect, is_refused, missing
+from ssikvd_harness.frames import FULL, OK, bulk, decode, frame, pairs, refusal
+from ssikvd_harness.languages import CLIENTS, PACKAGES, WORKERS, Run, shell
+from ssikvd_harness.limits import WRITES_MAX
+from ssikvd_harness.log_format import log_image
+from ssikvd_harness.server import Server, folder, fresh, run
+from ssikvd_harness.settings import PATIENCE, PROGRAM
 
-TOP = os.path.normpath(os.path.join(os.path.dirname(os.path.abspath(__file__)), ".."))
-CLIENTS = os.path.join(TOP, "clients")
 LINES_MAX = 400
 KEYS = 100_000
 SEATS = 60
 SECTORS = 16_384
 SCRIPTS_AT_ONCE = 4
 
-
-class Package:
-    """A package: its folder, what ends with status 0 where its language is there, and its commands, which are run in a copy of its folder.
-
-    The version is a file and a pattern. `first` runs the file of that name that the package's README shows first."""
-
-    def __init__(self, name, place, probe, needs, version, sources, run, test=None, first=None, build=None):
-        self.name, self.place, self.probe, self.needs, self.version, self.sources = name, place, probe, needs, version, sources
-        self.run, self.test, self.first, self.build = run, test, first, build
-
-    def is_there(self):
-        return shell(self.probe, TOP)[0] == 0
-
-    def job(self, port, *words):
-        """The program doing a job, as a process. It is a group of its own, with its workers, where those are processes."""
-        command = f"exec env {self.run} 127.0.0.1:{port} " + " ".join(words)
-        return subprocess.Popen(["bash", "-c", command], cwd=os.path.join(self.copy, self.place), env={**os.environ, "PYTHONDONTWRITEBYTECODE": "1"},
-                                stdout=subprocess.PIPE, stderr=subprocess.PIPE, text=True, start_new_session=True)
-
-    def of(self, copy):
-        """The same package in another copy."""
-        other = object.__new__(Package)
-        other.__dict__.update(self.__dict__, copy=copy)
-        return other
-
-    def start(self, copy, port, times):
-        return self.job(port, "count", "visits", str(WORKERS), str(times))
-
-
-PACKAGES = [
-    Package("Python", "python", "python3 -c 'import asyncio; asyncio.timeout'", "Python 3.11", ("pyproject.toml", r'^version = "(.*)"$'),
-            r"src/ssikvd/\w+\.py", "PYTHONPATH=src python3 harness.py", "PYTHONPATH=src python3 -m unittest discover -s tests",
-            "PYTHONPATH=src python3 first.py"),
-    Package("Python, asyncio", "python", "python3 -c 'import asyncio; asyncio.timeout'", "Python 3.11",
-            ("src/ssikvd/__init__.py", r'^__version__ = "(.*)"$'), r"src/ssikvd/\w+\.py", "PYTHONPATH=src python3 harness.py aio"),
-    Package("JavaScript", "javascript", "node -e 'process.exit(parseInt(process.versions.node) < 18 ? 1 : 0)'", "Node.js 18",
-            ("package.json", r'^  "version": "(.*)",$'), r"\w+(?<!harness)\.(js|d\.ts)", "node harness.js", "node --test tests/", "node first.mjs"),
-    Package("Ruby", "ruby", "ruby -e 'exit RUBY_VERSION >= \"3.1\"'", "Ruby 3.1", ("lib/ssikvd/version.rb", r'^  VERSION = "(.*)"$'),
-            r"lib/.*\.rb", "ruby -Ilib harness.rb", "ruby -Ilib test/frames_test.rb", "ruby -Ilib first.rb"),
-    Package("PHP", "php", "php -r 'exit(PHP_VERSION_ID >= 80100 && extension_loaded(\"pcntl\") ? 0 : 1);'", "PHP 8.1 with pcntl",
-            ("composer.json", r'^    "version": "(.*)",$'), r"(src/\w+|autoload)\.php", "php harness.php", "php tests/frames.php",
-            "mkdir -p vendor && cp -r autoload.php src vendor && php first.php"),
-    Package("Rust", "rust", "cargo --version", "cargo (Debian's cargo)", ("Cargo.toml", r'^version = "(.*)"$'), r"src/\w+\.rs",
-            "target/release/examples/jobs", "cargo test --quiet --offline --lib && cargo test --quiet --offline --doc",
-            "mkdir -p examples && cp first.rs examples/ && cargo run --release --quiet --offline --example first # first.rs",
-            "cargo build --release --quiet --offline --example jobs"),
-    Package("C", "c", "cc --version", "a C compiler as cc", ("ssikvd.h", r'^#define SSIKVD_VERSION "(.*)"$'), r"ssikvd\.c", "out/jobs",
-            "cc -std=c11 -o out/test_frames test_frames.c -lpthread && out/test_frames",
-            "cc -std=c11 -o out/first first.c ssikvd.c -lpthread && out/first # first.c",
-            "mkdir -p out && cc -std=c11 -O2 -Wall -Wextra -o out/jobs jobs.c ssikvd.c -lpthread"),
-    Package("Go", "go", "go version", "Go (Debian's golang-go)", ("ssikvd.go", r'^const Version = "(.*)"$'), r"(?!\w+_test)\w+\.go", "out/jobs", "go test .",
-            "mkdir -p first && cp main.go first/ && rm main.go && go run ./first # main.go", "go build -o out/jobs ./jobs"),
-    Package("Java", "java", "javac --version", "a JDK", ("pom.xml", r"^  <version>(.*)</version>$"), r"src/main/java/ssikvd/\w+\.java",
-            "java -cp out ssikvd.Jobs", "java -cp out ssikvd.FramesTest", "java -cp out First.java",
-            "javac -d out src/main/java/ssikvd/*.java src/test/java/ssikvd/*.java"),
-]
 
 ERRORS = """overwritten: Conflict key 6b
 pivot: Conflict pivot self
@@ -270,53 +215,10 @@ def readme(package):
         expect(status == 0 and out == due, f"{name} ended with {status}, {out!r} {errors[-400:]!r}, due is {due!r}")
 
 
-# A server that answers by a script
-
-CLOSE, SILENCE = object(), object()
-USUAL = {b"PING": PONG, b"BEGIN": OK, b"GET": bulk(None), b"SET": OK, b"DEL": OK, b"RANGE": pairs([]), b"COMMIT": b":1\r\n", b"ABORT": OK}
-
-
-class Scripted:
-    """Answers each request by the next answer for its name, the last one again and again; a name without answers as the store would.
-
-    An answer is bytes, a list of pieces, CLOSE for a closed connection, SILENCE for none. What was asked is counted by its name."""
-
-    def __init__(self, answers):
-        self.answers = {name.encode(): list(given) for name, given in answers.items()}
-        self.asked, self.listener = collections.Counter(), socket.create_server(("127.0.0.1", 0), backlog=64)
-        self.port, self.open = self.listener.getsockname()[1], []
-        threading.Thread(target=self._accept, daemon=True).start()
-
-    def _accept(self):
-        with contextlib.suppress(OSError):
-            while True:
-                self.open.append(self.listener.accept()[0])
-                threading.Thread(target=self._serve, args=(self.open[-1],), daemon=True).start()
-
-    def _serve(self, stream):
-        with contextlib.suppress(OSError), stream:
-            stream.setsockopt(socket.IPPROTO_TCP, socket.TCP_NODELAY, 1)
-            for name, _ in Proxy._requests(stream):
-                self.asked[name.decode()] += 1
-                given = self.answers.get(name)
-                answer = USUAL[name] if not given else given.pop(0) if len(given) > 1 else given[0]
-                if answer is CLOSE:
-                    return
-                for piece in [] if answer is SILENCE else answer if isinstance(answer, list) else [answer]:
-                    stream.sendall(piece)
-                    time.sleep(0.001 if isinstance(answer, list) else 0)
-
-    def close(self):
-        self.listener.close()
-        for stream in self.open:
-            stream.close()
-
-
 def in_pieces(reply):
     return [reply[at:at + 1] for at in range(len(reply))]
 
 
-FULL, PIVOT = refusal("FULL transactions"), refusal("CONFLICT pivot 7")
 SET, ONCE = "set a b 0 10", "once a 0 10"
 PATIENT_SET, PATIENT_ONCE = "set a b 30 10", "once a 30 10"
 SHORT_SET = "set a b 30 1"    # where a reply never comes

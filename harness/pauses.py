@@ -12,13 +12,15 @@ import argparse
 import os
 import sys
 
-from client import HERE, PROGRAM, Deviation, Tally, expect, is_long, is_refused, need, run_harness
+from ssikvd_harness.arguments import is_long, need, run_harness
+from ssikvd_harness.deviations import Deviation, Tally, expect, is_refused
+from ssikvd_harness.settings import OUT, PROGRAM, TOP
 
-sys.path.append(os.path.join(HERE, "..", "bench"))
+sys.path.append(os.path.join(TOP, "bench"))
 
 import pause_scenes     # noqa: E402
 
-LIBRARY = os.path.join(HERE, "out", "polls.so")
+LIBRARY = os.path.join(OUT, "polls.so")
 KEYS, LONG_KEYS, SECONDS, BEHIND_SECONDS = 10_000, 100_000, 0.2, 0.02
 TRIES = 3
 

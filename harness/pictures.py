@@ -11,12 +11,14 @@ import os
 import sys
 import xml.etree.ElementTree as xml
 
-from client import HERE, Deviation, Tally, expect, is_long, run_harness
+from ssikvd_harness.arguments import is_long, run_harness
+from ssikvd_harness.deviations import Deviation, Tally, expect
+from ssikvd_harness.rows import EXAMPLES, example_files
+from ssikvd_harness.settings import TOP
 from histories import FORMS, RecentStore, model_history
 from random_scripts import by_model, script_of
-from rows import EXAMPLES, example_files
 
-sys.path.append(os.path.join(HERE, "..", "examples"))
+sys.path.append(os.path.join(TOP, "examples"))
 
 import picture      # noqa: E402
 

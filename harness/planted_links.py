@@ -19,8 +19,11 @@ import sys
 import tempfile
 import time
 
-from client import PROGRAM, Deviation, Tally, check, create, expect, folder, is_long, need, run_harness
-from operation_tools import DIST, ENVIRONMENT, missing, tool
+from ssikvd_harness.arguments import is_long, need, run_harness
+from ssikvd_harness.deviations import Deviation, Tally, expect, missing
+from ssikvd_harness.server import check, create, folder
+from ssikvd_harness.settings import PROGRAM
+from ssikvd_harness.tools import DIST, ENVIRONMENT, tool
 
 USER = 12_345
 TOOLS = ("ssikvd-used", "ssikvd-verify", "ssikvd-follow", "ssikvd-compact", "ssikvd-probe", "ssikvd-stat")

@@ -28,13 +28,16 @@ import subprocess
 import sys
 import time
 
-import client
-from client import HERE, PATIENCE, Connection, Server, Tally, check, create, expect, folder, need, run, run_harness
-from lossy import copy_of, map_of
-from model import HEAD, OK, SECTOR, Damaged, NotALog, OldFormat, frame, read_log, sectors_used
+from ssikvd_harness.arguments import need, run_harness
+from ssikvd_harness.connection import Connection
+from ssikvd_harness.deviations import Tally, expect
+from ssikvd_harness.frames import OK, frame
+from ssikvd_harness.log_format import HEAD, SECTOR, Damaged, NotALog, OldFormat, copy_of, map_of, read_log, sectors_used
+from ssikvd_harness.server import Server, check, create, folder, run
+from ssikvd_harness.settings import HARNESS, OUT, PATIENCE, PROGRAM, TOP
 
-RECORDER, SKIPS = (os.path.join(HERE, "out", name) for name in ("recorder", "skip_syncs.so"))
-SHIP, RESTORE = (os.path.join(HERE, "..", "dist", name) for name in ("ssikvd-ship", "ssikvd-restore"))
+RECORDER, SKIPS = (os.path.join(OUT, name) for name in ("recorder", "skip_syncs.so"))
+SHIP, RESTORE = (os.path.join(TOP, "dist", name) for name in ("ssikvd-ship", "ssikvd-restore"))
 INSIDE = "--inside"
 IN_PRIVATE = ["unshare", "--mount", "--propagation", "private"]    # with mounts of its own, which nobody else sees
 BTRFS = (128 << 20, ["mkfs.btrfs", "-q", "-f"])
@@ -510,7 +513,7 @@ def why_left_out():
         return "there is no harness/out/recorder, which run.sh builds where libfuse3 is"
     if not os.path.exists("/dev/fuse") or not os.path.exists("/dev/loop-control"):
         return "there is no FUSE, or no loop device"
-    tried = subprocess.run([*IN_PRIVATE, "mount", "-t", "tmpfs", "none", HERE], capture_output=True, timeout=PATIENCE, check=False)
+    tried = subprocess.run([*IN_PRIVATE, "mount", "-t", "tmpfs", "none", HARNESS], capture_output=True, timeout=PATIENCE, check=False)
     return "nothing can be mounted" if tried.returncode else None
 
 
@@ -527,7 +530,7 @@ def words_of(argv):
 def main():
     is_inside = INSIDE in sys.argv[1:]
     asked = words_of([word for word in sys.argv[1:] if word != INSIDE])
-    need(client.PROGRAM)
+    need(PROGRAM)
     why = why_left_out()
     if why:
         print(f"losses of power: left out, since {why}", flush=True)

@@ -21,14 +21,17 @@ import threading
 import time
 
 import documents
-from client import PATIENCE, PROGRAM, Deviation, Server, Tally, create, expect, folder, free_port, is_long, need, run_harness
+from ssikvd_harness.arguments import is_long, need, run_harness
+from ssikvd_harness.deviations import Deviation, Tally, expect
+from ssikvd_harness.examples import simple_client
+from ssikvd_harness.server import Server, create, folder, free_port
+from ssikvd_harness.settings import PATIENCE, PROGRAM, TOP, text_of
 
-FOLDER = os.path.join(documents.TOP, "examples", "proxies")
+FOLDER = os.path.join(TOP, "examples", "proxies")
 DOCUMENT = "examples/proxies/README.md"
-sys.path[1:1] = [FOLDER, os.path.join(documents.TOP, "examples", "clients")]
+sys.path.insert(1, FOLDER)
 
-import simple_client         # noqa: E402
-import tls_client            # noqa: E402
+import tls_client    # noqa: E402
 
 DEBIAN = {"stunnel": "stunnel4", "haproxy": "haproxy", "sshd": "openssh-server", "ssh": "openssh-client", "redis-cli": "redis-tools",
           "openssl": "openssl"}
@@ -200,7 +203,7 @@ def typed(tally):
         ports = {port: str(free_port()) for port in ("7777", "7778", "7779")}
         at = os.path.join(copy, "examples", "proxies")
         for name in ("stunnel.conf", "haproxy.cfg"):
-            write(at, name, {port: new for port, new in ports.items() if port in text_of(name)})
+            write(at, name, {port: new for port, new in ports.items() if port in example(name)})
         shell = documents.Shell(copy)
         try:
             shell.type(f"cd {at}; export PATH=$PATH:/usr/sbin")
@@ -214,14 +217,15 @@ def typed(tally):
             shell.end()
 
 
-def text_of(name):
-    return documents.text_of(os.path.join("examples", "proxies", name))
+def example(name):
+    """The text of a file of the folder."""
+    return text_of(os.path.join("examples", "proxies", name))
 
 
 def written(tally):
     """The document is written as the others are, and leads nowhere that isn't there."""
     with tally.run(f"the style of {DOCUMENT}"):
-        found = documents.paragraphs(documents.text_of(DOCUMENT))
+        found = documents.paragraphs(text_of(DOCUMENT))
         wide = [cell for cell, is_cell in found if is_cell and len(cell) > documents.CELL_MAX]
         long = [it for text, _ in found for it in documents.sentences(text) if len(it.split()) > documents.WORDS_MAX]
         expect(not wide and not long, f"{wide[:1]} {long[:1]} is too long")

@@ -9,14 +9,15 @@ import re
 import subprocess
 import sys
 
-from client import HERE, PROGRAM, Deviation, Tally
-from model import Store
-from rows import request_of, shown
+from ssikvd_harness.deviations import Deviation, Tally
+from ssikvd_harness.model import Store
+from ssikvd_harness.rows import request_of, shown
+from ssikvd_harness.settings import PROGRAM, TOP
 
-PLAIN_PLAY = os.environ.get("PLAIN_PLAY") or os.path.join(HERE, "..", "crates", "plain_play", "out", "plain_play")
+PLAIN_PLAY = os.environ.get("PLAIN_PLAY") or os.path.join(TOP, "crates", "plain_play", "out", "plain_play")
 SCRIPTS = {"quick": range(300), "long": range(300, 12_300)}
 EMPTY = '""'
-WORKED = os.path.join(HERE, "..", "crates", "rows", "src", "worked.rt")
+WORKED = os.path.join(TOP, "crates", "rows", "src", "worked.rt")
 ROW = re.compile(r"pub static (\w+): \[(?:Line|Counted); \d+\] = \[(.*?)\n\];", re.DOTALL)
 LINE = re.compile(r'(?:\((\d+), (\d+), )?\("((?:[^"\\]|\\.)*)", "((?:[^"\\]|\\.)*)"\)')
 LOG_FULL_SECTORS = 4

@@ -12,10 +12,14 @@ import re
 import shutil
 import subprocess
 
-from client import HERE, PATIENCE, PROGRAM, Connection, Deviation, Server, Tally, expect, folder, need, run_harness
-from clients import missing
-from languages import DOCUMENT, Proxy, fresh, shell
-from model import frame
+from ssikvd_harness.arguments import need, run_harness
+from ssikvd_harness.connection import Connection
+from ssikvd_harness.cutting import Proxy
+from ssikvd_harness.deviations import Deviation, Tally, expect, missing
+from ssikvd_harness.frames import frame
+from ssikvd_harness.languages import shell
+from ssikvd_harness.server import Server, folder, fresh
+from ssikvd_harness.settings import HARNESS, PATIENCE, PROGRAM, text_of
 
 GO = "GO111MODULE=off GOPATH=/usr/share/gocode"
 LIBRARIES = {    # the package, what builds the program, what runs it
@@ -113,8 +117,7 @@ def arrival(line):
 
 def rows():
     """The rows of the document's table of libraries that were tried: the cells behind the name, by the name without its version."""
-    with open(DOCUMENT, encoding="utf-8") as file:
-        cells = [[cell.strip() for cell in line.split("|")[1:-1]] for line in file if line.startswith("|")]
+    cells = [[cell.strip() for cell in line.split("|")[1:-1]] for line in text_of("docs/CLIENTS.md").splitlines() if line.startswith("|")]
     return {TRIED.fullmatch(row[0])[1]: row[1:] for row in cells if len(row) == COLUMNS and TRIED.fullmatch(row[0])}
 
 
@@ -139,7 +142,7 @@ def main():
     tally, due = Tally("resending"), rows()
     with folder() as place:
         programs = os.path.join(place, "resending")
-        shutil.copytree(os.path.join(HERE, "resending"), programs)
+        shutil.copytree(os.path.join(HARNESS, "resending"), programs)
         for name in LIBRARIES:
             library = Library(name, programs)
             if shell(library.build, programs)[0]:

@@ -10,20 +10,20 @@ must be reported.
 """
 import contextlib
 import fcntl
-import io
 import itertools
 import os
 import re
 import shutil
 import signal
 import stat
-import sys
 import threading
 
-import operation_tools
-from client import PROGRAM, Server, Tally, check, expect, folder, free_port, is_long, is_refused, need, run_harness
-from model import SECTOR, sectors_used
-from operation_tools import DIST, ENVIRONMENT, commit, fill, loaded, log_of, map_of, tool
+from ssikvd_harness.arguments import is_long, need, run_harness
+from ssikvd_harness.deviations import Tally, expect, is_refused, missing
+from ssikvd_harness.log_format import SECTOR, log_of, map_of, sectors_used
+from ssikvd_harness.server import Server, check, folder, free_port
+from ssikvd_harness.settings import PROGRAM
+from ssikvd_harness.tools import DIST, ENVIRONMENT, commit, fill, loaded, tool, within
 
 SECTORS = 256
 OWNER = (0o640, 12_345 if os.getuid() == 0 else os.getuid(), 12_346 if os.getuid() == 0 else os.getgid())
@@ -132,30 +132,13 @@ def with_calls(script, calls):
     return module
 
 
-def main_of(module, words):
-    """Runs the tool's main program here: its status, and what it printed and said."""
-    own, out, err = sys.argv, io.StringIO(), io.StringIO()
-    handlers = {number: signal.getsignal(number) for number in (signal.SIGHUP, signal.SIGINT, signal.SIGTERM)}
-    sys.argv = ["ssikvd-restore", *words]
-    try:
-        with contextlib.redirect_stdout(out), contextlib.redirect_stderr(err):
-            status = module.main()
-    except SystemExit as ended:
-        status = ended.code
-    finally:
-        sys.argv = own
-        for number, handler in handlers.items():
-            signal.signal(number, handler)
-    return status, out.getvalue(), err.getvalue()
-
-
 def killed(script, words, number, is_after):
     """A run in a process of its own, killed at this call: the signal that ended it, or 0."""
     process = os.fork()
     if process == 0:
         status = 1
         try:
-            status = main_of(with_calls(script, Calls(number, is_after)), words)[0]
+            status = within(with_calls(script, Calls(number, is_after)), words)[0]
         finally:
             os._exit(status)
     return os.WTERMSIG(os.waitpid(process, 0)[1])
@@ -179,7 +162,7 @@ def judge_kill(files, script, number, is_after, serves):
             shutil.copy(case.data, case.place + "/served")
             with Server(case.place + "/served") as server:
                 commit(server.port, 1)
-        status, out, err = main_of(loaded(script), case.words)
+        status, out, err = within(loaded(script), case.words)
         expect(status == 0 and not err, f"run again it ended with {status}: {out}{err}")
         judge_restored(case, files)
 
@@ -188,7 +171,7 @@ def steps(files, script):
     """The calls of a run to its end."""
     with files.case() as case:
         calls = Calls()
-        found = main_of(with_calls(script, calls), case.words)
+        found = within(with_calls(script, calls), case.words)
         expect(found[0] == 0, f"it ended with {found}")
         judge_restored(case, files)
         return calls.made
@@ -270,7 +253,7 @@ def judge_power(files, script):
     """All names that a loss of power may leave at any of the calls. How many cases are there?"""
     with files.case() as case:
         power = Power()
-        found = main_of(with_calls(script, power), case.words)
+        found = within(with_calls(script, power), case.words)
         expect(found[0] == 0 and power.commands == 2, f"it ended with {found}")
         return power.cases
 
@@ -310,7 +293,7 @@ def refusals(tally, files):
         full = Calls()
         full.fstatvfs = lambda _: os.statvfs_result((4096, 4096, 100, 10, 10, 100, 10, 10, 0, 255))
         restoring.os = full
-        found = main_of(restoring, case.words)
+        found = within(restoring, case.words)
         expect(found[0] == 2 and "has no room" in found[2], f"it answered {found}")
         case.is_untouched(files.old)
     for name in ("posix_fallocate", "pwrite", "fchown", "fsync"):
@@ -318,7 +301,7 @@ def refusals(tally, files):
             failing = Calls()
             setattr(failing, name, refusing)
             restoring.os = failing
-            found = main_of(restoring, case.words)
+            found = within(restoring, case.words)
             expect(found[0] == 2 and "No space left" in found[2], f"it answered {found}")
             case.is_untouched(files.old)
     with tally.run("a file of an earlier restore"), files.case() as case:
@@ -393,7 +376,7 @@ def links(tally, files):
             expect(found[0] == 2 and read(target) == b"of root" and os.listdir(elsewhere) == ["target"], f"it answered {found}")
             expect(read(case.data) == files.old, "the data file is another one")
     if os.getuid() != 0:
-        operation_tools.missing("links of another user", "root")
+        missing("links of another user", "root")
         return
     for name in ("data", "backup"):
         with tally.run(f"{name} is a link of another user"), files.case() as case, folder() as elsewhere:
@@ -437,12 +420,12 @@ def by_name(case, files, port):
     own = os.environ["PATH"]
     os.environ["PATH"] = case.place + ":" + ENVIRONMENT["PATH"]
     try:
-        status, out, err = main_of(restoring, ["shop", case.copy])
+        status, out, err = within(restoring, ["shop", case.copy])
         expect(status == 0 and not err and "restored; stopped for" in out, f"it answered {status, out, err}")
         expect(map_of(log_of(case.data)) == map_of(files.log), "the map is another one")
         commit(port, 3)
         expect(log_of(case.data)[:-1] == files.log, "the server writes to another file")
-        found = main_of(restoring, ["shop", case.copy])
+        found = within(restoring, ["shop", case.copy])
         expect(found[0] == 2 and "earlier restore" in found[2], f"a second restore answered {found}")
         commit(port, 4)
     finally:
@@ -503,7 +486,7 @@ def keeping(tally, copies):
         expect(tool("ssikvd-ship", "--keep", "-1", copies.data[0], "copy")[0] == 2, "it was taken")
     with copies.shipped(3, 2) as copy:
         calls = Calls()
-        found = main_of(with_calls("ssikvd-ship", calls), ["--keep", "2", copies.data[3], copy])
+        found = within(with_calls("ssikvd-ship", calls), ["--keep", "2", copies.data[3], copy])
         with tally.run("the calls of a run"):
             expect(found[0] == 0 and len(calls.made) > 10, f"it answered {found}")
     for number, name in enumerate(calls.made, 1):

@@ -17,11 +17,15 @@ import os
 import select
 from dataclasses import dataclass
 
-from client import (
-    ACCEPT, ALL, DEVICE, DEVICE_FAULT, FILE_FAULT, MEMORY, NOTHING, OUT_OF_MEMORY, RECEIVE, SEND, STORE_STOPPED, Connection, Refusals, Server, Tally,
-    check, create, expect, folder, is_long, need, run_harness)
-from model import PONG, Store, apply, frame, log_image
-from rows import ROWS, request_of
+from ssikvd_harness.arguments import is_long, need, run_harness
+from ssikvd_harness.connection import Connection
+from ssikvd_harness.deviations import Tally, expect
+from ssikvd_harness.failing_calls import ACCEPT, ALL, DEVICE, MEMORY, NOTHING, RECEIVE, SEND, Refusals
+from ssikvd_harness.frames import PONG, frame
+from ssikvd_harness.log_format import apply, log_image
+from ssikvd_harness.model import Store
+from ssikvd_harness.rows import ROWS, request_of
+from ssikvd_harness.server import DEVICE_FAULT, FILE_FAULT, OUT_OF_MEMORY, STORE_STOPPED, Server, check, create, folder
 
 SECTORS = 512
 STEP_OF_QUICK = 7

@@ -49,14 +49,19 @@ import kills
 import lossy
 import random_scripts
 import streams
-from anomalies import History
-from client import HERE, PROGRAM, Connection, Deviation, Server, Tally, create, expect, folder
-from model import Damaged, NotALog, OldFormat, SECTOR, Store, frame, log_image, read_log, sectors_used
-from rows import request_of
+from ssikvd_harness.anomalies import History
+from ssikvd_harness.connection import Connection
+from ssikvd_harness.deviations import Deviation, Tally, expect
+from ssikvd_harness.frames import frame
+from ssikvd_harness.log_format import SECTOR, Damaged, NotALog, OldFormat, log_image, read_log, sectors_used
+from ssikvd_harness.model import Store
+from ssikvd_harness.rows import request_of
+from ssikvd_harness.server import Server, create, folder
+from ssikvd_harness.settings import HARNESS, OUT, PROGRAM
 
-LOG = os.path.join(HERE, "out", "soak.jsonl")
+LOG = os.path.join(OUT, "soak.jsonl")
 ENDING = {signal.SIGINT, signal.SIGTERM, signal.SIGHUP}
-WRONG_PROGRAM = os.path.join(HERE, "wrong_program.py")
+WRONG_PROGRAM = os.path.join(HARNESS, "wrong_program.py")
 SHRINKING_MAX, SIGHT_MAX = 60.0, 10
 SHOWN_MAX = 40    # operations of a failed round that stand in the log
 

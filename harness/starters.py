@@ -31,11 +31,16 @@ import threading
 import time
 import urllib.parse
 
-from client import PATIENCE, PROGRAM, Connection, Server, Tally, expect, folder, is_long, is_refused, need, run_harness
-from clients import Threads, fresh, missing
-from languages import ENVIRONMENT, Proxy, shell
-from model import OK, PAIRS_MAX, bulk, frame, pairs, refusal
-from packages import CLIENTS, CLOSE, FULL, PIVOT, Scripted
+from ssikvd_harness.arguments import is_long, need, run_harness
+from ssikvd_harness.connection import Connection
+from ssikvd_harness.cutting import CLOSE, PIVOT, Proxy, Scripted
+from ssikvd_harness.deviations import Tally, expect, is_refused, missing
+from ssikvd_harness.frames import FULL, OK, bulk, frame, pairs, refusal
+from ssikvd_harness.languages import CLIENTS, ENVIRONMENT, shell
+from ssikvd_harness.limits import PAIRS_MAX
+from ssikvd_harness.server import Server, folder, fresh
+from ssikvd_harness.settings import PATIENCE, PROGRAM
+from ssikvd_harness.threads import Threads
 
 SECTORS, SHARE = 16_384, 0.15
 IGNORED = shutil.ignore_patterns("out", "target", "__pycache__")

@@ -10,22 +10,23 @@ compaction; also without `ss`. The probe tells a full log. Each figure of the al
 import contextlib
 import errno
 import fcntl
-import io
 import json
 import os
 import re
 import shutil
 import socket
 import subprocess
-import sys
 import time
 
 from at_rest import damages, turn
-from client import PATIENCE, PROGRAM, Server, Tally, create, expect, folder, free_port, is_refused, need, run_harness
-from model import SECTOR, log_image
-from operation import judge_metrics
-from operation_tools import DIST, ENVIRONMENT, fill, loaded, missing, operations, simple_client, tool
-from operation_units import names_of_metrics
+from ssikvd_harness.arguments import need, run_harness
+from ssikvd_harness.deviations import Tally, expect, is_refused, missing
+from ssikvd_harness.examples import simple_client
+from ssikvd_harness.log_format import SECTOR, log_image
+from ssikvd_harness.server import Server, create, folder, free_port
+from ssikvd_harness.settings import PATIENCE, PROGRAM
+from ssikvd_harness.tools import DIST, ENVIRONMENT, fill, loaded, operations, tool, within
+from ssikvd_harness.units import judge_metrics, names_of_metrics
 
 SECTORS = 512
 NOBODY = 65_534
@@ -44,20 +45,6 @@ def why(*words, as_nobody=False, before=(), program=None):
     how = {"capture_output": True, "text": True, "env": ENVIRONMENT, "timeout": PATIENCE, "stdin": subprocess.DEVNULL}
     ran = subprocess.run([*before, program or os.path.join(DIST, "ssikvd-why"), *words], **how, **(OTHER if as_nobody else {}))
     return ran.returncode, ran.stdout, ran.stderr
-
-
-def within(module, words):
-    """What a tool answers to these words, run by this process."""
-    out, err, own = io.StringIO(), io.StringIO(), sys.argv
-    sys.argv = ["tool", *words]
-    try:
-        with contextlib.redirect_stdout(out), contextlib.redirect_stderr(err):
-            status = module.main()
-    except SystemExit as end:
-        status = end.code
-    finally:
-        sys.argv = own
-    return status, out.getvalue(), err.getvalue()
 
 
 def expect_causes(found, *due):

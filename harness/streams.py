@@ -12,10 +12,13 @@ import os
 import socket
 from itertools import combinations
 
-from client import (
-    ALL, DEVICE, STORE_STOPPED, Connection, Deviation, Refusals, Server, Tally, check, expect, folder, free_port, is_long, need, run,
-    run_harness)
-from model import OK, SECTOR, frame, log_image, refusal, sectors_used
+from ssikvd_harness.arguments import is_long, need, run_harness
+from ssikvd_harness.connection import Connection
+from ssikvd_harness.deviations import Deviation, Tally, expect
+from ssikvd_harness.failing_calls import ALL, DEVICE, Refusals
+from ssikvd_harness.frames import OK, frame, refusal
+from ssikvd_harness.log_format import SECTOR, log_image, sectors_used
+from ssikvd_harness.server import STORE_STOPPED, Server, check, folder, free_port, run
 
 STREAMS = ("input", "output", "error output")
 CLOSED = [frozenset(chosen) for count in range(4) for chosen in combinations(range(3), count)]

@@ -23,10 +23,15 @@ import signal
 import subprocess
 import time
 
-from client import (
-    ALL, DEVICE, FILE_FAULT, PATIENCE, POLL, PROGRAM, STORE_STOPPED, Connection, Refusals, Server, Tally, check, create, expect, folder,
-    free_port, is_long, need, run, run_harness)
-from model import KEY_MAX, MARKS_MAX, OK, PONG, SECTOR, frame, refusal
+from ssikvd_harness.arguments import is_long, need, run_harness
+from ssikvd_harness.connection import Connection
+from ssikvd_harness.deviations import Tally, expect
+from ssikvd_harness.failing_calls import ALL, DEVICE, POLL, Refusals
+from ssikvd_harness.frames import OK, PONG, frame, refusal
+from ssikvd_harness.limits import KEY_MAX, MARKS_MAX
+from ssikvd_harness.log_format import SECTOR
+from ssikvd_harness.server import FILE_FAULT, STORE_STOPPED, Server, check, create, folder, free_port, run
+from ssikvd_harness.settings import PATIENCE, PROGRAM
 
 DESCRIPTORS, CONNECTIONS = 24, 40
 SOON = 0.5

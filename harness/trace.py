@@ -17,10 +17,16 @@ import random
 import struct
 from dataclasses import replace
 
-from client import PROGRAM, TRACER, Connection, Deviation, Server, Tally, expect, folder, is_long, need, run, run_harness
-from model import (
-    AT_FIRST, HEAD, KEY_MAX, PONG, SECTOR, VALUE_MAX, WRITES_MAX, Damaged, NotALog, Store, body_sectors, frame, log_image, payload, read_log)
-from tracing import ADVISE, CLOSE, OPEN, READ_AT, REMOVE, SEND, SYNC, SYNC_DATA, SYNC_NAMES, WRITE, WRITE_AT, Trace
+from ssikvd_harness.arguments import is_long, need, run_harness
+from ssikvd_harness.connection import Connection
+from ssikvd_harness.deviations import Deviation, Tally, expect
+from ssikvd_harness.frames import PONG, frame
+from ssikvd_harness.limits import KEY_MAX, VALUE_MAX, WRITES_MAX
+from ssikvd_harness.log_format import AT_FIRST, HEAD, SECTOR, Damaged, NotALog, body_sectors, log_image, payload, read_log
+from ssikvd_harness.model import Store
+from ssikvd_harness.server import Server, folder, run
+from ssikvd_harness.settings import PROGRAM, TRACER
+from ssikvd_harness.tracing import ADVISE, CLOSE, OPEN, READ_AT, REMOVE, SEND, SYNC, SYNC_DATA, SYNC_NAMES, WRITE, WRITE_AT, Trace
 
 SECTORS_OF_CREATE = 40
 ZEROS, ONES = bytes(SECTOR), b"\1" * SECTOR

@@ -21,10 +21,14 @@ import tempfile
 import time
 
 import installing
-from client import PATIENCE, Deviation, Tally, expect, folder, is_long, need, run_harness
+from ssikvd_harness.arguments import is_long, need, run_harness
+from ssikvd_harness.deviations import Deviation, Tally, expect
+from ssikvd_harness.examples import simple_client
+from ssikvd_harness.log_format import SECTOR, log_of, map_of
+from ssikvd_harness.server import folder
+from ssikvd_harness.settings import PATIENCE
+from ssikvd_harness.tools import commit
 from following import count_of, judge_kept, writers
-from model import SECTOR
-from operation_tools import commit, log_of, map_of, simple_client
 
 OWN_NAMES = "SSIKVD_UNDER_SYSTEMD"    # set in the process that has names of mounts and a network of its own
 FOLDER = "/var/lib/ssikvd/"

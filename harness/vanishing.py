@@ -16,9 +16,13 @@ import subprocess
 import sys
 import time
 
-import client
-from client import PATIENCE, Connection, Server, Tally, create, expect, folder, is_long, need, run_harness
-from model import OK, OPEN_MAX, PONG, SESSIONS_MAX, frame
+from ssikvd_harness.arguments import is_long, need, run_harness
+from ssikvd_harness.connection import Connection
+from ssikvd_harness.deviations import Tally, expect
+from ssikvd_harness.frames import OK, PONG, frame
+from ssikvd_harness.limits import OPEN_MAX, SESSIONS_MAX
+from ssikvd_harness.server import Server, create, folder
+from ssikvd_harness.settings import PATIENCE, PROGRAM
 
 SILENT, BETWEEN, PROBES = 120, 30, 4    # seconds before the first probe and between two, and how many go without an answer
 SHORTER = 30
@@ -252,7 +256,7 @@ def may_have_networks():
 def main():
     if "peers" in sys.argv[1:]:
         return be_the_peers()
-    need(client.PROGRAM)
+    need(PROGRAM)
     if "inside" in sys.argv[1:]:
         return inside("long" if is_long() else "quick")
     if may_have_networks():

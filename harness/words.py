@@ -9,8 +9,10 @@ import glob
 import os
 import re
 
-from client import Tally, expect, run_harness
-from documents import TOP, documents, text_of
+from ssikvd_harness.arguments import run_harness
+from ssikvd_harness.deviations import Tally, expect
+from ssikvd_harness.settings import TOP, text_of
+from documents import documents
 
 # Words that no document uses, each with the field's.
 AVOIDED = {

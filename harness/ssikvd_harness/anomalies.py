@@ -13,8 +13,17 @@ unique for their key. Three kinds of dependency lead from one transaction to ano
 The versions of a list are the prefixes of the longest one read. Those of a register stand by commit number, one life of the server after
 another; one whose reply was lost has no known place among them. A transaction without a reply counts as committed where another read what it wrote.
 """
+from __future__ import annotations
+
 import heapq
 from collections import defaultdict
+from collections.abc import Callable, Hashable, Iterable, Iterator, Sequence
+from typing import Any, TypeVar
+
+Event = dict[str, Any]
+Pair = tuple[Hashable, Any]    # a key and a value that was written to it
+Step = tuple["Transaction", str, Any]    # of a cycle: the source of a dependency, its kind and its key
+Node = TypeVar("Node", bound=Hashable)
 
 DEPENDENCIES = ("ww", "wr", "rw")
 LAST = (1 << 63, 0)    # the place of one whose commit number isn't known
@@ -23,30 +32,32 @@ LAST = (1 << 63, 0)    # the place of one whose commit number isn't known
 class Transaction:
     """One transaction of a history: when it was begun and ended, how, and its operations with what they read."""
 
-    def __init__(self, invoke, end):
-        self.number, self.process, self.begun = invoke["index"], invoke["process"], invoke["index"]
-        self.kind = end["type"] if end else "info"
-        self.left = end["index"] if end else None    # when its process went on
+    def __init__(self, invoke: Event, end: Event | None) -> None:
+        self.number: int = invoke["index"]
+        self.process, self.begun = invoke["process"], self.number
+        self.kind: str = end["type"] if end else "info"
+        self.left: int | None = end["index"] if end else None    # when its process went on
         self.ended = self.left if self.kind == "ok" else None
-        self.operations = end["value"] if self.kind == "ok" else invoke["value"]
-        self.place = (end["life"], end["commit"]) if self.kind == "ok" else None
+        self.operations = end["value"] if end and self.kind == "ok" else invoke["value"]
+        self.place: tuple[int, int] | None = (end["life"], end["commit"]) if end and self.kind == "ok" else None
         self.error = end.get("error") if end else None
 
-    def __repr__(self):
+    def __repr__(self) -> str:
         return f"T{self.number}"
 
-    def written(self):
+    def written(self) -> list[Pair]:
         """Key and value of each write."""
         return [(key, value) for kind, key, value in self.operations if kind != "r"]
 
-    def last_writes(self):
+    def last_writes(self) -> dict[Hashable, Any]:
         """The last value that it wrote to each key."""
         return dict(self.written())
 
 
-def transactions(events):
+def transactions(events: Iterable[Event]) -> list[Transaction]:
     """The transactions of a history, by the order in which they began."""
-    found, open_ones = [], {}
+    found: list[Transaction] = []
+    open_ones: dict[Any, Event] = {}
     for event in events:
         if event["type"] == "invoke":
             open_ones[event["process"]] = event
@@ -59,12 +70,13 @@ def transactions(events):
 class History:
     """Its committed transactions with their dependencies, and what is wrong before any cycle is looked for."""
 
-    def __init__(self, form, events):
+    def __init__(self, form: str, events: Iterable[Event]) -> None:
         self.is_list = form == "list"
         self.all = transactions(events)
         self.writer = {pair: t for t in self.all for pair in t.written()}
-        self.faults, self.reads = [], []
-        self.edges = {kind: defaultdict(dict) for kind in (*DEPENDENCIES, "rt")}
+        self.faults: list[tuple[str, str]] = []
+        self.reads: list[tuple[Transaction, Hashable, Any]] = []
+        self.edges: dict[str, dict[Transaction, dict[Transaction, Any]]] = {kind: defaultdict(dict) for kind in (*DEPENDENCIES, "rt")}
         for t in self.all:
             if t.kind == "ok":
                 self._read_inside(t)
@@ -76,21 +88,22 @@ class History:
         self._link_versions()
         self._link_real_time()
 
-    def _fault(self, name, text):
+    def _fault(self, name: str, text: str) -> None:
         self.faults.append((name, text))
 
-    def _link(self, kind, source, target, key=None):
+    def _link(self, kind: str, source: Transaction, target: Transaction, key: Any = None) -> None:
         if source is not target:
             self.edges[kind][source].setdefault(target, key)
 
-    def _versions_read(self, key, value):
+    def _versions_read(self, key: Hashable, value: Any) -> list[Pair]:
         return [(key, element) for element in value] if self.is_list else [(key, value)]
 
     # What each reads
 
-    def _read_inside(self, t):
+    def _read_inside(self, t: Transaction) -> None:
         """Within a transaction a read gives what was read before, with its own writes. What it read of others is kept."""
-        known, own = {}, defaultdict(list)
+        known: dict[Hashable, Any] = {}
+        own: dict[Hashable, list[Any]] = defaultdict(list)
         for kind, key, value in t.operations:
             if kind == "r" and self.is_list:
                 value, mine = value or [], own[key]
@@ -111,7 +124,7 @@ class History:
             else:
                 known[key] = value
 
-    def _check_read(self, reader, key, value):
+    def _check_read(self, reader: Transaction, key: Hashable, value: Any) -> None:
         """What was read was written, by one that didn't fail, and was its last."""
         found = [pair for pair in self._versions_read(key, value) if pair[1] is not None]
         if len(set(found)) < len(found):
@@ -123,14 +136,15 @@ class History:
             elif writer.kind == "fail":
                 self._fault("G1a", f"{reader!r} read {pair[1]} of {key}, which {writer!r} wrote, and it failed")
         writer = self.writer.get(found[-1]) if found else None
-        if writer not in (None, reader) and writer.last_writes()[key] != found[-1][1]:
+        if writer and writer is not reader and writer.last_writes()[key] != found[-1][1]:
             self._fault("G1b", f"{reader!r} read {found[-1][1]} of {key}, over which {writer!r} itself wrote")
 
     # The versions of each key
 
-    def _list_chains(self):
+    def _list_chains(self) -> dict[Hashable, tuple[list[Any], list[Any]]]:
         """The elements of each list, and those that were never read, which can only stand after them."""
-        longest, unread = defaultdict(list), defaultdict(list)
+        longest: dict[Hashable, list[Any]] = defaultdict(list)
+        unread: dict[Hashable, list[Any]] = defaultdict(list)
         for _, key, value in self.reads:
             longest[key] = max(longest[key], value, key=len)
         for reader, key, value in self.reads:
@@ -142,27 +156,29 @@ class History:
                     unread[key].append(value)
         return {key: (longest[key], unread[key]) for key in {*longest, *unread}}
 
-    def _register_chains(self):
+    def _register_chains(self) -> dict[Hashable, tuple[list[Any], list[Any]]]:
         """The values of each register by commit number."""
-        chains = defaultdict(list)
-        for t in sorted((t for t in self.committed if t.place), key=lambda t: t.place):
+        chains: dict[Hashable, list[Any]] = defaultdict(list)
+        for t in sorted((t for t in self.committed if t.place), key=lambda t: t.place or LAST):
             for key, value in t.last_writes().items():
                 chains[key].append(value)
         return {key: (values, []) for key, values in chains.items()}
 
-    def _link_versions(self):
+    def _link_versions(self) -> None:
         for key, (chain, unread) in self.chains.items():
             writers = [self.writer.get((key, value)) for value in chain]
             for one, other in zip(writers, writers[1:]):
                 if one and other:
                     self._link("ww", one, other, key)
-            for value in unread if writers and writers[-1] else ():
-                self._link("ww", writers[-1], self.writer[key, value], key)
+            last = writers[-1] if writers else None
+            if last:
+                for value in unread:
+                    self._link("ww", last, self.writer[key, value], key)
         places = {(key, value): place for key, (chain, _) in self.chains.items() for place, value in enumerate(chain)}
         for reader, key, value in self.reads:
             self._link_read(reader, key, (value[-1] if value else None) if self.is_list else value, places)
 
-    def _link_read(self, reader, key, version, places):
+    def _link_read(self, reader: Transaction, key: Hashable, version: Any, places: dict[Pair, int]) -> None:
         """From whoever wrote what was read, and to whoever wrote the next version. What isn't placed has no known next one."""
         chain, unread = self.chains.get(key, ([], []))
         writer = self.writer.get((key, version))
@@ -175,10 +191,11 @@ class History:
             if (key, value) in self.writer:
                 self._link("rw", reader, self.writer[key, value], key)
 
-    def _link_real_time(self):
+    def _link_real_time(self) -> None:
         """From each that ended to those that began since, without what follows from other such links."""
         events = [(t.begun, t, True) for t in self.committed] + [(t.ended, t, False) for t in self.committed if t.ended is not None]
-        latest, before = set(), {}
+        latest: set[Transaction] = set()
+        before: dict[Transaction, set[Transaction]] = {}
         for _, t, is_begin in sorted(events, key=lambda event: event[0]):
             if is_begin:
                 before[t] = set(latest)
@@ -190,10 +207,10 @@ class History:
 
     # Cycles
 
-    def after(self, kinds, t):
+    def after(self, kinds: Iterable[str], t: Transaction) -> list[tuple[Transaction, str, Any]]:
         return [(other, kind, key) for kind in kinds for other, key in self.edges[kind].get(t, {}).items()]
 
-    def anomalies(self):
+    def anomalies(self) -> list[tuple[str, str]]:
         """Name and text of each anomaly."""
         found = list(self.faults)
         for component in components(self.committed, lambda t: [other for other, _, _ in self.after(self.edges, t)]):
@@ -201,7 +218,7 @@ class History:
                 found += self._named(set(component))
         return found
 
-    def _named(self, among):
+    def _named(self, among: set[Transaction]) -> list[tuple[str, str]]:
         """The cycles among transactions that all lie in some: of dependencies alone, or else also of real time."""
         for kinds, suffix in (((), ""), (("rt",), "-realtime")):
             found = [
@@ -216,9 +233,9 @@ class History:
                 return found
         return [("cycle", f"among {sorted(t.number for t in among)}")]
 
-    def _cycle(self, among, first, kinds):
+    def _cycle(self, among: set[Transaction], first: str, kinds: tuple[str, ...]) -> list[Step] | None:
         """A shortest cycle that begins with this kind and goes on by these."""
-        best = None
+        best: list[Step] | None = None
         for t in sorted(among, key=lambda t: t.number):
             for target, key in self.edges[first].get(t, {}).items():
                 way = self._way(among, target, t, kinds) if target in among else None
@@ -226,11 +243,12 @@ class History:
                     best = [(t, first, key), *way]
         return best
 
-    def _way(self, among, start, end, kinds):
+    def _way(self, among: set[Transaction], start: Transaction, end: Transaction, kinds: tuple[str, ...]) -> list[Step] | None:
         """A shortest way from one to another: each step's source, kind and key."""
-        came, now = {start: None}, [start]
+        came: dict[Transaction, Step | None] = {start: None}
+        now = [start]
         while now and end not in came:
-            following = []
+            following: list[Transaction] = []
             for t in now:
                 for other, kind, key in self.after(kinds, t):
                     if other in among and other not in came:
@@ -239,28 +257,30 @@ class History:
             now = following
         if end not in came:
             return None
-        way, at = [], end
-        while came[at]:
-            way.append(came[at])
-            at = came[at][0]
+        way: list[Step] = []
+        step = came[end]
+        while step:
+            way.append(step)
+            step = came[step[0]]
         return way[::-1]
 
     @staticmethod
-    def _shown(cycle):
+    def _shown(cycle: Sequence[Step]) -> str:
         steps = [f"{t!r} -{kind}{'' if key is None else f' {key}'}-> " for t, kind, key in cycle]
         return "".join(steps) + repr(cycle[0][0])
 
     # The serial order
 
-    def serial_order(self):
+    def serial_order(self) -> list[Transaction] | None:
         """The committed ones so that each dependency and real time rise, and else by commit number. None where there is a cycle."""
         waits = {t: 0 for t in self.committed}
         for t in self.committed:
             for other, _, _ in self.after(self.edges, t):
                 waits[other] += 1
-        order, free = [], []
+        order: list[Transaction] = []
+        free: list[tuple[tuple[int, int], int, Transaction]] = []
 
-        def add(t):
+        def add(t: Transaction) -> None:
             heapq.heappush(free, (t.place or LAST, t.number, t))
 
         for t in self.committed:
@@ -274,7 +294,7 @@ class History:
                     add(other)
         return order if len(order) == len(self.committed) else None
 
-    def deviation(self, order):
+    def deviation(self, order: Sequence[Transaction]) -> str | None:
         """What is wrong with a serial order, looked for without any dependency. Each committed transaction stands in it once, none behind one that
         began when it had ended, and run one at a time they read what they read. None where all is right. Registers to which one of unknown place
         has written are left out."""
@@ -286,7 +306,7 @@ class History:
                 return f"one that had ended when {t!r} began stands behind it"
             soonest = min(soonest, LAST[0] if t.ended is None else t.ended)
         unknown = set() if self.is_list else {key for t in self.committed if not t.place for key, _ in t.written()}
-        contents = {}
+        contents: dict[Hashable, Any] = {}
         for t in order:
             for kind, key, value in t.operations:
                 before = contents.get(key, [] if self.is_list else None)
@@ -299,13 +319,17 @@ class History:
         return None
 
 
-def components(nodes, after):
+def components(nodes: Iterable[Node], after: Callable[[Node], Iterable[Node]]) -> list[list[Node]]:
     """The strongly connected components of a graph (Tarjan 1972)."""
-    number, low, stack, on_stack, found = {}, {}, [], set(), []
+    number: dict[Node, int] = {}
+    low: dict[Node, int] = {}
+    stack: list[Node] = []
+    on_stack: set[Node] = set()
+    found: list[list[Node]] = []
     for root in nodes:
         if root in number:
             continue
-        work = [(root, None)]
+        work: list[tuple[Node, Iterator[Node] | None]] = [(root, None)]
         while work:
             node, rest = work.pop()
             if rest is None:

@@ -24,43 +24,53 @@ gives in one line. A part of a key is an integer, bytes as 0x and hex digits, or
 Several programs of a language share a server. A gate in front of it holds back COMMITs until as many have come as are due, so that transactions are open
 at once, and counts the refusals. One judge looks at what the calls give and at what they leave. It must find each wrong form of the recipes in Python.
 """
+from __future__ import annotations
+
 import concurrent.futures
 import contextlib
 import itertools
 import os
 import random
 import shutil
+import socket
 import subprocess
 import threading
 import time
+from collections.abc import Callable, Iterator, Sequence
+from typing import Any
 
-from client import PATIENCE, Server, Tally, create, expect, folder, is_long, is_refused
-from clients import missing
-from languages import Proxy, shell
-from packages import CLIENTS, PACKAGES
-from recipe_judges import (
-    TOP, booked, items_of, key, not_indexed, not_inverse, once, overlaps, recipes, torn, under, wrong_holds, wrong_takes)
+from .arguments import is_long
+from .connection import Connection
+from .cutting import Proxy
+from .deviations import Tally, expect, is_refused, missing
+from .languages import CLIENTS, PACKAGES, shell
+from .server import Server, create, folder
+from .settings import PATIENCE, TOP
+from .recipe_judges import (
+    Items, booked, items_of, key, not_indexed, not_inverse, once, overlaps, recipes, torn, under, wrong_holds, wrong_takes)
 
 DOCUMENT = os.path.join(TOP, "docs", "COOKBOOK.md")
 AS_TYPED = "127.0.0.1:7777 take"
 SECTORS = 65_536
 PROGRAMS = 6
-LAST = 24 if is_long() else 22    # version of a list
 FREE_TIMES = ((("9", "11"), ("10", "11")), (("8", "15"), ("10", "11")), (("9", "11"), ("10", "12")))
+
+
+Call = Callable[[str], str]    # a call of a program, with what it gives
 
 
 class Language:
     """A row of the document's table, in a copy of the packages."""
 
-    def __init__(self, name, build, run, place):
+    def __init__(self, name: str, build: str, run: str, place: str) -> None:
         self.name, self.build, self.run, self.place = name, build.strip("`"), run.strip("`").removesuffix(AS_TYPED), place
 
-    def start(self, port):
+    def start(self, port: int) -> subprocess.Popen[str]:
         return subprocess.Popen(["bash", "-c", f"exec env {self.run} 127.0.0.1:{port}"], cwd=self.place, stdin=subprocess.PIPE,
                                 stdout=subprocess.PIPE, stderr=subprocess.PIPE, text=True, env={**os.environ, "PYTHONDONTWRITEBYTECODE": "1"})
 
 
-def languages(copy):
+def languages(copy: str) -> Iterator[Language]:
     """The languages of the document's table that are installed."""
     with open(DOCUMENT, encoding="utf-8") as file:
         rows = [[cell.strip() for cell in line.split("|")[1:-1]] for line in file if line.endswith(AS_TYPED + "` |\n")]
@@ -77,28 +87,28 @@ def languages(copy):
 class Gate(Proxy):
     """Holds back COMMITs once some have passed, until so many are held or all are let go. Counts them, and the refusals."""
 
-    def __init__(self, port):
+    def __init__(self, port: int | None) -> None:
         super().__init__(port, 0.0)
         self.passing, self.due, self.lock, self.opened = 0, 0, threading.Lock(), threading.Event()
         self.opened.set()
 
-    def hold(self, due, passing=0):
+    def hold(self, due: int, passing: int = 0) -> None:
         self.refusals.clear()
         self.passing, self.due = passing, due
         self.opened.clear()
 
-    def let_go(self):
+    def let_go(self) -> None:
         self.opened.set()
 
-    def conflicts(self):
+    def conflicts(self) -> int:
         return sum(count for text, count in self.refusals.items() if text.startswith(b"-CONFLICT"))
 
-    def _pass_on(self, name, request, before, client, server):
+    def _pass_on(self, name: bytes, request: bytes, before: bytes | None, client: socket.socket, server: Connection) -> bool:
         if name == b"COMMIT" and self._is_held():
             self.opened.wait(PATIENCE)
         return super()._pass_on(name, request, before, client, server)
 
-    def _is_held(self):
+    def _is_held(self) -> bool:
         with self.lock:
             self.passing -= 1
             self.due -= self.passing < 0
@@ -110,17 +120,17 @@ class Gate(Proxy):
 class Run:
     """Programs of one language over a gate, and the server behind it."""
 
-    def __init__(self, language, place):
+    def __init__(self, language: Language, place: str) -> None:
         data = os.path.join(place, "data")
         create(data, SECTORS)
         self.server = Server(data)
         self.port, self.gate = self.server.port, Gate(self.server.port)
         self.programs = [language.start(self.gate.own_port) for _ in range(PROGRAMS)]
 
-    def __enter__(self):
+    def __enter__(self) -> Run:
         return self
 
-    def __exit__(self, *_):
+    def __exit__(self, *_: object) -> None:
         self.gate.let_go()
         for program in self.programs:
             program.kill()
@@ -128,9 +138,10 @@ class Run:
         self.gate.close()
         self.server.kill()
 
-    def call(self, words, number=0):
+    def call(self, words: str | Sequence[str], number: int = 0) -> str:
         """What a program gives for a call, given as words or as one text."""
         program = self.programs[number]
+        assert program.stdin and program.stdout and program.stderr
         with contextlib.suppress(OSError):    # where it has ended, it gives nothing
             program.stdin.write((words if isinstance(words, str) else " ".join(words)) + "\n")
             program.stdin.flush()
@@ -138,19 +149,22 @@ class Run:
         expect(given.endswith("\n"), f"the call {words} gave nothing: {given or program.stderr.read()[-300:]}")
         return given[:-1]
 
-    def at_once(self, *calls):
+    def at_once(self, *calls: str) -> tuple[list[str], int]:
         """What calls give whose transactions are all open before the first commits, and how many conflicts there were."""
         self.gate.hold(len(calls))
         with concurrent.futures.ThreadPoolExecutor(len(calls)) as threads:
             given = list(threads.map(self.call, calls, range(len(calls)), timeout=2 * PATIENCE))
         return given, self.gate.conflicts()
 
-    def crowd(self, play, count=PROGRAMS):
+    def crowd(self, play: Callable[[Call, int], Any], count: int = PROGRAMS) -> list[Any]:
         """Runs play(call, number) for so many programs at once. What each gave."""
-        with concurrent.futures.ThreadPoolExecutor(count) as threads:
-            return list(threads.map(lambda number: play(lambda words: self.call(words, number), number), range(count), timeout=6 * PATIENCE))
+        def one(number: int) -> Any:
+            return play(lambda words: self.call(words, number), number)
 
-    def steps(self, *pairs):
+        with concurrent.futures.ThreadPoolExecutor(count) as threads:
+            return list(threads.map(one, range(count), timeout=6 * PATIENCE))
+
+    def steps(self, *pairs: tuple[str, str]) -> None:
         """Calls one after another, each with what it gives."""
         for words, due in pairs:
             given = self.call(words)
@@ -159,14 +173,14 @@ class Run:
 
 # The judges, one for each recipe
 
-def word(part):
+def word(part: int | bytes) -> str:
     return str(part) if isinstance(part, int) else "0x" + part.hex()
 
 
-def keys(run):
+def keys(run: Run) -> None:
     """Keys stand in the order of their parts, which come back from them."""
     chance = random.Random(7)
-    lists = [[chance.choice((0, 1, -1, 255, 256, 2 ** 63 - 1, -2 ** 63, b"", b"\0", b"\0\1", b"a", b"a\0", b"ab", b"\xff", "\u00e9\U0001d11e".encode()))
+    lists: list[list[Any]] = [[chance.choice((0, 1, -1, 255, 256, 2 ** 63 - 1, -2 ** 63, b"", b"\0", b"\0\1", b"a", b"a\0", b"ab", b"\xff", "\u00e9\U0001d11e".encode()))
               for _ in range(chance.randrange(1, 4))] for _ in range(120)]
     spelled = []
     for parts in lists:
@@ -179,14 +193,14 @@ def keys(run):
     run.steps(("key task -258", key("task", -258).hex()))
 
 
-def reservations(run):
+def reservations(run: Run) -> None:
     for number, (one, other) in enumerate(FREE_TIMES):
         given, conflicts = run.at_once(f"book {number} {' '.join(one)} ann", f"book {number} {' '.join(other)} bob")
         expect(sorted(given) in (["ann has it", "booked"], ["bob has it", "booked"]) and conflicts == 1, f"two at once gave {given}, {conflicts} conflicts")
     run.steps(("book r 9 11 ann", "booked"), ("book r 11 12 bob", "booked"), ("book r 7 9 eve", "booked"), ("book r 8 10 bob", "eve has it"),
               ("book r 10 11 bob", "ann has it"), ("book r 1 20 bob", "eve has it"), ("book q 9 11 bob", "booked"))
 
-    def play(call, number):
+    def play(call: Call, number: int) -> Any:
         chance = random.Random(number)
         starts = [chance.randrange(400) for _ in range(15)]
         return [call(f"book {chance.choice('ab')} {start} {start + chance.randrange(1, 40)} {number}") for start in starts]
@@ -197,14 +211,14 @@ def reservations(run):
     expect(given.count("booked") == len(found) > PROGRAMS, f"{given.count('booked')} were told, {len(found)} are there")
 
 
-def unique_addresses(run):
+def unique_addresses(run: Run) -> None:
     given, conflicts = run.at_once("register ann x", "register bob x")
     expect(sorted(given) == ["another has it", "registered"] and conflicts == 1, f"two at once gave {given}, {conflicts} conflicts")
     owner, other = ("ann", "bob") if given[0] == "registered" else ("bob", "ann")
     run.steps((f"register {other} x", "another has it"), (f"register {owner} x", "registered"), (f"register {owner} y", "registered"),
               (f"register {other} x", "registered"), (f"register {other} y", "another has it"))
 
-    def play(call, number):
+    def play(call: Call, number: int) -> Any:
         chance = random.Random(number)
         for _ in range(12):
             call(f"register u{chance.randrange(6)} a{chance.randrange(8)}")
@@ -213,11 +227,11 @@ def unique_addresses(run):
     expect(not not_inverse(run.port), f"the index is wrong: {not_inverse(run.port)}")
 
 
-def index(run):
+def index(run: Run) -> None:
     run.steps(*((f"put t {state}", "done") for state in ("waiting", "running", "done")), ("list waiting", ""), ("list done", "t"))
     is_done, states = threading.Event(), ("waiting", "running", "done")
 
-    def play(call, number):
+    def play(call: Call, number: int) -> Any:
         chance = random.Random(number)
         try:
             for _ in range(15):
@@ -225,7 +239,7 @@ def index(run):
         finally:
             is_done.set()
 
-    def look():
+    def look() -> None:
         while not is_done.wait(0.005):
             expect(not once(run.port, not_indexed), "a reader found an index that isn't that of the tasks")
 
@@ -240,7 +254,7 @@ def index(run):
         run.steps((f"list {state}", " ".join(due)))
 
 
-def holds(run):
+def holds(run: Run) -> None:
     run.steps(("hold 1 ann 10 100", "held"), ("hold 1 bob 10 109", "not free"), ("buy 1 bob 105", "not held"), ("buy 1 ann 110", "not held"),
               ("hold 1 bob 10 110", "held"), ("sweep 119", "0 dropped"), ("buy 1 bob 119", "sold"), ("hold 1 ann 10 200", "not free"),
               ("hold 2 ann 10 100", "held"))
@@ -249,7 +263,7 @@ def holds(run):
     run.steps(*((f"hold m{seat} ann {seat % 3} 100", "held") for seat in range(70)), *(("sweep 200", f"{count} dropped") for count in (32, 32, 6, 0)))
     clock = itertools.count(300)
 
-    def play(call, number):
+    def play(call: Call, number: int) -> Any:
         chance, bought = random.Random(number), []
         for _ in range(15):
             seat = f"s{chance.randrange(8)}"
@@ -265,7 +279,7 @@ def holds(run):
     expect(set(bought) <= sold and not once(run.port, wrong_holds), f"told are {sorted(bought)}, sold are {sorted(sold)}; {once(run.port, wrong_holds)}")
 
 
-def queue(run):
+def queue(run: Run) -> None:
     run.steps(*((f"enqueue j{number} {number} 1", "done") for number in range(4)))
     given, conflicts = run.at_once("take", "take")
     expect(sorted(given) == ["j0", "j1"] and conflicts == 1, f"two consumers gave {given}, {conflicts} conflicts")
@@ -276,18 +290,18 @@ def queue(run):
         queue_in_crowd(run, take)
 
 
-def queue_in_crowd(run, take):
+def queue_in_crowd(run: Run, take: str) -> None:
     """Half of the programs enqueue, the others take."""
     count, producing = 12, PROGRAMS // 2
-    ended = []
+    ended: list[int] = []
 
-    def play(call, number):
+    def play(call: Call, number: int) -> Any:
         if number < producing:
             for turn in range(count):
                 call(f"enqueue {number}.{turn}")
             ended.append(number)
             return []
-        taken = []
+        taken: list[str] = []
         while len(taken) <= count * producing:
             is_over = len(ended) == producing
             job = call(take)
@@ -301,7 +315,7 @@ def queue_in_crowd(run, take):
     expect(not wrong, f"{take}: taken twice or not at all: {list(wrong)[:3]}")
 
 
-def counter(run):
+def counter(run: Run) -> None:
     given, conflicts = run.at_once("add hits", "add hits")
     expect(given == ["done", "done"] and conflicts == 1, f"two additions gave {given}, {conflicts} conflicts")
     given, conflicts = run.at_once(*(f"add hits {number}" for number in range(PROGRAMS)))
@@ -311,13 +325,14 @@ def counter(run):
     run.steps(("total hits", str(3 + 11 * PROGRAMS)), ("total none", "0"))
 
 
-def load(name, version, items):
+def load(name: str, version: int, items: Items) -> str:
     return " ".join(["load", name, str(version), *(f"{item}={value}" for item, value in items)])
 
 
-def batch(run):
-    def show(number=0):
-        return [tuple(each.split("=")) for each in run.call("show prices", number).split()]
+def batch(run: Run) -> None:
+    def show(number: int = 0) -> Items:
+        pairs = (each.split("=") for each in run.call("show prices", number).split())
+        return [(item, value) for item, value in pairs]
 
     for version, count in enumerate((1, 61, 62, 63, 64, 124, 125, 300), 1):
         run.steps((load("prices", version, items_of(version, count)), "done"))
@@ -337,15 +352,15 @@ def batch(run):
         found = once(run.port, lambda store: recipes.read(store, "prices"))
         run.gate.let_go()
         expect(loading.result(PATIENCE) == "done" and found == items_of(14, 300), f"amid a load there are {len(found)} items, of {found[:1]}")
-    is_done = threading.Event()
+    is_done, last = threading.Event(), 24 if is_long() else 22
 
-    def play(call, number):
+    def play(call: Call, number: int) -> None:
         if number > 1:
             while not is_done.is_set():
                 expect(not torn(show(number), 300), "a reader found items that are no version")
             return
         try:
-            for version in range(21, LAST + 1):
+            for version in range(21, last + 1):
                 call(load("prices", version, items_of(version, 300)))
                 while call("clear prices") != "0 deleted":
                     pass
@@ -353,7 +368,7 @@ def batch(run):
             is_done.set()
 
     run.crowd(play, 4)
-    expect(show() == items_of(LAST, 300), "the last version isn't there")
+    expect(show() == items_of(last, 300), "the last version isn't there")
 
 
 JUDGES = (keys, reservations, unique_addresses, index, holds, queue, counter, batch)
@@ -385,7 +400,7 @@ WRONG = (
 
 # All languages
 
-def wrong(tally, language):
+def wrong(tally: Tally, language: Language) -> None:
     """Each wrong form of the recipes in Python, which its judge must find."""
     path = os.path.join(language.place, "examples", "recipes.py")
     with open(path, encoding="utf-8") as file:
@@ -399,12 +414,13 @@ def wrong(tally, language):
                 expect(is_refused(judge, run), f"{judge.__name__} doesn't find {instead!r} for {right!r}")
 
 
-def play(language):
+def play(language: Language) -> tuple[Tally, float]:
     """All judges over a language, with how long they took."""
     tally, begun = Tally(language.name), time.monotonic()
     with tally.run("build"):
-        found = shell(language.build, language.place) if language.build else (0,)
-        expect(found[0] == 0, f"{language.build} ended with {found}")
+        if language.build:
+            found = shell(language.build, language.place)
+            expect(found[0] == 0, f"{language.build} ended with {found}")
     with folder() as place, Run(language, place) as run:
         for judge in JUDGES:
             with tally.run(judge.__name__):
@@ -414,7 +430,7 @@ def play(language):
     return tally, time.monotonic() - begun
 
 
-def in_languages(tally):
+def in_languages(tally: Tally) -> None:
     with folder() as place:
         copy = shutil.copytree(CLIENTS, os.path.join(place, "clients"), ignore=shutil.ignore_patterns("out", "target", "__pycache__"))
         there = list(languages(copy))

@@ -2,30 +2,31 @@
 import threading
 import time
 
-from client import Connection, Deviation, expect
-from model import OK, frame, refusal
+from .connection import Connection
+from .deviations import Deviation, expect
+from .frames import FULL, OK, frame
 
 KEY, VALUE = b"\xff good", b"1"
 PAUSE = 0.005
-FULL = refusal("FULL transactions")
 
 
 class GoodClient(threading.Thread):
     """Commits one key again and again, each request behind the reply before, and takes the time of each reply."""
 
-    def __init__(self, port):
+    def __init__(self, port: int | None) -> None:
         super().__init__(daemon=True)
         self.connection = Connection(port)
         self.turn, self.is_done = threading.Lock(), False
-        self.commits, self.full, self.slowest, self.deviation = 0, 0, 0.0, None
+        self.commits, self.full, self.slowest = 0, 0, 0.0
+        self.deviation: Exception | None = None
 
-    def _ask(self, *parts):
+    def _ask(self, *parts: bytes | str) -> bytes | None:
         begun = time.monotonic()
         reply = self.connection.ask(frame(*parts))
         self.slowest = max(self.slowest, time.monotonic() - begun)
         return reply
 
-    def _transaction(self):
+    def _transaction(self) -> None:
         reply = self._ask("BEGIN")
         if reply == FULL:
             self.full += 1
@@ -37,7 +38,7 @@ class GoodClient(threading.Thread):
         expect(reply[:1] == b":", f"COMMIT answered {reply!r}")
         self.commits += 1
 
-    def run(self):
+    def run(self) -> None:
         try:
             while not self.is_done:
                 with self.turn:
@@ -46,20 +47,20 @@ class GoodClient(threading.Thread):
         except (Deviation, OSError) as found:
             self.deviation = found
 
-    def since(self):
+    def since(self) -> tuple[int, int, float]:
         """What happened since it was asked last: commits, refusals for 64 others, the slowest reply."""
         with self.turn:
             found = self.commits, self.full, self.slowest
             self.commits, self.full, self.slowest = 0, 0, 0.0
         return found
 
-    def wait_for_one(self, seconds):
+    def wait_for_one(self, seconds: float) -> None:
         """Waits so long for the first transaction since it was asked last, where there was none yet."""
         end = time.monotonic() + seconds
         while not self.commits + self.full and not self.deviation and time.monotonic() < end:
             time.sleep(PAUSE)
 
-    def end(self):
+    def end(self) -> None:
         self.is_done = True
         self.join()
         self.connection.close()

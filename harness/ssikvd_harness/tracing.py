@@ -1,9 +1,10 @@
 """The system's calls of a process, as the library of trace.c writes them down."""
 import os
 import struct
+from collections.abc import Iterable
 from dataclasses import dataclass
 
-from client import TRACER
+from .settings import TRACER, bytes_of
 
 OPEN, WRITE, WRITE_AT, READ_AT, SYNC, SYNC_DATA, CLOSE, REMOVE, TRUNCATE, SEND, ADVISE, RECEIVE, MEMORY, SYNC_NAMES = range(14)
 NAMES = ("open", "write", "write at", "read at", "sync", "sync of data", "close", "remove", "truncate", "send", "advise", "receive",
@@ -21,7 +22,7 @@ class Call:
     result: int
     data: bytes
 
-    def __str__(self):
+    def __str__(self) -> str:
         return f"{NAMES[self.kind]} {self.at} {self.data[:24]!r}, which gave {self.result}"
 
 
@@ -30,18 +31,17 @@ class Trace:
 
     HEAD = struct.Struct("=5q")
 
-    def __init__(self, place, name="trace", skips_sync=False, traces_memory=False):
+    def __init__(self, place: str, name: str = "trace", skips_sync: bool = False, traces_memory: bool = False) -> None:
         self.name, self.skips_sync, self.traces_memory = os.path.join(place, name), skips_sync, traces_memory
 
-    def environment(self):
+    def environment(self) -> dict[str, str]:
         more = {"TRACE_SKIP": "fdatasync"} if self.skips_sync else {}
         more |= {"TRACE_MEMORY": "1"} if self.traces_memory else {}
         return {**os.environ, "LD_PRELOAD": TRACER, "TRACE_LOG": self.name, **more}
 
-    def calls(self):
+    def calls(self) -> list[Call]:
         """All calls so far, in their order."""
-        with open(self.name, "rb") as file:
-            content = file.read()
+        content = bytes_of(self.name)
         calls, at = [], 0
         while at < len(content):
             kind, file, place, result, size = self.HEAD.unpack_from(content, at)
@@ -51,6 +51,6 @@ class Trace:
         return calls
 
 
-def printed(calls, file):
+def printed(calls: Iterable[Call], file: int) -> list[bytes]:
     """What was written on a descriptor, call by call."""
     return [call.data for call in calls if call.kind == WRITE and call.file == file]
