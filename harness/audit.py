@@ -9,7 +9,6 @@ clauses behind a colon, and files of `specs` with names in parentheses. The prom
 
 No clause of the crates has more than 140 columns, or more than two lines of them: what is longer has a name.
 """
-import argparse
 import functools
 import glob
 import os
@@ -244,12 +243,13 @@ def written(text):
     return re.sub(r"they are \d+ definitions of \d+ lines", f"they are {number} definitions of {lines} lines", text)
 
 
-def main():
-    parser = argparse.ArgumentParser(description=__doc__, formatter_class=argparse.RawDescriptionHelpFormatter)
+def options(parser):
     parser.add_argument("--write", action="store_true", help="write the lengths of the definitions into the page")
-    parser.add_argument("form", nargs="?", choices=("quick", "long"), help="no matter here")
+
+
+def main(asked):
     text = text_of(PAGE)
-    if parser.parse_args().write:
+    if asked.write:
         Path(TOP, PAGE).write_text(written(text), encoding="utf-8")
         return 0
     tally = Tally("audit")
@@ -272,4 +272,4 @@ def main():
 
 
 if __name__ == "__main__":
-    run_harness(main)
+    run_harness(main, options)

@@ -4,10 +4,10 @@ A line of `specs` has at most 120 columns, one of `proofs` 160, one of `src` 140
 Prints each line that is longer; with `--write` it breaks what it can first: an import into several of one home, a comment between words,
 and what else is long in `specs` and `proofs` before an operator or behind a comma, as far out of brackets as there is a place.
 """
-import argparse
 import re
-import sys
 from pathlib import Path
+
+from ssikvd_harness.arguments import FORMS, run_harness
 
 TOP = Path(__file__).resolve().parent.parent
 MOST = {"specs": 120, "proofs": 160, "src": 140}
@@ -119,16 +119,18 @@ def kind_of(file):
     return next(it for it in file.parts[::-1] if it in MOST)
 
 
-def main():
-    parser = argparse.ArgumentParser(description=__doc__, formatter_class=argparse.RawDescriptionHelpFormatter)
-    parser.add_argument("--write", action="store_true")
-    parser.add_argument("files", nargs="*", type=Path, metavar="FILE")
-    words = parser.parse_args([it for it in sys.argv[1:] if it not in ("quick", "long")])
-    files = words.files or [it for kind in MOST for it in sorted((TOP / "crates").glob(f"*/{kind}/**/*.{'rt' if kind == 'src' else 'antt'}"))]
+def options(parser):
+    parser.add_argument("--write", action="store_true", help="break what can be broken")
+    parser.add_argument("files", nargs="*", metavar="FILE", help="these files alone; quick and long are none, and stand for all of them")
+
+
+def main(asked):
+    every = [it for kind in MOST for it in sorted((TOP / "crates").glob(f"*/{kind}/**/*.{'rt' if kind == 'src' else 'antt'}"))]
+    files = [Path(name) for name in asked.files if name not in FORMS] or every
     count = 0
     for file in files:
         kind, lines = kind_of(file), file.read_text(encoding="utf-8").split("\n")
-        if words.write:
+        if asked.write:
             lines = [new for line in with_comments(lines, MOST[kind]) for new in mended(line, kind)]
             file.write_text("\n".join(lines), encoding="utf-8")
         for number, line in enumerate(lines, 1):
@@ -140,4 +142,4 @@ def main():
 
 
 if __name__ == "__main__":
-    sys.exit(main())
+    run_harness(main, options, has_form=False)

@@ -4,7 +4,7 @@ Each recipe in Python is run by several clients at once, and a judge looks at wh
 and must see it: a range that is read in another transaction, an index without its deletion, a queue that deletes nothing. The code that
 the document shows must be that of the file. It prints how many tries a commit takes. Then the recipes of all languages are run.
 
-`quick` does less of each. `links` writes the document's links to the lines of the recipes in the other languages.
+`quick` does less of each. `--links` writes the document's links to the lines of the recipes in the other languages.
 """
 import bisect
 import concurrent.futures
@@ -13,7 +13,6 @@ import itertools
 import os
 import random
 import re
-import sys
 import threading
 import time
 
@@ -109,7 +108,7 @@ def document(tally):
             name, is_shown = name.split(".")[0], any(block in code for block in in_document(text))
             expect(name == "The calls" or is_shown and f"\n## {name}\n" in text, f"{DOCUMENT} shows nothing of {name!r}")
         expect(text.count("\nThe same in [") == text.count("\n## "), "a recipe has no links to the other languages")
-        expect(with_links(text) == text, "the links to the recipes in other languages are others: `cookbook.py links` writes them")
+        expect(with_links(text) == text, "the links to the recipes in other languages are others: `cookbook.py --links` writes them")
         expect(with_links(text.replace("#L", "#L1")) == text, "a link to another line isn't seen")
 
 
@@ -541,8 +540,12 @@ def longest(tally):
             expect(found == (count if version == 1 else "FULL marks"), f"a list of {count} items was answered {found}")
 
 
-def main():
-    if "links" in sys.argv[1:]:
+def options(parser):
+    parser.add_argument("--links", action="store_true", help="write the document's links to the lines of the recipes in other languages")
+
+
+def main(asked):
+    if asked.links:
         write_links()
         return 0
     need(PROGRAM)
@@ -555,4 +558,4 @@ def main():
 
 
 if __name__ == "__main__":
-    run_harness(main)
+    run_harness(main, options)

@@ -24,7 +24,7 @@ import sys
 import threading
 import time
 
-from ssikvd_harness.arguments import need, run_harness
+from ssikvd_harness.arguments import is_long, need, run_harness
 from ssikvd_harness.deviations import Deviation, Tally, expect
 from ssikvd_harness.examples import simple_client
 from ssikvd_harness.log_format import log_of, map_of
@@ -333,17 +333,18 @@ def lacks():
     return "root" if os.geteuid() else None
 
 
-def main():
-    if sys.argv[1:2] == [REPLICA]:
-        serve_copy(*sys.argv[2:5])
-        return 0
-    parser = argparse.ArgumentParser(description="Fail-over between two machines.")
-    parser.add_argument("form", choices=("quick", "long"))
-    parser.add_argument("--lives", type=int, default=LIVES)
+def options(parser):
+    parser.add_argument("--lives", type=int, default=LIVES, help="how many lives are played")
     parser.add_argument("--seed", type=int, default=58)
-    asked = parser.parse_args()
+    parser.add_argument(REPLICA, nargs=3, metavar=("ADDRESS", "IMAGE", "SEED"), help=argparse.SUPPRESS)    # the other side of a device
+
+
+def main(asked):
+    if asked.replica:
+        serve_copy(*asked.replica)
+        return 0
     need(PROGRAM)
-    if asked.form == "quick":
+    if not is_long():
         return 0
     found = lacks()
     if found:
@@ -362,4 +363,4 @@ def main():
 
 
 if __name__ == "__main__":
-    run_harness(main)
+    run_harness(main, options)

@@ -10,7 +10,6 @@ A handle is a right to call the system (a bound `Files`, `Net`, `Env`, or the wh
 A type carries one where a field of it is one, or carries one, as far as that field can be named: in its file, if it is private, and in its
 crate else. The crates are those of the program. No function of theirs may wait or start threads, so these handles are named nowhere.
 """
-import argparse
 import os
 import re
 
@@ -127,12 +126,13 @@ def told():
                 yield f"{owner}::{one}" if one else name, tuple(paths)
 
 
-def main():
-    parser = argparse.ArgumentParser(description=__doc__.partition("\n")[0])
+def options(parser):
     parser.add_argument("--list", action="store_true", help="print the functions and their files, and compare nothing")
-    parser.add_argument("form", nargs="?", choices=("quick", "long"), help="no matter here")
+
+
+def main(asked):
     found = computed()
-    if parser.parse_args().list:
+    if asked.list:
         print("\n".join(f"{path}: {name}" for name, path in sorted(found, key=lambda pair: pair[::-1])))
         return 0
     tally = Tally("handles")
@@ -151,4 +151,4 @@ def main():
 
 
 if __name__ == "__main__":
-    run_harness(main)
+    run_harness(main, options)

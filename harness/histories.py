@@ -8,7 +8,8 @@
 In the form `list` transactions append to lists and read them. A list of even number is the value of one key, and one of odd number has a key for
 each element, which RANGE reads. In the form `register` they write values without reading, and read. Each value is new. The clients pick few
 keys, so that many commits are refused; some end their connection once they have sent COMMIT. The server is killed and served again amid
-the history. It must have no anomaly (as the module `anomalies` finds them), and run one at a time in one order, which respects real time, they read the same.
+the history. It must have no anomaly (the module `anomalies` looks for them), and run one at a time in one order, which respects real time, they
+read the same.
 
 The EDN is of Jepsen's form: `list` is for elle.list-append, `register` for elle.rw-register, both with :strict-serializable. Elle itself isn't
 in Debian and was not run.
@@ -20,12 +21,11 @@ import json
 import os
 import random
 import re
-import sys
 import threading
 import time
 
 from ssikvd_harness.anomalies import History
-from ssikvd_harness.arguments import is_long, need, run_harness
+from ssikvd_harness.arguments import FORMS as HARNESS_FORMS, is_long, need, run_harness
 from ssikvd_harness.connection import Connection
 from ssikvd_harness.deviations import Deviation, Tally, expect
 from ssikvd_harness.frames import OK, decode, frame
@@ -542,18 +542,18 @@ def read_file(name):
         return [json.loads(line) for line in file]
 
 
-def write(form, place, seconds="5", clients=str(CLIENTS), kills="1"):
+def write(asked):
     """A history of a new server is written and checked. The status."""
     need(PROGRAM)
     with folder() as data:
-        events = serve_history(data, form, float(seconds), int(clients), int(kills))
-    write_files(place, form, events)
-    return tell(form, events)
+        events = serve_history(data, asked.of, asked.seconds, asked.clients, asked.kills)
+    write_files(asked.folder, asked.of, events)
+    return tell(asked.of, events)
 
 
-def check(form, name):
+def check(asked):
     """A history of a file is checked. The status."""
-    return tell(form, read_file(name))
+    return tell(asked.of, read_file(asked.file))
 
 
 def tell(form, events):
@@ -564,9 +564,6 @@ def tell(form, events):
         print(f"{name}: {text}")
     print(f"{len(history.all)} transactions, {len(history.committed)} of them committed, {len(found)} anomalies")
     return 1 if found else 0
-
-
-COMMANDS = {"write": write, "check": check}
 
 
 # The harness
@@ -616,10 +613,26 @@ def served(tally):
     return whole
 
 
-def main():
-    words = sys.argv[1:]
-    if len(words) > 2 and words[0] in COMMANDS and words[1] in FORMS:
-        return COMMANDS[words[0]](*words[1:])
+def options(parser):
+    ways = parser.add_subparsers(dest="form", metavar="WAY")
+    for name in HARNESS_FORMS:
+        ways.add_parser(name, help="the harness, in its quick or its long form")
+    for name, way in (("write", write), ("check", check)):
+        words = ways.add_parser(name, help=way.__doc__)
+        words.set_defaults(way=way)
+        words.add_argument("of", choices=FORMS, metavar="FORM", help="list or register")
+        if way is check:
+            words.add_argument("file", metavar="FILE")
+        else:
+            words.add_argument("folder", metavar="FOLDER")
+            words.add_argument("seconds", nargs="?", type=float, default=5.0, metavar="SECONDS")
+            words.add_argument("clients", nargs="?", type=int, default=CLIENTS, metavar="CLIENTS")
+            words.add_argument("kills", nargs="?", type=int, default=1, metavar="KILLS")
+
+
+def main(asked):
+    if asked.form in ("write", "check"):
+        return asked.way(asked)
     need(PROGRAM)
     tally = Tally("histories")
     planted(tally)
@@ -629,4 +642,4 @@ def main():
 
 
 if __name__ == "__main__":
-    run_harness(main)
+    run_harness(main, options, has_form=False)

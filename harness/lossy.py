@@ -20,7 +20,6 @@ that were asked for.
 where the advice to drop pages has no effect and commits are lost, and `swap synced`, in which the operator settles the names before the file
 is served. All is left out where FUSE isn't there.
 """
-import argparse
 import contextlib
 import errno
 import itertools
@@ -29,7 +28,7 @@ import random
 import subprocess
 
 from ssikvd_harness import settings
-from ssikvd_harness.arguments import need, run_harness
+from ssikvd_harness.arguments import is_long, need, run_harness
 from ssikvd_harness.connection import Connection
 from ssikvd_harness.deviations import Deviation, Tally, expect
 from ssikvd_harness.frames import OK, bulk, frame, parts_of, refusal
@@ -815,22 +814,17 @@ def sight(disk, seed):
     return tally.end("; left out and seen: " + ", ".join(lines))
 
 
-def arguments():
-    parser = argparse.ArgumentParser(description="ssikvd over a file system that loses what wasn't synced")
-    parser.add_argument("form", choices=("quick", "long"))
-    parser.add_argument("modes", nargs="*", metavar="mode", help="; ".join([*MODES, "sight"]))
+def options(parser):
+    parser.add_argument("modes", nargs="*", metavar="mode", help="these alone: " + "; ".join([*MODES, "sight"]))
     parser.add_argument("--program", default=settings.PROGRAM)
     parser.add_argument("--seed", type=int, default=7)
     parser.add_argument("--runs", type=int, help="so many of each mode")
-    asked = parser.parse_args()
+
+
+def main(asked):
     unknown = set(asked.modes) - {*MODES, "sight"}
     if unknown:
-        parser.error(f"no mode: {', '.join(sorted(unknown))}")
-    return asked
-
-
-def main():
-    asked = arguments()
+        raise SystemExit(f"lossy: no mode: {', '.join(sorted(unknown))}")
     settings.PROGRAM = asked.program
     need(settings.PROGRAM)
     if not os.access(LOSSY, os.X_OK):
@@ -849,9 +843,9 @@ def main():
                     holds &= sight(disk, asked.seed)
                 else:
                     runs_of, quick, long = MODES[name]
-                    holds &= play(disk, name, runs_of, asked.runs or (quick if asked.form == "quick" else long) or 100, asked.seed)
+                    holds &= play(disk, name, runs_of, asked.runs or (long if is_long() else quick) or 100, asked.seed)
     return 0 if holds else 1
 
 
 if __name__ == "__main__":
-    run_harness(main)
+    run_harness(main, options)

@@ -28,7 +28,7 @@ import subprocess
 import sys
 import time
 
-from ssikvd_harness.arguments import need, run_harness
+from ssikvd_harness.arguments import is_long, need, run_harness
 from ssikvd_harness.connection import Connection
 from ssikvd_harness.deviations import Tally, expect
 from ssikvd_harness.frames import OK, frame
@@ -484,7 +484,7 @@ def kinds_here(only):
 def inside(asked):
     """What is done with mounts of its own. Prints the line of the harness."""
     tally, more, kinds = Tally("losses of power"), "", kinds_here(asked.only)
-    cuts = asked.cuts or (LONG_CUTS if asked.form == "long" else QUICK_CUTS)
+    cuts = asked.cuts or (LONG_CUTS if is_long() else QUICK_CUTS)
     with folder() as place:
         command("mount", "-t", "tmpfs", "none", place)
         try:
@@ -517,29 +517,25 @@ def why_left_out():
     return "nothing can be mounted" if tried.returncode else None
 
 
-def words_of(argv):
-    parser = argparse.ArgumentParser(description=__doc__.partition("\n")[0])
-    parser.add_argument("form", nargs="?", choices=("quick", "long"), default="quick")
+def options(parser):
     parser.add_argument("--cuts", type=int, help="so many of each file system")
     parser.add_argument("--only", action="append", choices=tuple(MAKERS), help="this file system alone; may be given again")
     parser.add_argument("--seed", type=int, default=2_009)
     parser.add_argument("--sight", action="store_true", help="shows that a sync that is left out is seen")
-    return parser.parse_args(argv)
+    parser.add_argument(INSIDE, action="store_true", help=argparse.SUPPRESS)    # with mounts of its own
 
 
-def main():
-    is_inside = INSIDE in sys.argv[1:]
-    asked = words_of([word for word in sys.argv[1:] if word != INSIDE])
+def main(asked):
     need(PROGRAM)
     why = why_left_out()
     if why:
         print(f"losses of power: left out, since {why}", flush=True)
         return 0
-    if not is_inside:
+    if not asked.inside:
         words = [*IN_PRIVATE, sys.executable, os.path.abspath(__file__), INSIDE, *sys.argv[1:]]
         return subprocess.run(words, check=False).returncode
     return inside(asked)
 
 
 if __name__ == "__main__":
-    run_harness(main)
+    run_harness(main, options)

@@ -7,8 +7,8 @@ import os
 import random
 import re
 import subprocess
-import sys
 
+from ssikvd_harness.arguments import is_long, run_harness
 from ssikvd_harness.deviations import Deviation, Tally
 from ssikvd_harness.model import Store
 from ssikvd_harness.rows import request_of, shown
@@ -100,7 +100,8 @@ def expect_alike(lines, due, printed):
             raise Deviation(f"line {place}, {line}: {got}, not {wanted}")
 
 
-def main(form):
+def main():
+    form = "long" if is_long() else "quick"
     tally, commits, pivots = Tally(f"random_scripts {form}"), 0, 0
     programs = {"play": [PROGRAM, "play"], "plain engine": [PLAIN_PLAY]}
     for name, lines in worked_rows():
@@ -114,8 +115,8 @@ def main(form):
         for name, words in programs.items():
             with tally.run(f"script {number} by the {name}"):
                 expect_alike(lines, due, by_program(words, lines))
-    return tally.end(f"; {commits} commits, {pivots} refused for a pivot")
+    return 0 if tally.end(f"; {commits} commits, {pivots} refused for a pivot") else 1
 
 
 if __name__ == "__main__":
-    sys.exit(0 if main(sys.argv[1] if len(sys.argv) > 1 else "quick") else 1)
+    run_harness(main)

@@ -9,11 +9,11 @@ is neither defined, handed on, a constructor nor a field there. The page isn't k
 import functools
 import os
 import re
-import sys
 
 import audit
+from ssikvd_harness.arguments import run_harness
+from ssikvd_harness.settings import TOP
 
-TOP = os.path.normpath(os.path.join(os.path.dirname(os.path.abspath(__file__)), ".."))
 PAGE = "docs/DEFINITIONS.md"
 STATED = r"^Stated as `(\w+)`, in `(\w+)/(\w+)`"
 # A relation of which the clauses say only that it holds at the beginning and from call to call: what it is said with need not be read.
@@ -298,18 +298,22 @@ def page():
     return "\n".join([HEAD, *types, "", f"In all {counted(reading.order)}:", "", *heads, *rows, "", *parts]).rstrip() + "\n"
 
 
-def main():
+def options(parser):
+    parser.add_argument("--write", action="store_true", help="write the page")
+
+
+def main(asked):
     try:
         text = page()
-        if "--write" in sys.argv[1:]:
+        if asked.write:
             with open(os.path.join(TOP, PAGE), "w", encoding="utf-8") as file:
                 file.write(text)
     except Untrue as untrue:
         print(f"reading: {untrue}")
         return 1
-    print(f"reading: {PAGE} {'is written' if '--write' in sys.argv[1:] else 'can be written'}: {len(text.splitlines())} lines")
+    print(f"reading: {PAGE} {'is written' if asked.write else 'can be written'}: {len(text.splitlines())} lines")
     return 0
 
 
 if __name__ == "__main__":
-    sys.exit(main())
+    run_harness(main, options)

@@ -525,7 +525,7 @@ WRONG = {
 def seen(place, name, old, new):
     """The first round of this kind that sees it, as it stands in the log, and how many were played."""
     program, log = os.path.join(place, f"wrong {name}"), os.path.join(place, f"{name}.jsonl")
-    words = shlex.join([sys.executable, "-ISB", WRONG_PROGRAM, *(text.encode("unicode_escape").decode() for text in (old, new)), PROGRAM])
+    words = shlex.join([sys.executable, "-ISB", WRONG_PROGRAM, "--", *(text.encode("unicode_escape").decode() for text in (old, new)), PROGRAM])
     with open(program, "w", encoding="utf-8") as file:
         file.write(f'#!/bin/sh\nexec {words} "$@"\n')
     os.chmod(program, 0o755)

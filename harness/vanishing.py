@@ -8,6 +8,7 @@ and none before. A connection whose probes the harness has switched off stays, a
 Both networks are the harness's own namespaces, for which it needs root; else that is left out. `quick` shortens the times on the server's
 sockets to a thirtieth, `long` also waits for them in full, four minutes.
 """
+import argparse
 import contextlib
 import ctypes
 import os
@@ -109,7 +110,7 @@ class Peers:
 
     def __init__(self):
         self.process = subprocess.Popen(
-            ["unshare", "--net", sys.executable, os.path.abspath(__file__), "peers"], stdin=subprocess.PIPE, stdout=subprocess.PIPE, text=True)
+            ["unshare", "--net", sys.executable, os.path.abspath(__file__), "--peers"], stdin=subprocess.PIPE, stdout=subprocess.PIPE, text=True)
         self.tell("hello")
         command("ip", "link", "add", "near", "type", "veth", "peer", "name", "far", "address", CARD)
         command("ip", "link", "set", "far", "netns", str(self.process.pid))
@@ -232,13 +233,13 @@ def there_are_kept(served, peers, good, seconds):
 
 # All of it
 
-def inside(form):
+def inside():
     """What is done in a network of its own. Prints the line of the harness."""
     command("ip", "link", "set", "lo", "up")
     tally, more = Tally("vanished peers"), ""
     each_is_asked(tally)
     with folder() as place:
-        for by in (SHORTER, 1) if form == "long" else (SHORTER,):
+        for by in (SHORTER, 1) if is_long() else (SHORTER,):
             with tally.run(f"peers that vanish, the times divided by {by}"):
                 more += f"; a place was free {vanished(place, by):.1f} seconds after they vanished, with times divided by {by}"
     return 0 if tally.end(more) else 1
@@ -253,14 +254,19 @@ def may_have_networks():
         return False
 
 
-def main():
-    if "peers" in sys.argv[1:]:
+def options(parser):
+    parser.add_argument("--peers", action="store_true", help=argparse.SUPPRESS)     # in the process of the peers
+    parser.add_argument("--inside", action="store_true", help=argparse.SUPPRESS)    # in a network of its own
+
+
+def main(asked):
+    if asked.peers:
         return be_the_peers()
     need(PROGRAM)
-    if "inside" in sys.argv[1:]:
-        return inside("long" if is_long() else "quick")
+    if asked.inside:
+        return inside()
     if may_have_networks():
-        words = ["unshare", "--net", sys.executable, os.path.abspath(__file__), "inside", *sys.argv[1:]]
+        words = ["unshare", "--net", sys.executable, os.path.abspath(__file__), "--inside", *sys.argv[1:]]
         return subprocess.run(words, check=False).returncode
     tally = Tally("vanished peers")
     each_is_asked(tally)
@@ -268,4 +274,4 @@ def main():
 
 
 if __name__ == "__main__":
-    run_harness(main)
+    run_harness(main, options)

@@ -3,7 +3,6 @@
 A reader finds by searching what he knows the name of. What stands between backticks, in blocks and in links isn't read: names, commands and texts of
 the program. `words.py --list` prints what would be refused, with files and lines.
 """
-import argparse
 import bisect
 import glob
 import os
@@ -81,11 +80,12 @@ def hits(name):
             yield lines[bisect.bisect(starts, found.start()) - 1][0], word, better
 
 
-def main():
-    parser = argparse.ArgumentParser(description=__doc__, formatter_class=argparse.RawDescriptionHelpFormatter)
+def options(parser):
     parser.add_argument("--list", action="store_true", help="print what would be refused, and judge nothing")
-    parser.add_argument("form", nargs="?", choices=("quick", "long"), help="no matter here")
-    if parser.parse_args().list:
+
+
+def main(asked):
+    if asked.list:
         for name in read():
             for number, word, better in hits(name):
                 print(f"{name}:{number}: {word}: {better}")
@@ -103,4 +103,4 @@ def main():
 
 
 if __name__ == "__main__":
-    run_harness(main)
+    run_harness(main, options)

@@ -1,7 +1,8 @@
-"""The program, wrong on purpose: `wrong_program.py OLD NEW PROGRAM WORD..` runs PROGRAM with these words, and where it prints or answers the text
+"""The program, wrong on purpose: `wrong_program.py -- OLD NEW PROGRAM WORD..` runs PROGRAM with these words, and where it prints or answers the text
 OLD, it has NEW in its place. Both are Python's string escapes. Where OLD is empty, a bit of the data file is turned over behind each command but
 `serve`. It ends as the program does, also by a signal, and the program ends with it. `soak.py --sight` asks for it.
 """
+import argparse
 import contextlib
 import ctypes
 import os
@@ -71,8 +72,12 @@ def change_texts(words, old, new):
 
 
 def main():
-    old, new = (text.encode().decode("unicode_escape").encode() for text in sys.argv[1:3])
-    words = sys.argv[3:]
+    parser = argparse.ArgumentParser(description=__doc__, formatter_class=argparse.RawDescriptionHelpFormatter)
+    for name in ("old", "new"):
+        parser.add_argument(name, metavar=name.upper(), type=lambda text: text.encode().decode("unicode_escape").encode())
+    parser.add_argument("words", nargs=argparse.REMAINDER, metavar="PROGRAM WORD..")
+    asked = parser.parse_args()
+    old, new, words = asked.old, asked.new, asked.words
     if not old:
         status = turn_a_bit(words) if words[1] != "serve" else subprocess.run(words, preexec_fn=end_with_parent).returncode
     elif words[1] == "serve":

@@ -35,22 +35,26 @@ def need(*files: str) -> None:
 
 
 def parser_of_harness() -> argparse.ArgumentParser:
-    """What reads the words of a harness: its form, quick where none is named."""
-    described = sys.modules["__main__"].__doc__
-    parser = argparse.ArgumentParser(
-        prog=os.path.basename(sys.argv[0]), description=described, formatter_class=argparse.RawDescriptionHelpFormatter)
-    parser.add_argument("form", nargs="?", choices=FORMS, default=FORMS[0], help="quick, where none is named, or long; some harnesses have one alone")
-    return parser
+    """What reads the words of a harness, which its text describes."""
+    return argparse.ArgumentParser(
+        prog=os.path.basename(sys.argv[0]), description=sys.modules["__main__"].__doc__, formatter_class=argparse.RawDescriptionHelpFormatter)
 
 
-def run_harness(main: Callable[..., int], options: Callable[[argparse.ArgumentParser], None] | None = None) -> None:
+def add_form(parser: argparse.ArgumentParser) -> None:
+    """The form of a harness: the quick one where none is named."""
+    parser.add_argument("form", nargs="?", choices=FORMS, default=FORMS[0], help="how much is run; quick where nothing is said")
+
+
+def run_harness(main: Callable[..., int], options: Callable[[argparse.ArgumentParser], None] | None = None, has_form: bool = True) -> None:
     """Reads the words, plays a harness and ends with its status. With options of its own it is given what was asked for. A deviation outside its
     runs, as of a program that doesn't start, ends it with a message."""
     parser = parser_of_harness()
+    if has_form:
+        add_form(parser)
     if options:
         options(parser)
     asked = parser.parse_args()
-    _Asked.form = asked.form
+    _Asked.form = getattr(asked, "form", None) or FORMS[0]
     arguments: list[Any] = [asked] if options else []
     try:
         sys.exit(main(*arguments))
