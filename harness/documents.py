@@ -9,7 +9,7 @@ Then: no table cell over 120 characters and no sentence over 40 words, no link t
 them, with the figures of docs/PERFORMANCE.md, of which README.md has some, the table of sizes of docs/OPERATIONS.md as bench/sizing.py computes it,
 and the crates of docs/ARCHITECTURE.md as crates.txt has them. The
 commands and refusals of docs/PROTOCOL.md, docs/CLIENTS.md and man/ssikvd.7 are those of the definitions, and the tables of docs/LOG_FORMAT.md those of
-the model's logs. docs/TESTING.md has each harness of run.sh. Numbers of the code are its constants. Documents that are installed link to none that isn't.
+the model's logs. docs/TESTING.md has each harness of runner.py. Numbers of the code are its constants. Documents that are installed link to none that isn't.
 Of each block of ```ini and ```python: a unit that `systemd-analyze verify` takes, Python that is Python.
 """
 import glob
@@ -21,6 +21,7 @@ import subprocess
 import sys
 import time
 
+from runner import HARNESSES
 from ssikvd_harness.arguments import is_long, need, run_harness
 from ssikvd_harness.deviations import Tally, expect
 from ssikvd_harness.frames import PARTS
@@ -462,10 +463,9 @@ def sealed(tally):
 
 
 def tests(tally):
-    """Each harness that run.sh runs stands in the table of docs/TESTING.md, and so do the numbers of wrong bodies."""
+    """Each harness that runner.py runs stands in the table of docs/TESTING.md, and so do the numbers of wrong bodies."""
     page = text_of("docs/TESTING.md")
-    lists = re.findall(r'names="([^"]*)"|run_all ([a-z ]+)$', text_of("harness/run.sh"), re.M)
-    for name in sorted({name for several, few in lists for name in (several + few).split()}):
+    for name in sorted(harness.name for harness in HARNESSES):
         with tally.run(f"{name} in docs/TESTING.md"):
             expect(f"`{name}.py" in page, "the table of what could go wrong doesn't have it")
     with tally.run("the wrong bodies of each crate"):
