@@ -11,25 +11,19 @@
  */
 #define _GNU_SOURCE
 #define FUSE_USE_VERSION 34
+#include "disk.h"
 #include <arpa/inet.h>
-#include <errno.h>
 #include <fcntl.h>
-#include <fuse.h>
 #include <netinet/tcp.h>
 #include <stdbool.h>
 #include <stdint.h>
-#include <stdio.h>
 #include <stdlib.h>
-#include <string.h>
 #include <sys/socket.h>
-#include <sys/stat.h>
 #include <sys/uio.h>
-#include <unistd.h>
 
 enum { PATIENCE = 10 };    // seconds until the other side counts as gone
 
-static const char *const name = "/disk";
-static int image, copy;
+static int copy;
 static bool is_early, is_alone, is_cut;
 
 /* Sends bytes to the other side. Were all of them taken? */
@@ -56,33 +50,6 @@ static bool answered(void) {
     if (!is_cut && recv(copy, &byte, 1, 0) != 1)
         is_cut = true;
     return !is_cut;
-}
-
-static int get_attributes(const char *path, struct stat *found, struct fuse_file_info *info) {
-    (void)info;
-    memset(found, 0, sizeof *found);
-    if (!strcmp(path, "/")) {
-        found->st_mode = S_IFDIR | 0700;
-        found->st_nlink = 2;
-        return 0;
-    }
-    if (strcmp(path, name))
-        return -ENOENT;
-    if (fstat(image, found))
-        return -errno;
-    found->st_mode = S_IFREG | 0600;
-    return 0;
-}
-
-static int open_disk(const char *path, struct fuse_file_info *info) {
-    (void)info;
-    return strcmp(path, name) ? -ENOENT : 0;
-}
-
-static int read_disk(const char *path, char *into, size_t size, off_t at, struct fuse_file_info *info) {
-    (void)path, (void)info;
-    ssize_t moved = pread(image, into, size, at);
-    return moved < 0 ? -errno : (int)moved;
 }
 
 static int write_disk(const char *path, const char *from, size_t size, off_t at, struct fuse_file_info *info) {
@@ -127,6 +94,5 @@ int main(int count, char **words) {
         perror("mirror");
         return 1;
     }
-    char *own[] = {words[0], "-f", "-s", words[4], NULL};
-    return fuse_main(4, own, &calls, NULL);
+    return mounted(words[0], words[4], &calls);
 }

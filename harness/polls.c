@@ -7,12 +7,11 @@
  * left to do. Without that variable all calls are passed on and nothing is measured.
  */
 #define _GNU_SOURCE
+#include "shared.h"
 #include <dlfcn.h>
-#include <fcntl.h>
 #include <stdint.h>
 #include <stdlib.h>
 #include <sys/epoll.h>
-#include <sys/mman.h>
 #include <sys/syscall.h>
 #include <time.h>
 #include <unistd.h>
@@ -28,14 +27,7 @@ static uint64_t returned;
 static uint64_t syncs;
 
 __attribute__((constructor)) static void open_control(void) {
-    const char *name = getenv("POLLS_CONTROL");
-    int file = name ? open(name, O_RDWR | O_CLOEXEC) : -1;
-    if (file < 0)
-        return;
-    void *shared = mmap(NULL, sizeof(struct control), PROT_READ | PROT_WRITE, MAP_SHARED, file, 0);
-    close(file);
-    if (shared != MAP_FAILED)
-        control = shared;
+    control = shared_file("POLLS_CONTROL", sizeof(struct control));
 }
 
 static uint64_t processor_ns(void) {

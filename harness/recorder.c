@@ -8,19 +8,13 @@
  */
 #define _GNU_SOURCE
 #define FUSE_USE_VERSION 34
-#include <errno.h>
+#include "disk.h"
 #include <fcntl.h>
-#include <fuse.h>
 #include <stdint.h>
-#include <stdio.h>
 #include <stdlib.h>
-#include <string.h>
-#include <sys/stat.h>
 #include <sys/uio.h>
-#include <unistd.h>
 
-static const char *const name = "/disk";
-static int image, record;
+static int record;
 
 /* Appends to the record. */
 static void note(int64_t at, const char *bytes, int64_t size) {
@@ -28,33 +22,6 @@ static void note(int64_t at, const char *bytes, int64_t size) {
     struct iovec parts[2] = {{head, sizeof head}, {(void *)bytes, (size_t)size}};
     if (writev(record, parts, 2) != (ssize_t)sizeof head + size)
         abort();
-}
-
-static int get_attributes(const char *path, struct stat *found, struct fuse_file_info *info) {
-    (void)info;
-    memset(found, 0, sizeof *found);
-    if (!strcmp(path, "/")) {
-        found->st_mode = S_IFDIR | 0700;
-        found->st_nlink = 2;
-        return 0;
-    }
-    if (strcmp(path, name))
-        return -ENOENT;
-    if (fstat(image, found))
-        return -errno;
-    found->st_mode = S_IFREG | 0600;
-    return 0;
-}
-
-static int open_disk(const char *path, struct fuse_file_info *info) {
-    (void)info;
-    return strcmp(path, name) ? -ENOENT : 0;
-}
-
-static int read_disk(const char *path, char *into, size_t size, off_t at, struct fuse_file_info *info) {
-    (void)path, (void)info;
-    ssize_t moved = pread(image, into, size, at);
-    return moved < 0 ? -errno : (int)moved;
 }
 
 static int write_disk(const char *path, const char *from, size_t size, off_t at, struct fuse_file_info *info) {
@@ -84,6 +51,5 @@ int main(int count, char **words) {
         perror("recorder");
         return 1;
     }
-    char *own[] = {words[0], "-f", "-s", words[3], NULL};
-    return fuse_main(4, own, &calls, NULL);
+    return mounted(words[0], words[3], &calls);
 }

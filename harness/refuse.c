@@ -9,13 +9,13 @@
  * isn't counted as a call. Without that variable, and before the program's own code runs, all calls are passed on and none is counted.
  */
 #define _GNU_SOURCE
+#include "shared.h"
 #include <errno.h>
 #include <fcntl.h>
 #include <malloc.h>
 #include <stdint.h>
 #include <stdlib.h>
 #include <sys/epoll.h>
-#include <sys/mman.h>
 #include <sys/socket.h>
 #include <sys/stat.h>
 #include <sys/syscall.h>
@@ -46,14 +46,7 @@ extern void *__libc_memalign(size_t alignment, size_t size);
 extern void __libc_free(void *block);
 
 __attribute__((constructor)) static void open_control(void) {
-    const char *name = getenv("REFUSE_CONTROL");
-    int file = name ? open(name, O_RDWR | O_CLOEXEC) : -1;
-    if (file < 0)
-        return;
-    void *shared = mmap(NULL, sizeof(struct control), PROT_READ | PROT_WRITE, MAP_SHARED, file, 0);
-    close(file);
-    if (shared != MAP_FAILED)
-        control = shared;
+    control = shared_file("REFUSE_CONTROL", sizeof(struct control));
 }
 
 static int is_chosen(enum kind kind) {
