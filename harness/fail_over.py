@@ -25,15 +25,15 @@ import threading
 import time
 
 from ssikvd_harness.arguments import is_long, need, run_harness
-from ssikvd_harness.deviations import Deviation, Tally, expect
+from ssikvd_harness.deviations import Deviation, Tally, expect, missing
 from ssikvd_harness.examples import simple_client
 from ssikvd_harness.log_format import log_of, map_of
 from ssikvd_harness.settings import OUT, PATIENCE, PROGRAM
-from ssikvd_harness.tools import in_memory, tool
+from ssikvd_harness.tools import in_memory, in_own_namespaces, lacking, tool
 from power_cuts import command, torn, wait_for
 
 MIRROR = os.path.join(OUT, "mirror")
-OWN_NAMES, REPLICA = "SSIKVD_FAIL_OVER", "--replica"    # set in the process that has mounts and a network of its own; the other side of a device
+REPLICA = "--replica"    # the other side of a device
 IMAGE_SIZE, SECTORS, SERVED, COPIED = 32 << 20, 16_384, 7777, 7788
 LIVES, CLIENTS = 12, 4
 
@@ -324,13 +324,10 @@ def is_seen(form):
 
 def lacks():
     """What is missing for a run, or None."""
-    for name in ("mkfs.ext4", "ip", "nsenter", "unshare"):
-        if not shutil.which(name):
-            return name
     for name in (MIRROR, "/dev/fuse", "/dev/loop-control"):
         if not os.path.exists(name):
             return name
-    return "root" if os.geteuid() else None
+    return lacking((name, None) for name in ("mkfs.ext4", "ip", "nsenter", "unshare")) or ("root" if os.geteuid() else None)
 
 
 def options(parser):
@@ -348,11 +345,9 @@ def main(asked):
         return 0
     found = lacks()
     if found:
-        print(f"  fail_over: not run, for want of {found}", flush=True)
+        missing("fail_over", found)
         return 0
-    if not os.environ.get(OWN_NAMES):
-        os.execvpe("unshare", ["unshare", "--mount", "--net", "--propagation", "private", sys.executable, *sys.argv], {**os.environ, OWN_NAMES: "1"})
-    command("ip", "link", "set", "lo", "up")
+    in_own_namespaces("SSIKVD_FAIL_OVER", "--propagation", "private")
     tally = Tally("fail_over")
     pair = play(asked.lives, asked.seed, (), tally)
     print(f"  {len(pair.acknowledged)} commits answered, {pair.unflushed} writes that weren't flushed", flush=True)

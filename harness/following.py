@@ -21,7 +21,7 @@ from ssikvd_harness.examples import simple_client
 from ssikvd_harness.frames import frame
 from ssikvd_harness.log_format import SECTOR, Damaged, NotALog, log_of, map_of, read_log
 from ssikvd_harness.server import Server, check, create, folder
-from ssikvd_harness.settings import PATIENCE, PROGRAM
+from ssikvd_harness.settings import PATIENCE, PROGRAM, text_of
 from ssikvd_harness.tools import DIST, in_memory, loaded, tool
 from ssikvd_harness.trials import Recorder, Trial, write_script
 
@@ -380,23 +380,22 @@ WRONG_COMPACTIONS = {
 
 
 def wrong_tools(tally):
-    with open(os.path.join(DIST, "ssikvd-follow"), encoding="utf-8") as file:
-        text = file.read()
-    for name, (right, wrong) in WRONG.items():
+    for name, texts in WRONG.items():
         with tally.run(f"{name} is reported"), folder() as place:
-            expect(text.count(right) == 1, f"{name} can't be planted")
-            script = os.path.join(place, "ssikvd-follow")
-            write_script(script, text.replace(right, wrong))
+            script = planted(place, "ssikvd-follow", *texts)
             shutil.copy(os.path.join(DIST, "ssikvd-verify"), place)
             expect(any(is_refused(judge_wrong, seed, script) for seed in range(4)), f"{name} was not reported")
-    with open(os.path.join(DIST, "ssikvd-compact"), encoding="utf-8") as file:
-        text = file.read()
-    for name, (right, wrong) in WRONG_COMPACTIONS.items():
+    for name, texts in WRONG_COMPACTIONS.items():
         with tally.run(f"{name} is reported"), in_memory() as place:
-            expect(text.count(right) == 1, f"{name} can't be planted")
-            script = os.path.join(place, "ssikvd-compact")
-            write_script(script, text.replace(right, wrong))
-            expect(is_refused(judge_load, place, script), f"{name} was not reported")
+            expect(is_refused(judge_load, place, planted(place, "ssikvd-compact", *texts)), f"{name} was not reported")
+
+
+def planted(place, tool_name, right, wrong):
+    """The tool in this folder, with one text in the place of another."""
+    text, script = text_of(os.path.join("dist", tool_name)), os.path.join(place, tool_name)
+    expect(text.count(right) == 1, f"{right!r} stands {text.count(right)} times in {tool_name}")
+    write_script(script, text.replace(right, wrong))
+    return script
 
 
 def judge_wrong(seed, script):

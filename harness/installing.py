@@ -6,6 +6,7 @@ example of docs/LOG_FORMAT.md in ssikvd(5). Then what is installed, and that not
 the same bytes; that what is packed installs the same. `long` also builds the Debian package, looks at it with lintian, and installs it
 where it runs as root. Where a tool is missing, a line says what was left out.
 """
+import contextlib
 import filecmp
 import os
 import pty
@@ -340,20 +341,32 @@ def uninstalled(tally, root):
         expect(not files_below(root), "it installed something")
 
 
+@contextlib.contextmanager
+def masked_copy(place, name, mask):
+    """A copy of the repository; meanwhile files are made with this mask."""
+    copy, before = copy_of_top(place, name), os.umask(mask)
+    try:
+        yield copy
+    finally:
+        os.umask(before)
+
+
+def all_written(copy, day):
+    """Each file of a copy as it were written on a day."""
+    done(["find", copy, "-type", "f", "-exec", "touch", "-d", day, "{}", "+"])
+
+
 def packed(tally, root):
     """Two packings of the same program, of copies with other masks and times, are equal; what one holds installs what the repository does."""
     with folder() as place:
         tarballs = []
         for mask in (0o022, 0o077):
             with tally.run(f"make dist with a mask of {mask:03o}"):
-                copy, before = copy_of_top(place, f"copy{mask:o}"), os.umask(mask)
-                try:
+                with masked_copy(place, f"copy{mask:o}", mask) as copy:
                     if mask != 0o022:
                         done(["chmod", "-R", "go-rwx", copy])
-                        done(["find", copy, "-type", "f", "-exec", "touch", "-d", "2001-02-03", "{}", "+"])
+                        all_written(copy, "2001-02-03")
                     make(copy, "dist", f"PROGRAM={BINARY}")
-                finally:
-                    os.umask(before)
                 names = sorted(os.listdir(os.path.join(copy, "out")))
                 expect(len(names) == 2 and names[1] == names[0] + ".sha256", f"it left {names}")
                 done(["sha256sum", "-c", names[1]], cwd=os.path.join(copy, "out"))
@@ -495,14 +508,11 @@ def released(tally):
         sums = []
         for mask in (0o022, 0o077):
             with tally.run(f"make release with a mask of {mask:03o}"):
-                copy, before = copy_of_top(place, f"a copy {mask:o}"), os.umask(mask)
-                try:
-                    done(["find", copy, "-type", "f", "-exec", "touch", "-d", f"200{mask % 9}-02-03", "{}", "+"])
+                with masked_copy(place, f"a copy {mask:o}", mask) as copy:
+                    all_written(copy, f"200{mask % 9}-02-03")
                     if mask == 0o022 and shutil.which("git"):
                         committed(copy, "v" + run(["--version"])[1].decode().split()[1])
                     done(["make", "-C", copy, "release", f"PROGRAM={BINARY}"], 600, env=DEBIAN_PATH)
-                finally:
-                    os.umask(before)
                 out = os.path.join(copy, "out")
                 done(["sha256sum", "--check", "SHA256SUMS"], cwd=out)
                 with open(os.path.join(out, "SHA256SUMS"), encoding="ascii") as file:

@@ -7,14 +7,12 @@ and that they are given back after its end, also while further commits come.
 Beside an old transaction, what commits have read is merged in steps. How often memory is asked for is counted too: a merge that gave back room with each of its
 moves, and not with its last, would ask for it more than twice as often.
 """
-import os
 
 from ssikvd_harness.arguments import need, run_harness
 from ssikvd_harness.connection import Connection
 from ssikvd_harness.deviations import Tally, expect
-from ssikvd_harness.failing_calls import MEMORY, Refusals
+from ssikvd_harness.failing_calls import MEMORY, refusing_server
 from ssikvd_harness.frames import frame
-from ssikvd_harness.server import Server, create, folder
 
 SECTORS = 65_536
 VALUE_BYTES = 1_000
@@ -100,14 +98,11 @@ def readings_ask_rarely(tally, port, allocations):
 def main():
     need()
     tally = Tally("what commits leave")
-    with folder() as place:
-        data, refusals = os.path.join(place, "data"), Refusals(place)
-        create(data, SECTORS)
-        with Server(data, refusals.environment()) as server:
-            commits_leave_nothing(tally, server)
-            an_old_one_is_counted(tally, server.port, refusals.held)
-            readings_ask_rarely(tally, server.port, refusals.of(MEMORY))
-            expect(server.is_alive() and server.error_text() == b"", "the server ended, or wrote an error")
+    with refusing_server(SECTORS) as (server, refusals):
+        commits_leave_nothing(tally, server)
+        an_old_one_is_counted(tally, server.port, refusals.held)
+        readings_ask_rarely(tally, server.port, refusals.of(MEMORY))
+        expect(server.is_alive() and server.error_text() == b"", "the server ended, or wrote an error")
     return 0 if tally.end() else 1
 
 

@@ -3,15 +3,13 @@
 The versions' keys stand in pages of some hundred keys. Eight commits of 64 keys fill one, and the ninth splits it. Where memory is refused in it, its
 connection is closed and a new one finds the map as it was; it commits the same writes then. After that all keys are there, by rising key.
 """
-import os
 
 from ssikvd_harness.arguments import need, run_harness
-from ssikvd_harness.connection import Connection
 from ssikvd_harness.deviations import Tally, expect
-from ssikvd_harness.failing_calls import MEMORY, Refusals
+from ssikvd_harness.failing_calls import MEMORY, refusing_server
 from ssikvd_harness.frames import frame
 from ssikvd_harness.model import Store
-from ssikvd_harness.server import Server, create, folder
+from ssikvd_harness.session import Session
 
 SECTORS = 4_096
 KEYS = 64 * 9
@@ -23,16 +21,8 @@ def key_of(number):
     return b"%05d" % (number * 7919 % 65536) + b"k" * 15
 
 
-class Session:
-    """A connection beside the model."""
-
-    def __init__(self, server, store, name):
-        self.connection, self.store, self.name = Connection(server.port), store, name
-
-    def ask(self, parts):
-        reply = self.connection.ask(frame(*parts))
-        due = self.store.request(self.name, parts)
-        expect(reply == due, f"{parts[:2]}: {(reply or b'closed')[:60]!r}, due is {due[:60]!r}")
+class Writer(Session):
+    """A session that writes keys by their numbers, and reads all."""
 
     def write(self, numbers):
         for parts in ([b"BEGIN"], *([b"SET", key_of(number), b"%d" % number] for number in numbers)):
@@ -48,7 +38,7 @@ class Session:
 
 def commit_refused(server, store, allocations, n):
     """Commits the last 64 keys with the n-th allocation refused. Was there one so late?"""
-    last = Session(server, store, "last")
+    last = Writer(server, store, "last")
     last.write(range(KEYS - 64, KEYS))
     failed = allocations.failed
     allocations.fail(allocations.made + n)
@@ -57,7 +47,7 @@ def commit_refused(server, store, allocations, n):
     allocations.pass_on()
     if reply is None:
         store.leave("last")
-        again = Session(server, store, "again")
+        again = Writer(server, store, "again")
         again.read_all()
         again.write(range(KEYS - 64, KEYS))
         again.ask([b"COMMIT"])
@@ -67,32 +57,28 @@ def commit_refused(server, store, allocations, n):
     return was_refused
 
 
-def one_run(place, n):
-    data, store, refusals = os.path.join(place, f"data{n}"), Store(SECTORS), Refusals(place)
-    create(data, SECTORS)
-    allocations = refusals.of(MEMORY)
-    with Server(data, refusals.environment()) as server:
-        first = Session(server, store, "first")
+def one_run(n):
+    store = Store(SECTORS)
+    with refusing_server(SECTORS) as (server, refusals):
+        first = Writer(server, store, "first")
         for start in range(0, KEYS - 64, 64):
             first.write(range(start, start + 64))
             first.ask([b"COMMIT"])
-        was_refused = commit_refused(server, store, allocations, n)
-        Session(server, store, "after").read_all()
+        was_refused = commit_refused(server, store, refusals.of(MEMORY), n)
+        Writer(server, store, "after").read_all()
         expect(server.is_alive() and server.error_text() == b"", "the server ended, or wrote an error")
-    os.remove(data)
     return was_refused
 
 
 def main():
     need()
     tally = Tally("a COMMIT that splits pages, with each allocation refused")
-    with folder() as place:
-        for n in range(1, N_MAX):
-            was_refused = False
-            with tally.run(f"allocation {n}"):
-                was_refused = one_run(place, n)
-            if not was_refused:
-                break
+    for n in range(1, N_MAX):
+        was_refused = False
+        with tally.run(f"allocation {n}"):
+            was_refused = one_run(n)
+        if not was_refused:
+            break
     return 0 if tally.end() else 1
 
 

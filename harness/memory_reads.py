@@ -4,16 +4,15 @@ A session reads keys and ranges, which marks them and makes its output large eno
 again: each reply is the model's, and none has asked for memory. What does need memory closes its connection, and no other; a reply beyond
 the bytes that an output keeps needs it each time, since the room was given back.
 """
-import os
 
 from ssikvd_harness.arguments import need, run_harness
 from ssikvd_harness.connection import Connection
 from ssikvd_harness.deviations import Tally, expect
-from ssikvd_harness.failing_calls import MEMORY, Refusals
+from ssikvd_harness.failing_calls import MEMORY, refusing_server
 from ssikvd_harness.frames import frame
 from ssikvd_harness.limits import KEY_MAX, LARGEST_REPLY, VALUE_MAX
 from ssikvd_harness.model import Store
-from ssikvd_harness.server import Server, create, folder
+from ssikvd_harness.session import Session
 
 SECTORS = 8_192
 KEYS = [b"%03d" % i + b"k" * (KEY_MAX - 3) for i in range(100)]
@@ -59,20 +58,6 @@ AGAIN = [
     [b"RANGE", b"a", b"b", b"129"],
     [b"DEL", b"own", b"x"],
 ]
-
-
-class Session:
-    """A connection beside the model."""
-
-    def __init__(self, server, store, name):
-        self.connection, self.store, self.name = Connection(server.port), store, name
-
-    def ask(self, parts):
-        reply = self.connection.ask(frame(*parts))
-        due = self.store.request(self.name, parts)
-        shown = b" ".join(part[:8] for part in parts)
-        expect(reply == due, f"{shown!r}: {(reply or b'closed')[:60]!r}, due is {due[:60]!r}")
-        return reply
 
 
 def fill(server, store):
@@ -129,32 +114,28 @@ def starve(server, allocations, store, tally):
 def main():
     need()
     tally, store = Tally("reads with all memory refused"), Store(SECTORS)
-    with folder() as place:
-        data = os.path.join(place, "data")
-        create(data, SECTORS)
-        refusals = Refusals(place)
+    with refusing_server(SECTORS) as (server, refusals):
         allocations = refusals.of(MEMORY)
-        with Server(data, refusals.environment()) as server:
-            with tally.run("filling the map"):
-                fill(server, store)
-            reader = Session(server, store, "marked")
-            with tally.run("the first reads"):
-                for parts in FIRST:
+        with tally.run("filling the map"):
+            fill(server, store)
+        reader = Session(server, store, "marked")
+        with tally.run("the first reads"):
+            for parts in FIRST:
+                reader.ask(parts)
+        calls = allocations.made
+        allocations.fail_all()
+        for turn in range(ROUNDS):
+            for parts in AGAIN:
+                with tally.run(f"{parts[:1]} in round {turn}"):
                     reader.ask(parts)
-            calls = allocations.made
-            allocations.fail_all()
-            for turn in range(ROUNDS):
-                for parts in AGAIN:
-                    with tally.run(f"{parts[:1]} in round {turn}"):
-                        reader.ask(parts)
-            with tally.run("ABORT"):
-                reader.ask([b"ABORT"])
-            with tally.run("the allocations that were asked for"):
-                expect(allocations.made == calls, f"{allocations.made - calls} allocations")
-            allocations.pass_on()
-            starve(server, allocations, store, tally)
-            with tally.run("the server"):
-                expect(server.is_alive() and server.error_text() == b"", "it ended, or wrote an error")
+        with tally.run("ABORT"):
+            reader.ask([b"ABORT"])
+        with tally.run("the allocations that were asked for"):
+            expect(allocations.made == calls, f"{allocations.made - calls} allocations")
+        allocations.pass_on()
+        starve(server, allocations, store, tally)
+        with tally.run("the server"):
+            expect(server.is_alive() and server.error_text() == b"", "it ended, or wrote an error")
     return 0 if tally.end() else 1
 
 

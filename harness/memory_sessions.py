@@ -3,16 +3,14 @@
 A session keeps an inbox, a stream, an output of 536 bytes and 65,536 for longer replies, however large its replies were. A reply that isn't read is held
 whole, so while one is, the count must be above that bound: otherwise it would say nothing.
 """
-import os
 import time
 
 from ssikvd_harness.arguments import is_long, need, run_harness
 from ssikvd_harness.connection import Connection
 from ssikvd_harness.deviations import Tally, expect
-from ssikvd_harness.failing_calls import MEMORY, Refusals
+from ssikvd_harness.failing_calls import MEMORY, refusing_server
 from ssikvd_harness.frames import frame
 from ssikvd_harness.limits import HELD_MAX, INBOX_MAX, KEY_MAX, OUTPUT_ROOM, VALUE_MAX
-from ssikvd_harness.server import Server, create, folder
 
 SECTORS = 16_384
 COUNT = 120
@@ -114,16 +112,13 @@ def sending_asks_for_none(tally, server, refusals):
 def main():
     need()
     tally = Tally("what sessions keep")
-    with folder() as place:
-        data, refusals = os.path.join(place, "data"), Refusals(place)
-        create(data, SECTORS)
-        with Server(data, refusals.environment()) as server:
-            fill(server.port)
-            for _ in range(3 if is_long() else 1):
-                sessions_keep_little(tally, server, refusals, COUNT)
-            unread_reply_is_counted(tally, server, refusals)
-            sending_asks_for_none(tally, server, refusals)
-            expect(server.is_alive() and server.error_text() == b"", "the server ended, or wrote an error")
+    with refusing_server(SECTORS) as (server, refusals):
+        fill(server.port)
+        for _ in range(3 if is_long() else 1):
+            sessions_keep_little(tally, server, refusals, COUNT)
+        unread_reply_is_counted(tally, server, refusals)
+        sending_asks_for_none(tally, server, refusals)
+        expect(server.is_alive() and server.error_text() == b"", "the server ended, or wrote an error")
     return 0 if tally.end() else 1
 
 

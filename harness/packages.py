@@ -445,8 +445,7 @@ def main():
         filled = Filled(place)
         try:
             for found, seconds in threads.map(lambda package: play(package, filled), there):
-                tally.runs += found.runs
-                tally.deviations.update({f"{found.name}: {text}": places for text, places in found.deviations.items()})
+                tally.take(found)
                 print(f"  {found.name}: {found.runs} runs in {seconds:.0f} seconds", flush=True)
         finally:
             filled.server.kill()

@@ -644,8 +644,7 @@ def judged(language, what, part):
 
 def add(tally, some):
     for found in some:
-        tally.runs += found.runs
-        tally.deviations.update({f"{found.name}: {text}": places for text, places in found.deviations.items()})
+        tally.take(found)
 
 
 def main():

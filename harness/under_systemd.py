@@ -22,15 +22,14 @@ import time
 
 import installing
 from ssikvd_harness.arguments import is_long, need, run_harness
-from ssikvd_harness.deviations import Deviation, Tally, expect
+from ssikvd_harness.deviations import Deviation, Tally, expect, missing
 from ssikvd_harness.examples import simple_client
 from ssikvd_harness.log_format import SECTOR, log_of, map_of
 from ssikvd_harness.server import folder
 from ssikvd_harness.settings import PATIENCE
-from ssikvd_harness.tools import commit
+from ssikvd_harness.tools import commit, in_own_namespaces, lacking
 from following import count_of, judge_kept, writers
 
-OWN_NAMES = "SSIKVD_UNDER_SYSTEMD"    # set in the process that has names of mounts and a network of its own
 FOLDER = "/var/lib/ssikvd/"
 BACKUPS = "/var/lib/ssikvd-backups/"
 PORTS = {"shop": 7777, "hurt": 7801, "small": 7802, "tight": 7803, "wrong": 7804, "apart": 7805}
@@ -556,9 +555,9 @@ def play(tally):
 
 def lacks():
     """What is missing for a run, or None."""
-    for name, package_name in (("systemd-nspawn", "systemd-container"), ("dpkg-buildpackage", "dpkg-dev"), ("dh", "debhelper")):
-        if not shutil.which(name):
-            return f"{name} (Debian's {package_name})"
+    gone = lacking((("systemd-nspawn", "systemd-container"), ("dpkg-buildpackage", "dpkg-dev"), ("dh", "debhelper")))
+    if gone:
+        return gone
     if os.stat(tempfile.gettempdir()).st_dev != os.stat("/").st_dev:    # else an overlay's files have other numbers in /proc/locks
         return "a folder for temporary files on the disk of /"
     return "root" if os.geteuid() else None
@@ -570,11 +569,9 @@ def main():
         return 0
     found = lacks()
     if found:
-        print(f"  under_systemd: not run, for want of {found}", flush=True)
+        missing("under_systemd", found)
         return 0
-    if not os.environ.get(OWN_NAMES):
-        os.execvpe("unshare", ["unshare", "--mount", "--net", sys.executable, *sys.argv], {**os.environ, OWN_NAMES: "1"})
-    installing.done(["ip", "link", "set", "lo", "up"])
+    in_own_namespaces("SSIKVD_UNDER_SYSTEMD")
     signal.signal(signal.SIGTERM, lambda *_: sys.exit(1))    # the machine is ended as well
     tally = Tally("under_systemd")
     play(tally)

@@ -59,6 +59,11 @@ class Tally:
     def count(self) -> int:
         return sum(len(places) for places in self.deviations.values())
 
+    def take(self, other: "Tally") -> None:
+        """Counts the runs of another one, too, with their deviations under its name."""
+        self.runs += other.runs
+        self.deviations.update({f"{other.name}: {text}": places for text, places in other.deviations.items()})
+
     def end(self, more: str = "") -> bool:
         """Prints the line of the harness, behind its deviations, and answers whether all held."""
         for text, places in self.deviations.items():

@@ -1,9 +1,12 @@
 """The calls of the program that fail: which ones, the library of refuse.c reads in a file that a harness shares with it."""
+import contextlib
 import errno
 import mmap
 import os
 import struct
+from collections.abc import Iterator
 
+from .server import Server, create, folder
 from .settings import SHIM
 
 ALL = 2 ** 64 - 1
@@ -83,3 +86,13 @@ class Refusals:
 
     def environment(self) -> dict[str, str]:
         return {**os.environ, "LD_PRELOAD": SHIM, "REFUSE_CONTROL": self.name}
+
+
+@contextlib.contextmanager
+def refusing_server(sectors: int) -> Iterator[tuple[Server, Refusals]]:
+    """A server over a new file of so many sectors, and the calls of its that may fail."""
+    with folder() as place:
+        data, refusals = os.path.join(place, "data"), Refusals(place)
+        create(data, sectors)
+        with Server(data, refusals.environment()) as server:
+            yield server, refusals

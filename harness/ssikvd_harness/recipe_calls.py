@@ -436,6 +436,5 @@ def in_languages(tally: Tally) -> None:
         there = list(languages(copy))
         with concurrent.futures.ThreadPoolExecutor(max(1, len(there))) as threads:
             for found, seconds in threads.map(play, there):
-                tally.runs += found.runs
-                tally.deviations.update({f"{found.name}: {text}": places for text, places in found.deviations.items()})
+                tally.take(found)
                 print(f"  the recipes in {found.name}: {found.runs} runs in {seconds:.0f} seconds", flush=True)

@@ -87,6 +87,13 @@ def lacking(programs: Iterable[tuple[str, str | None]]) -> str | None:
     return None
 
 
+def in_own_namespaces(variable: str, *more: str) -> None:
+    """Begins the harness again as a process with mounts and a network of its own, in which this variable is set; there it goes on."""
+    if not os.environ.get(variable):
+        os.execvpe("unshare", ["unshare", "--mount", "--net", *more, sys.executable, *sys.argv], {**os.environ, variable: "1"})
+    subprocess.run(["ip", "link", "set", "lo", "up"], check=True, capture_output=True, timeout=PATIENCE)
+
+
 def promtool() -> str | None:
     return os.environ.get("PROMTOOL") or shutil.which("promtool")
 
