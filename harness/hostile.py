@@ -20,11 +20,12 @@ import time
 from ssikvd_harness.arguments import is_long, need, run_harness
 from ssikvd_harness.connection import Connection
 from ssikvd_harness.deviations import Deviation, Tally, expect
-from ssikvd_harness.frames import BROKEN_FRAME, OK, PONG, Broken, decode, frame, pairs, refusal
+from ssikvd_harness.frames import BROKEN_FRAME, FULL, OK, PONG, Broken, decode, frame, pairs, refusal
 from ssikvd_harness.good_client import KEY as GOOD_KEY, VALUE as GOOD_VALUE, GoodClient
 from ssikvd_harness.limits import HELD_MAX, INBOX_MAX, KEY_MAX, LARGEST_REPLY, MARKS_MAX, OPEN_MAX, OUTPUT_ROOM, SESSIONS_MAX, VALUE_MAX, WRITES_MAX
 from ssikvd_harness.model import Store
 from ssikvd_harness.server import Server, create, folder
+from ssikvd_harness.shrinking import shrunk
 
 SECTORS = 262_144
 SLOWEST_REPLY = 5.0
@@ -36,7 +37,7 @@ KEYS = [b"%03d" % i + b"k" * (KEY_MAX - 3) for i in range(128)]
 VALUE = b"v" * VALUE_MAX
 LARGEST_RANGE = frame("RANGE", "0", "", "128")
 BEGIN, PING, ABORT, COMMIT = (frame(name) for name in ("BEGIN", "PING", "ABORT", "COMMIT"))
-FULL = refusal("FULL transactions")
+SHRINKING_SECONDS = 20.0
 
 
 class Siege:
@@ -495,14 +496,26 @@ def expect_answered(siege, stream, cut, due, goes_on):
     expect(came == due, f"{stream[:200]!r}: {came[-200:]!r}, due is {due[-200:]!r}")
 
 
+def play_stream(siege, octets, cut=None):
+    """Were these bytes sent, in two pieces, and answered as the model does? Not where they commit."""
+    stream = bytes(octets)
+    due, goes_on = stream_due(stream)
+    if due is not None:
+        expect_answered(siege, stream, len(stream) // 2 if cut is None else cut, due, goes_on)
+    return due is not None
+
+
 def random_bytes(siege, seed=20_081):
-    """Streams of random bytes, each answered as the model does to the byte, in pieces of any size."""
+    """Streams of random bytes, each answered as the model does to the byte, in pieces of any size. One that isn't is shrunk."""
     chance = random.Random(seed)
     for _ in range(siege.times(300, 10_000)):
         stream = random_stream(chance)
-        due, goes_on = stream_due(stream)
-        if due is not None:
-            expect_answered(siege, stream, chance.randrange(len(stream) + 1), due, goes_on)
+        cut = chance.randrange(len(stream) + 1)
+        try:
+            play_stream(siege, stream, cut)
+        except Deviation as found:
+            few = shrunk(stream, lambda some: play_stream(siege, some), SHRINKING_SECONDS)
+            raise Deviation(f"{bytes(few)!r} is enough of the {len(stream)} bytes with which {found}" if few else f"{found}") from None
 
 
 # Memory

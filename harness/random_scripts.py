@@ -1,26 +1,30 @@
 """The model against all worked rows, and then random scripts of a few sessions over a few keys, by `play` and by the plain engine: each line
 is compared with the model.
 
-A script is made from its number alone, so one that deviates is found again by its number.
+A script is made from its number alone, so one that deviates is found again by its number. The first ones that deviate are shrunk to the lines that
+show it. So is the script that sees a store whose DEL deletes nothing.
 """
 import os
 import random
 import re
 import subprocess
 
-from ssikvd_harness.arguments import is_long, run_harness
-from ssikvd_harness.deviations import Deviation, Tally
+from ssikvd_harness.arguments import is_long, need, run_harness
+from ssikvd_harness.deviations import Deviation, Tally, expect, is_refused
+from ssikvd_harness.frames import OK
 from ssikvd_harness.model import Store
 from ssikvd_harness.rows import request_of, shown
 from ssikvd_harness.settings import PROGRAM, TOP
+from ssikvd_harness.shrinking import shrunk
 
-PLAIN_PLAY = os.environ.get("PLAIN_PLAY") or os.path.join(TOP, "crates", "plain_play", "out", "plain_play")
+PLAIN_PLAY = os.path.abspath(os.environ.get("PLAIN_PLAY") or os.path.join(TOP, "crates", "plain_play", "out", "plain_play"))
 SCRIPTS = {"quick": range(300), "long": range(300, 12_300)}
 EMPTY = '""'
 WORKED = os.path.join(TOP, "crates", "rows", "src", "worked.rt")
 ROW = re.compile(r"pub static (\w+): \[(?:Line|Counted); \d+\] = \[(.*?)\n\];", re.DOTALL)
 LINE = re.compile(r'(?:\((\d+), (\d+), )?\("((?:[^"\\]|\\.)*)", "((?:[^"\\]|\\.)*)"\)')
 LOG_FULL_SECTORS = 4
+SHRUNK_MAX, SHRINKING_SECONDS = 3, 20.0    # how many scripts that deviate are shrunk, and for how long
 
 
 def request(chance, keys, ranges):
@@ -77,9 +81,9 @@ def expect_row(name, lines):
             raise Deviation(f"the model answers {line}: {got}, not {due}")
 
 
-def by_model(lines):
-    """What the model answers to the lines, as `play` prints it."""
-    store = Store()
+def by_model(lines, kind=Store):
+    """What the model answers to the lines, as `play` prints it; or another model."""
+    store = kind()
     return [f"{line.split(' ')[0]} {shown(store.request(*request_of(line))).decode()}" for line in lines]
 
 
@@ -100,13 +104,47 @@ def expect_alike(lines, due, printed):
             raise Deviation(f"line {place}, {line}: {got}, not {wanted}")
 
 
+class Forgetful(Store):
+    """A wrong store: its DEL deletes nothing."""
+
+    @staticmethod
+    def _write(t, key, value=None):
+        return OK if value is None else Store._write(t, key, value)
+
+
+def play(lines, answers):
+    """The lines are answered as the model does."""
+    expect_alike(lines, by_model(lines), answers(lines))
+
+
+def expect_due(lines, due, answers, seconds):
+    """The lines are answered as is due. Of a script that deviates the few lines are told with which it still does, looked for at most so long."""
+    try:
+        expect_alike(lines, due, answers(lines))
+    except Deviation as found:
+        few = shrunk(lines, lambda some: play(some, answers), seconds) if seconds else None
+        raise Deviation(f"{found}; with {len(few)} of {len(lines)} lines: {'; '.join(few)}" if few else f"{found}") from None
+
+
+def planted(tally):
+    """A store that forgets a deletion is noticed, by a script of which only what shows it is left."""
+    with tally.run("a wrong store"):
+        scripts = [script_of(number) for number in SCRIPTS["quick"]]
+        lines = next(lines for lines in scripts if is_refused(play, lines, lambda some: by_model(some, Forgetful)))
+        few = shrunk(lines, lambda some: play(some, lambda again: by_model(again, Forgetful)))
+        expect(few and len(few) <= 6 < len(lines), f"of {len(lines)} lines are left {few}")
+        expect(all(not is_refused(play, few[:at] + few[at + 1:], lambda some: by_model(some, Forgetful)) for at in range(len(few))), f"too many are left: {few}")
+
+
 def main():
+    need(PROGRAM, PLAIN_PLAY)
     form = "long" if is_long() else "quick"
     tally, commits, pivots = Tally(f"random_scripts {form}"), 0, 0
     programs = {"play": [PROGRAM, "play"], "plain engine": [PLAIN_PLAY]}
     for name, lines in worked_rows():
         with tally.run(f"row {name}"):
             expect_row(name, lines)
+    planted(tally)
     for number in SCRIPTS[form]:
         lines = script_of(number)
         due = by_model(lines)
@@ -114,7 +152,7 @@ def main():
         pivots += sum("CONFLICT pivot" in line for line in due)
         for name, words in programs.items():
             with tally.run(f"script {number} by the {name}"):
-                expect_alike(lines, due, by_program(words, lines))
+                expect_due(lines, due, lambda some: by_program(words, some), SHRINKING_SECONDS if tally.count() < SHRUNK_MAX else 0)
     return 0 if tally.end(f"; {commits} commits, {pivots} refused for a pivot") else 1
 
 

@@ -58,74 +58,17 @@ from ssikvd_harness.model import Store
 from ssikvd_harness.rows import request_of
 from ssikvd_harness.server import Server, create, folder
 from ssikvd_harness.settings import HARNESS, OUT, PROGRAM
+from ssikvd_harness.shrinking import Failed, play_whole, shrunk, told
 
 LOG = os.path.join(OUT, "soak.jsonl")
 ENDING = {signal.SIGINT, signal.SIGTERM, signal.SIGHUP}
 WRONG_PROGRAM = os.path.join(HARNESS, "wrong_program.py")
-SHRINKING_MAX, SIGHT_MAX = 60.0, 10
+SIGHT_MAX = 10
 SHOWN_MAX = 40    # operations of a failed round that stand in the log
-
-
-class Failed(Deviation):
-    """A deviation, the operations that led there, what plays some of them again, and how they are shown."""
-
-    def __init__(self, text, operations, play, show=list):
-        super().__init__(text)
-        self.operations, self.play, self.show = operations, play, show
 
 
 class LeftOut(Exception):
     """What this round needs isn't there."""
-
-
-def told(found):
-    return str(found) if isinstance(found, Deviation) else f"{type(found).__name__}: {found}"
-
-
-def play_whole(operations, play, again=None, show=list):
-    """Plays a list of operations. Its deviation is told with them, and with what plays some of them again."""
-    try:
-        return play(operations)
-    except Exception as found:    # a wrong reply may also break what reads it
-        raise Failed(told(found), operations, again or play, show) from None
-
-
-def does_fail(operations, play):
-    try:
-        play(operations)
-    except Exception:
-        return True
-    return False
-
-
-def shortest_beginning(operations, play, end):
-    """The shortest beginning that fails, by bisection; a longer one where the time is over first."""
-    least, most = 0, len(operations)
-    while least + 1 < most and time.monotonic() < end:
-        middle = (least + most) // 2
-        if does_fail(operations[:middle], play):
-            most = middle
-        else:
-            least = middle
-    return operations[:most]
-
-
-def shrunk(operations, play):
-    """Fewer operations that fail. None where they didn't fail again."""
-    end = time.monotonic() + SHRINKING_MAX
-    if not does_fail(operations, play):
-        return None
-    operations = shortest_beginning(operations, play, end)
-    size = len(operations)
-    while size > 1 and time.monotonic() < end:
-        size, at = size // 2, 0
-        while at < len(operations) and time.monotonic() < end:
-            fewer = operations[:at] + operations[at + size:]
-            if fewer and does_fail(fewer, play):
-                operations = fewer
-            else:
-                at += size
-    return operations
 
 
 def judge(tally):
@@ -247,18 +190,9 @@ def siege(sectors):
             yield hostile.Siege(server, False)
 
 
-def play_stream(besieged, octets):
-    """Were these bytes sent, and answered as the model does? Not where they commit."""
-    stream = bytes(octets)
-    due, goes_on = hostile.stream_due(stream)
-    if due is not None:
-        hostile.expect_answered(besieged, stream, len(stream) // 2, due, goes_on)
-    return due is not None
-
-
 def play_stream_alone(octets):
     with siege(16_384) as besieged:
-        play_stream(besieged, octets)
+        hostile.play_stream(besieged, octets)
 
 
 def streams_of_bytes(seed):
@@ -266,7 +200,7 @@ def streams_of_bytes(seed):
     with siege(16_384) as besieged:
         for _ in range(150):
             octets = list(hostile.random_stream(chance))
-            played += play_whole(octets, lambda some: play_stream(besieged, some), play_stream_alone, lambda some: repr(bytes(some)))
+            played += play_whole(octets, lambda some: hostile.play_stream(besieged, some), play_stream_alone, lambda some: repr(bytes(some)))
     return {"streams": played}
 
 
