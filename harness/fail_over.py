@@ -25,12 +25,12 @@ import threading
 import time
 
 from ssikvd_harness.arguments import is_long, need, run_harness
-from ssikvd_harness.deviations import Deviation, Tally, expect, missing
+from ssikvd_harness.deviations import Deviation, Tally, expect, missing, wait_for
 from ssikvd_harness.examples import simple_client
 from ssikvd_harness.log_format import log_of, map_of
 from ssikvd_harness.settings import OUT, PATIENCE, PROGRAM
-from ssikvd_harness.tools import in_memory, in_own_namespaces, lacking, tool
-from power_cuts import command, torn, wait_for
+from ssikvd_harness.tools import command, in_memory, in_own_namespaces, lacking, tool
+from power_cuts import torn, wait_for_file
 
 MIRROR = os.path.join(OUT, "mirror")
 REPLICA = "--replica"    # the other side of a device
@@ -110,10 +110,7 @@ class Machine:
         """A new network, with a link to the clients."""
         self.holder = subprocess.Popen(["unshare", "--net", "sleep", "infinity"])
         self.processes = [self.holder]
-        end = time.monotonic() + PATIENCE
-        while os.readlink(f"/proc/{self.holder.pid}/ns/net") == os.readlink("/proc/self/ns/net"):
-            expect(time.monotonic() < end, "it has no network of its own")
-            time.sleep(0.002)
+        wait_for(lambda: os.readlink(f"/proc/{self.holder.pid}/ns/net") != os.readlink("/proc/self/ns/net"), "it has no network of its own")
         command("ip", "link", "add", self.outside, "type", "veth", "peer", "name", "clients", "netns", str(self.holder.pid))
         for words in (f"addr add 10.77.{self.number}.1/24 dev {self.outside}", f"link set {self.outside} up"):
             command("ip", *words.split())
@@ -231,10 +228,8 @@ def count_of(load):
 
 
 def wait_until_served(load, count):
-    end, before = time.monotonic() + 3 * PATIENCE, count_of(load)
-    while count_of(load) < before + count:
-        expect(time.monotonic() < end, "clients aren't served")
-        time.sleep(0.005)
+    before = count_of(load)
+    wait_for(lambda: count_of(load) >= before + count, "clients aren't served", 3 * PATIENCE)
 
 
 # Lives
@@ -262,7 +257,7 @@ class Pair:
             shutil.copyfile(first.image, second.image)
             copy = Copy(second, chance.random())
             device = first.start(MIRROR, first.image, second.link, str(COPIED), first.fuse, *self.form)
-            wait_for(os.path.join(first.fuse, "disk"), device)
+            wait_for_file(os.path.join(first.fuse, "disk"), device)
             first.mount(os.path.join(first.fuse, "disk"))
             first.serve()
             with writers(life, [first.address, second.address]) as load:

@@ -16,7 +16,7 @@ import threading
 import time
 
 from ssikvd_harness.arguments import is_long, need, run_harness
-from ssikvd_harness.deviations import Deviation, Tally, expect, is_refused
+from ssikvd_harness.deviations import Deviation, Tally, expect, is_refused, wait_for
 from ssikvd_harness.examples import simple_client
 from ssikvd_harness.frames import frame
 from ssikvd_harness.log_format import SECTOR, Damaged, NotALog, log_of, map_of, read_log
@@ -325,7 +325,7 @@ def judge_load(place, script):
         fill(trial.port, 20_000 if is_long() else 2_000)
         with writers(trial.port, 0.002) as load, Watcher(trial.port) as watcher:
             for _ in range(5 if is_long() else 2):
-                wait_until(lambda before=count_of(load): count_of(load) > before + 50)
+                wait_for(lambda before=count_of(load): count_of(load) > before + 50, "clients aren't served")
                 words = [trial.script, "--stop", trial.bin + "/stops", "--start", trial.bin + "/starts", trial.data]
                 status, out, err = tool(*words, seconds=6 * PATIENCE)
                 expect(status == 0 and "copied beside the server" in out and not err, f"it ended with {status}: {out}{err}")
@@ -355,13 +355,6 @@ def fill(port, keys):
         for _ in requests:
             store.replies.readline()
     store.close()
-
-
-def wait_until(holds):
-    end = time.monotonic() + PATIENCE
-    while not holds():
-        expect(time.monotonic() < end, "clients aren't served")
-        time.sleep(0.01)
 
 
 # Tools with a fault

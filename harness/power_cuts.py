@@ -30,11 +30,12 @@ import time
 
 from ssikvd_harness.arguments import is_long, need, run_harness
 from ssikvd_harness.connection import Connection
-from ssikvd_harness.deviations import Tally, expect
+from ssikvd_harness.deviations import Tally, expect, wait_for
 from ssikvd_harness.frames import OK, frame
 from ssikvd_harness.log_format import HEAD, SECTOR, Damaged, NotALog, OldFormat, copy_of, map_of, read_log, sectors_used
 from ssikvd_harness.server import Server, check, create, folder, run
 from ssikvd_harness.settings import HARNESS, OUT, PATIENCE, PROGRAM, TOP
+from ssikvd_harness.tools import command
 
 RECORDER, SKIPS = (os.path.join(OUT, name) for name in ("recorder", "skip_syncs.so"))
 SHIP, RESTORE = (os.path.join(TOP, "dist", name) for name in ("ssikvd-ship", "ssikvd-restore"))
@@ -56,12 +57,6 @@ BTRFS_MARK, EXT4_MARK = b"_BHRfS_M", b"\x53\xef"
 FLUSH = None
 CHECKED_OF = 10    # one of so many images is read by `check` too
 SIGHT_MAX = 2_000    # cuts within which a sync that is left out must be seen
-
-
-def command(*words, seconds=6 * PATIENCE):
-    ran = subprocess.run(words, capture_output=True, timeout=seconds, check=False)
-    expect(ran.returncode == 0, f"{words[0]} ended with {ran.returncode} {ran.stderr[-300:]!r}")
-    return ran
 
 
 # The disk
@@ -106,7 +101,7 @@ class Disk:
             os.remove(self.record)
         recorder = subprocess.Popen([RECORDER, self.image, self.record, self.fuse])
         try:
-            wait_for(os.path.join(self.fuse, "disk"), recorder)
+            wait_for_file(os.path.join(self.fuse, "disk"), recorder)
             with self.mounted(os.path.join(self.fuse, "disk")):
                 yield
         finally:
@@ -125,19 +120,16 @@ class Disk:
         return found
 
 
-def wait_for(name, process):
-    end = time.monotonic() + PATIENCE
-    while not os.path.exists(name):
-        expect(process.poll() is None and time.monotonic() < end, f"there is no {os.path.basename(name)}")
-        time.sleep(0.005)
+def wait_for_file(name, process):
+    """Waits until the process has made this file."""
+    text = f"there is no {os.path.basename(name)}"
+    wait_for(lambda: os.path.exists(name) or process.poll() is not None, text)
+    expect(os.path.exists(name), text)
 
 
 def unmount(place):
     """What a server that was killed has open may be there for a moment."""
-    end = time.monotonic() + PATIENCE
-    while subprocess.run(["umount", place], capture_output=True, check=False).returncode:
-        expect(time.monotonic() < end, f"{os.path.basename(place)} stays in use")
-        time.sleep(0.02)
+    wait_for(lambda: not subprocess.run(["umount", place], capture_output=True, check=False).returncode, f"{os.path.basename(place)} stays in use")
 
 
 def apply(file, write):

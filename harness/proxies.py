@@ -22,7 +22,7 @@ import time
 
 import documents
 from ssikvd_harness.arguments import is_long, need, run_harness
-from ssikvd_harness.deviations import Deviation, Tally, expect
+from ssikvd_harness.deviations import Deviation, Tally, expect, wait_for
 from ssikvd_harness.examples import simple_client
 from ssikvd_harness.server import Server, create, folder, free_port
 from ssikvd_harness.settings import PATIENCE, PROGRAM, TOP, text_of
@@ -96,13 +96,6 @@ def running(words, place, port):
         finally:
             process.terminate()
             process.wait(PATIENCE)
-
-
-def wait_for(holds, text, seconds=PATIENCE):
-    end = time.monotonic() + seconds
-    while not holds():
-        expect(time.monotonic() < end, text)
-        time.sleep(0.02)
 
 
 def answers(port):

@@ -34,7 +34,7 @@ import urllib.parse
 from ssikvd_harness.arguments import is_long, need, run_harness
 from ssikvd_harness.connection import Connection
 from ssikvd_harness.cutting import CLOSE, PIVOT, Proxy, Scripted
-from ssikvd_harness.deviations import Tally, expect, is_refused, missing
+from ssikvd_harness.deviations import Tally, expect, is_refused, missing, wait_for
 from ssikvd_harness.frames import FULL, OK, bulk, frame, pairs, refusal
 from ssikvd_harness.languages import CLIENTS, ENVIRONMENT, shell
 from ssikvd_harness.limits import PAIRS_MAX
@@ -156,10 +156,7 @@ class Store:
 
     def wait_for(self, name, due):
         """Waits until so many requests of this name came."""
-        end = time.monotonic() + 3 * PATIENCE
-        while self.proxy.names[name] < due:
-            expect(time.monotonic() < end, f"{due - self.proxy.names[name]} {name} are missing")
-            time.sleep(0.002)
+        wait_for(lambda: self.proxy.names[name] >= due, f"not {due} {name} came", 3 * PATIENCE, 0.002)
 
     def kill(self, commits):
         """Kills the server after so many more COMMITs, and starts it again."""
@@ -357,21 +354,14 @@ def jobs(language):
             lines, status = producer.ended()
             expect(status == 0 and all(line.startswith("put job-") for line in lines), f"a producer ended with {status}: {producer.error_text()}")
         taken = {f"{name} took {held[1]}" for name in ("w3", "w4")}
-        wait_until(lambda: taken & {*workers[2].lines, *workers[3].lines}, "nobody took a job that was held")
+        wait_for(lambda: taken & {*workers[2].lines, *workers[3].lines}, "nobody took a job that was held", 3 * PATIENCE)
         workers[1].tell(signal.SIGCONT)
         expect(workers[1].line(f"w2 (did|late) {held[1]}").split()[1] == "late", "a worker did a job that another had taken since")
-        wait_until(lambda: set(store.under("done:")) >= {*ids, "long-1", "long-2"}, "jobs were not done in time")
-        wait_until(lambda: not any(worker.lines[-1:] and " took " in worker.lines[-1] for worker in workers[1:]), "a worker says no more")
+        wait_for(lambda: set(store.under("done:")) >= {*ids, "long-1", "long-2"}, "jobs were not done in time", 3 * PATIENCE)
+        wait_for(lambda: not any(worker.lines[-1:] and " took " in worker.lines[-1] for worker in workers[1:]), "a worker says no more", 3 * PATIENCE)
         lines = [line.split() for worker in workers for line in worker.lines]
         judge_jobs(lines, {*ids, "long-1", "long-2"}, store.under("done:"), store.under("finished:"), store.under("job:"))
         expect(store.proxy.cuts > 2, f"only {store.proxy.cuts} connections were cut")
-
-
-def wait_until(holds, text):
-    end = time.monotonic() + 3 * PATIENCE
-    while not holds():
-        expect(time.monotonic() < end, text)
-        time.sleep(0.02)
 
 
 def judge_jobs(lines, ids, done, finished, left):

@@ -20,7 +20,7 @@ import time
 
 from at_rest import damages, turn
 from ssikvd_harness.arguments import need, run_harness
-from ssikvd_harness.deviations import Tally, expect, is_refused, missing
+from ssikvd_harness.deviations import Tally, expect, is_refused, missing, wait_for
 from ssikvd_harness.examples import simple_client
 from ssikvd_harness.log_format import SECTOR, log_image
 from ssikvd_harness.server import Server, create, folder, free_port
@@ -279,10 +279,7 @@ def locks(tally):
 
 
 def wait_until_held(name):
-    end = time.monotonic() + PATIENCE
-    while tool("flock", "-n", "-E", "75", name, "true")[0] != 75:
-        expect(time.monotonic() < end, "the lock isn't taken")
-        time.sleep(0.01)
+    wait_for(lambda: tool("flock", "-n", "-E", "75", name, "true")[0] == 75, "the lock isn't taken")
 
 
 def addresses(tally):

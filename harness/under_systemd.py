@@ -22,7 +22,7 @@ import time
 
 import installing
 from ssikvd_harness.arguments import is_long, need, run_harness
-from ssikvd_harness.deviations import Deviation, Tally, expect, missing
+from ssikvd_harness.deviations import Deviation, Tally, expect, missing, wait_for
 from ssikvd_harness.examples import simple_client
 from ssikvd_harness.log_format import SECTOR, log_of, map_of
 from ssikvd_harness.server import folder
@@ -30,6 +30,7 @@ from ssikvd_harness.settings import PATIENCE
 from ssikvd_harness.tools import commit, in_own_namespaces, lacking
 from following import count_of, judge_kept, writers
 
+SLOWLY = 3 * PATIENCE    # what systemd does may take so long
 FOLDER = "/var/lib/ssikvd/"
 BACKUPS = "/var/lib/ssikvd-backups/"
 PORTS = {"shop": 7777, "hurt": 7801, "small": 7802, "tight": 7803, "wrong": 7804, "apart": 7805}
@@ -65,8 +66,8 @@ class Machine:
         with open(os.path.join(self.place, "console"), "ab") as console:
             self.process = subprocess.Popen(words, stdin=subprocess.DEVNULL, stdout=console, stderr=console,
                                             env={**os.environ, "SYSTEMD_NSPAWN_UNIFIED_HIERARCHY": "1"})
-        self.leader = wait_for("it doesn't boot", self._leader)
-        wait_for("systemd doesn't come up", lambda: self.run("systemctl", "is-system-running")[1].strip() in ("running", "degraded"))
+        self.leader = wait_for(self._leader, "it doesn't boot", SLOWLY)
+        wait_for(lambda: self.run("systemctl", "is-system-running")[1].strip() in ("running", "degraded"), "systemd doesn't come up", SLOWLY)
 
     def _leader(self):
         expect(self.process.poll() is None, "systemd-nspawn has ended: " + self.console())
@@ -143,17 +144,6 @@ class Machine:
         return map_of(log_of(self.path(f"{FOLDER}{instance}.data")))
 
 
-def wait_for(text, found, seconds=3 * PATIENCE):
-    """What is found at last; a deviation of this text where it isn't in time."""
-    end = time.monotonic() + seconds
-    while time.monotonic() < end:
-        result = found()
-        if result:
-            return result
-        time.sleep(0.05)
-    raise Deviation(text)
-
-
 def due_of(count):
     """The map after so many commits."""
     due = {}
@@ -199,8 +189,8 @@ def upgrade(machine, later):
     before = machine.main_process("shop")
     expect(before, "no server runs before the upgrade")
     machine.installed(later)
-    wait_for("the server isn't started again", lambda: machine.main_process("shop") not in (0, before))
-    wait_for("it isn't served after the upgrade", lambda: machine.run("ssikvd-probe", f"127.0.0.1:{PORTS['shop']}")[0] == 0)
+    wait_for(lambda: machine.main_process("shop") not in (0, before), "the server isn't started again", SLOWLY)
+    wait_for(lambda: machine.run("ssikvd-probe", f"127.0.0.1:{PORTS['shop']}")[0] == 0, "it isn't served after the upgrade", SLOWLY)
 
 
 def remove(machine):
@@ -239,7 +229,7 @@ def first_start(machine):
 def killed(machine):
     before = machine.main_process("shop")
     machine.done("systemctl", "kill", "--kill-whom=main", "--signal=KILL", "ssikvd@shop")
-    wait_for("it isn't started again", lambda: machine.main_process("shop") not in (0, before) and machine.is_active("ssikvd@shop"))
+    wait_for(lambda: machine.main_process("shop") not in (0, before) and machine.is_active("ssikvd@shop"), "it isn't started again", SLOWLY)
     committed(machine, "shop", 30, 60)
 
 
@@ -259,8 +249,8 @@ def fails_to_start(machine, instance, text):
     """It fails as often as the unit tries, and the journal says why. Started again it takes `reset-failed`."""
     machine.changed(f"ssikvd@{instance}.service", "[Service]\nRestartSec=100ms\n[Unit]\nStartLimitBurst=3\n")
     machine.run("systemctl", "start", f"ssikvd@{instance}")
-    wait_for("it doesn't give up", lambda: machine.shown(f"ssikvd@{instance}", "ActiveState") == "failed")
-    wait_for(f"the journal doesn't say that it {text}", lambda: text in machine.journal(f"ssikvd@{instance}"))
+    wait_for(lambda: machine.shown(f"ssikvd@{instance}", "ActiveState") == "failed", "it doesn't give up", SLOWLY)
+    wait_for(lambda: text in machine.journal(f"ssikvd@{instance}"), f"the journal doesn't say that it {text}", SLOWLY)
     machine.run("systemctl", "stop", f"ssikvd@{instance}")
     machine.done("systemctl", "reset-failed", f"ssikvd@{instance}")
 
@@ -304,7 +294,7 @@ def full_file(machine):
     found = machine.run("ssikvd-probe", "--used", "95", "--data", FOLDER + "small.data", f"127.0.0.1:{PORTS['small']}")
     expect(found[0] == 2, f"the probe of a full file says {found}")
     machine.done("systemctl", "start", "ssikvd-compact@small")
-    wait_for("it isn't served after a compaction", lambda: machine.run("ssikvd-probe", f"127.0.0.1:{PORTS['small']}")[0] == 0)
+    wait_for(lambda: machine.run("ssikvd-probe", f"127.0.0.1:{PORTS['small']}")[0] == 0, "it isn't served after a compaction", SLOWLY)
     simple_client.Client(PORTS["small"]).transact(lambda store: store.ask("SET", "a", count))
     expect(machine.contents("small") == {b"a": b"31"}, "a commit is lost")
 
@@ -313,7 +303,7 @@ def machine_killed(machine):
     """The whole machine is killed and booted again: what is enabled serves every commit."""
     machine.end()
     machine.boot()
-    wait_for("it isn't served once the machine was booted", lambda: machine.run("ssikvd-probe", f"127.0.0.1:{PORTS['shop']}")[0] == 0)
+    wait_for(lambda: machine.run("ssikvd-probe", f"127.0.0.1:{PORTS['shop']}")[0] == 0, "it isn't served once the machine was booted", SLOWLY)
     committed(machine, "shop", 61, 62)
     expect(machine.is_active("ssikvd-compact@shop.timer"), "its timer isn't active")
 
@@ -331,7 +321,7 @@ def timers(machine):
             time.sleep(0.5)
         expect(os.path.exists(old), "the timer hasn't compacted the file")
         expect(is_told(machine, begun), f"of metrics there are {os.listdir(machine.path('/run/ssikvd-metrics'))}")
-    wait_for("it isn't served after a compaction", lambda: machine.run("ssikvd-probe", f"127.0.0.1:{PORTS['shop']}")[0] == 0)
+    wait_for(lambda: machine.run("ssikvd-probe", f"127.0.0.1:{PORTS['shop']}")[0] == 0, "it isn't served after a compaction", SLOWLY)
     judge_kept(load, machine.contents("shop"))
     with open(machine.path("/run/ssikvd-metrics/ssikvd-shop-stat.prom"), encoding="ascii") as file:
         found = dict(re.findall(r"(?m)^ssikvd_stat_(\w+)\{.*\} (\S+)$", file.read()))
@@ -359,7 +349,7 @@ def compactions(machine):
     always_due(machine)
     with writers(PORTS["shop"], 0.01, 20) as load:
         for _ in range(2):
-            wait_for("clients aren't served", lambda before=count_of(load): count_of(load) > before + 50)
+            wait_for(lambda before=count_of(load): count_of(load) > before + 50, "clients aren't served", SLOWLY)
             begun = time.monotonic()
             machine.done("systemctl", "start", LOOKS)
         seconds = time.monotonic() - begun
@@ -380,15 +370,16 @@ def always_due(machine):
 def compaction_killed(machine, load, unit, seconds, is_repeated=False):
     """A compaction of which a unit is killed after so many seconds, from its start on or, where it is the second, from the server's stop on. Was the
     server stopped then?"""
-    wait_for("clients aren't served", lambda before=count_of(load): count_of(load) > before + 50)
+    wait_for(lambda before=count_of(load): count_of(load) > before + 50, "clients aren't served", SLOWLY)
     machine.done("systemctl", "start", "--no-block", LOOKS)
     if unit == SWAPS:
-        wait_for("the server isn't stopped", lambda: not machine.is_active("ssikvd@shop"))
+        wait_for(lambda: not machine.is_active("ssikvd@shop"), "the server isn't stopped", SLOWLY)
     time.sleep(seconds)
     was_active = machine.is_active("ssikvd@shop")
     killed_all(machine, unit)
-    wait_for("it goes on after a kill", lambda: has_ended(machine, unit) or is_repeated and killed_all(machine, unit))
-    wait_for("it isn't served after a compaction", lambda: machine.is_active("ssikvd@shop") and has_ended(machine, LOOKS) and has_ended(machine, SWAPS))
+    wait_for(lambda: has_ended(machine, unit) or is_repeated and killed_all(machine, unit), "it goes on after a kill", SLOWLY)
+    wait_for(lambda: machine.is_active("ssikvd@shop") and all(has_ended(machine, unit) for unit in (LOOKS, SWAPS)),
+             "it isn't served after a compaction", SLOWLY)
     return not was_active
 
 
@@ -408,9 +399,9 @@ def stopped_by_hand(machine):
         os.remove(state)
     machine.changed(LOOKS + ".service", "[Service]\nEnvironment=COMPACT_ABOVE=0\nExecCondition=sleep 2\n")
     machine.done("systemctl", "start", "--no-block", LOOKS)
-    wait_for("nothing is copied", lambda: os.path.exists(state))
+    wait_for(lambda: os.path.exists(state), "nothing is copied", SLOWLY)
     machine.done("systemctl", "stop", "ssikvd@shop")
-    wait_for("the compaction doesn't end", lambda: has_ended(machine, LOOKS))
+    wait_for(lambda: has_ended(machine, LOOKS), "the compaction doesn't end", SLOWLY)
     always_due(machine)
     stays_stopped(machine)
     machine.run("systemctl", "start", LOOKS)
@@ -473,7 +464,7 @@ def unmounted_folder(machine):
 
 def shipped_and_restored(machine):
     with writers(PORTS["shop"], 0.01, 30) as load:
-        wait_for("clients aren't served", lambda: count_of(load) > 100)
+        wait_for(lambda: count_of(load) > 100, "clients aren't served", SLOWLY)
         before = [key for writer in load for key in writer.acknowledged]
         machine.done("systemctl", "start", "ssikvd-ship@shop")
     copy = log_of(machine.path(BACKUPS + "shop.data"))

@@ -24,6 +24,7 @@ from ssikvd_harness.frames import OK, PONG, frame
 from ssikvd_harness.limits import OPEN_MAX, SESSIONS_MAX
 from ssikvd_harness.server import Server, create, folder
 from ssikvd_harness.settings import PATIENCE, PROGRAM
+from ssikvd_harness.tools import command
 
 SILENT, BETWEEN, PROBES = 120, 30, 4    # seconds before the first probe and between two, and how many go without an answer
 SHORTER = 30
@@ -99,10 +100,6 @@ class Served(Server):
         create(data, SECTORS)
         super().__init__(data, listen=listen)
         self.port = int(self.line.rsplit(b":", 1)[1])
-
-
-def command(*words):
-    subprocess.run(words, check=True, capture_output=True, timeout=PATIENCE)
 
 
 class Peers:

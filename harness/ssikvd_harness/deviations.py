@@ -1,8 +1,13 @@
 """What a harness found: deviations, and the tally that counts them."""
 import contextlib
 import subprocess
+import time
 from collections.abc import Callable, Iterator
-from typing import Any
+from typing import Any, TypeVar
+
+from .settings import PATIENCE
+
+Found = TypeVar("Found")
 
 
 class Deviation(Exception):
@@ -22,6 +27,15 @@ def is_refused(judge: Callable[..., object], *figures: Any) -> bool:
     except Deviation:
         return True
     return False
+
+
+def wait_for(found: Callable[[], Found], text: str, seconds: float = PATIENCE, pause: float = 0.01) -> Found:
+    """What is found at last; a deviation of this text where nothing is in time."""
+    end = time.monotonic() + seconds
+    while not (result := found()):
+        expect(time.monotonic() < end, text)
+        time.sleep(pause)
+    return result
 
 
 def missing(what: str, needed: str) -> None:

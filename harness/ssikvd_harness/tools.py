@@ -13,6 +13,7 @@ from importlib.util import module_from_spec, spec_from_loader
 from types import ModuleType
 from typing import Any
 
+from .deviations import expect
 from .examples import simple_client
 from .server import Server, create, folder
 from .settings import PATIENCE, PROGRAM, TOP, text_of
@@ -87,11 +88,18 @@ def lacking(programs: Iterable[tuple[str, str | None]]) -> str | None:
     return None
 
 
+def command(*words: str, seconds: float = 6 * PATIENCE) -> subprocess.CompletedProcess[bytes]:
+    """A command of the system, which must end with status 0."""
+    ran = subprocess.run(words, capture_output=True, timeout=seconds, check=False)
+    expect(ran.returncode == 0, f"{words[0]} ended with {ran.returncode} {ran.stderr[-300:]!r}")
+    return ran
+
+
 def in_own_namespaces(variable: str, *more: str) -> None:
     """Begins the harness again as a process with mounts and a network of its own, in which this variable is set; there it goes on."""
     if not os.environ.get(variable):
         os.execvpe("unshare", ["unshare", "--mount", "--net", *more, sys.executable, *sys.argv], {**os.environ, variable: "1"})
-    subprocess.run(["ip", "link", "set", "lo", "up"], check=True, capture_output=True, timeout=PATIENCE)
+    command("ip", "link", "set", "lo", "up")
 
 
 def promtool() -> str | None:
