@@ -74,6 +74,12 @@ def build() -> None:
         missing("what needs a file system of its own", "libfuse3-dev and pkg-config")
 
 
+def environment() -> dict[str, str]:
+    """That of each harness, which runs in this folder: programs that are named by a path from here are found there, too."""
+    named = {name: os.path.abspath(os.environ[name]) for name in ("SSIKVD", "REFUSED_MEMORY", "PLAIN_PLAY") if os.environ.get(name)}
+    return {**os.environ, **named, "PYTHONDONTWRITEBYTECODE": "1"}
+
+
 class Runs:
     """Runs of harnesses, and which of them failed."""
 
@@ -86,7 +92,7 @@ class Runs:
         name = os.path.join(OUT, f"{harness.name}.log")
         with open(name, "wb") as log:
             words = [sys.executable, os.path.join(HARNESS, f"{harness.name}.py"), self.form]
-            status = subprocess.run(words, cwd=HARNESS, stdout=log, stderr=subprocess.STDOUT, env={**os.environ, "PYTHONDONTWRITEBYTECODE": "1"}).returncode
+            status = subprocess.run(words, cwd=HARNESS, stdout=log, stderr=subprocess.STDOUT, env=environment()).returncode
         with self.printing, open(name, encoding="utf-8", errors="replace") as log:
             print(log.read(), end="", flush=True)
             if status:

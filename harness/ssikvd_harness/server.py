@@ -33,7 +33,7 @@ def folder() -> Iterator[str]:
         shutil.rmtree(name, ignore_errors=True)
 
 
-def run(words: Sequence[str], stdin: bytes = b"", environment: Environment | None = None, closed: Iterable[int] = (),
+def run(words: Sequence[str | bytes], stdin: bytes = b"", environment: Environment | None = None, closed: Iterable[int] = (),
         seconds: float = PATIENCE) -> Ended:
     """A command that ends by itself, some of whose standard streams may be closed: its status, output and error output."""
     ran = subprocess.run(
