@@ -29,7 +29,7 @@ def is_refused(judge: Callable[..., object], *figures: Any) -> bool:
     return False
 
 
-def wait_for(found: Callable[[], Found], text: str, seconds: float = PATIENCE, pause: float = 0.01) -> Found:
+def wait_for(found: Callable[[], Found], text: str, seconds: float = PATIENCE, pause: float = 0.02) -> Found:
     """What is found at last; a deviation of this text where nothing is in time."""
     end = time.monotonic() + seconds
     while not (result := found()):

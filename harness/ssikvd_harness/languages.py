@@ -88,6 +88,7 @@ PACKAGES = [
             "javac -d out src/main/java/ssikvd/*.java src/test/java/ssikvd/*.java"),
 ]
 
+
 class Client(Protocol):
     """What a run is of: a package, or an example client."""
 
