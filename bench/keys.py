@@ -2,8 +2,8 @@
 """What keys and connections cost `serve`: memory, and the time from its start to its line `listening`.
 
 For each number of keys a data file is written, 64 keys a record, by rising keys or in a random order, and the program is started over it.
-Keys have 9 bytes and values 100, as in run.py. Then connections are opened of which each sends one PING. The table is that of
-docs/OPERATIONS.md.
+Keys have 9 bytes and values 100, as in run.py. Then connections are opened of which each sends one PING. The figures of
+docs/OPERATIONS.md, "Memory", are from its table.
 """
 import argparse
 import hashlib
