@@ -1,5 +1,5 @@
 -- What writes and syncs change in the slots of a device in memory.
-use Rattle.std.proofs.Common.{◌≡◌, ◌≢◌, ℕ, zero, suc, ◌+◌, ◌<◌, replicate, All, List, [], ◌∷◌, ◌++◌, length, map, set}
+use Rattle.std.proofs.Common.{◌≡◌, ℕ, zero, suc, ◌+◌, ◌<◌, replicate, All, List, [], ◌∷◌, ◌++◌, length, map, set}
 use Rattle.std.proofs.Common.{get_or, slice_get, take, drop, None, Some, refl, sym, ◌∙◌, ap, arith, append_assoc}
 use Rattle.std.proofs.Common.{take-append-drop}
 use Rattle.std.proofs.Math.Seq.{map-set_same}
@@ -14,14 +14,6 @@ use Rattle.sector.specs.declared.memory.Slot.{Slot}
 pub written-settled : (slots : List Slot) → written (map settled_slot slots) ≡ written slots
 written-settled [] = refl
 written-settled (slot ∷ slots) = ap (λ (l : List (List ℕ)). slot.written ∷ l) (written-settled slots)
-
-pub written_at : (slots : List Slot) (at : ℕ) (slot : Slot) (s : List ℕ) → slice_get (written (set slots at slot)) at ≡ Some s → s ≡ slot.written
-written_at (x ∷ slots) (suc at) slot s found = written_at slots at slot s found
-written_at slots at slot s found = cc
-
-pub written_elsewhere : (slots : List Slot) (at : ℕ) (slot : Slot) (i : ℕ) → i ≢ at → slice_get (written (set slots at slot)) i ≡ slice_get (written slots) i
-written_elsewhere (x ∷ slots) (suc at) slot (suc i) other = written_elsewhere slots at slot i (λ same. other (ap suc same))
-written_elsewhere slots at slot i other = grind (arith, common_steps)
 
 pub unsettled : (slots : List Slot) (at : ℕ) (slot : Slot) → FollowsWrite at (MayLeave slots) (MayLeave (set slots at slot))
 unsettled [] at slot [] left = ([], left, ([], refl))

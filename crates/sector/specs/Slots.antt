@@ -2,8 +2,8 @@
 use Rattle.std.proofs.Common.{ap}
 use Rattle.std.specs.Borrow.{Bor}
 use Rattle.std.specs.Option.{is_none}
-use Rattle.std.specs.Prelude.{◌≡◌, ◌⊎◌, ◌<◌, ◌-◌, ℕ, suc, Bool, List, [], ◌∷◌, length, map, slice_get, slice_index_or}
-use Rattle.std.specs.Prelude.{All, Some, None, IfSome, unwrap_or, refl}
+use Rattle.std.specs.Prelude.{◌≡◌, ◌⊎◌, ◌<◌, ◌-◌, ℕ, suc, Bool, false, List, [], ◌∷◌, length, map, slice_get}
+use Rattle.std.specs.Prelude.{slice_index_or, slice_set, All, Some, None, IfSome, unwrap_or, refl}
 use Rattle.sector.specs.Failures.{greatest}
 use Rattle.sector.specs.declared.memory.MemSectors.{MemSectors}
 use Rattle.sector.specs.declared.memory.Slot.{Slot}
@@ -84,6 +84,12 @@ pub record HasSameSectors (old new : MemSectors) : Type 0 where
   pub content : image new ≡ image old
   pub settled : settled_image new ≡ settled_image old
   pub which : settled_sectors new ≡ settled_sectors old
+
+-- this was written to the sector at this place, which is unsettled, and the others are as they were
+pub record IsWritten (at : ℕ) (sector : List ℕ) (old new : MemSectors) : Type 0 where
+  pub content : image new ≡ slice_set (image old) at sector
+  pub settled : settled_image new ≡ settled_image old
+  pub which : settled_sectors new ≡ slice_set (settled_sectors old) at false
 
 -- each sector is settled, and holds the same
 abbrev pub IsSettledAs : MemSectors → MemSectors → Type 0

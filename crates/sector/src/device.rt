@@ -1,7 +1,8 @@
 //! The device as the crates above see it.
-ghost use Rattle.std.specs.Prelude.{◌≡◌, ◌≢◌, ◌<◌, ◌≤◌, ◌+◌, ◌/◌, ◌%◌, ◌^◌, ℕ, List, length, OnOk, OnErr};
-ghost use Rattle.sector.specs.Failures.{Rose, Stayed, StayedOver};
-ghost use Rattle.sector.specs.SectorModel.{FollowsBytes, FollowsWrite, LeavesNoMore, MightRead, ReadsBytes};
+ghost use Rattle.std.specs.Prelude.{◌≡◌, ◌≢◌, ◌<◌, ◌≤◌, ◌/◌, ℕ, List, length, OnOk, OnErr};
+ghost use Rattle.sector.specs.Failures.{AreCounted, IsCounted};
+ghost use Rattle.sector.specs.SectorModel.{AreWithin, FollowsBytes, FollowsWrite, LeavesNoMore, MightRead};
+ghost use Rattle.sector.specs.SectorModel.{ReadsBytes};
 ghost use Rattle.sector.specs.SectorModel.{ReadsNoMore, ReadsNoMoreOutside, Syncs, TimeGoesOn};
 
 use thiserror::Error;
@@ -54,8 +55,7 @@ pub trait Sectors: Drop {
     fn read(&mut self, at: u64, into: &mut Sector) -> Result<(), DeviceFault>
         requires { at < size self.old }
         ensures size { size self.new ≡ size self.old }
-        ensures ok { OnOk result (Stayed (failures self.old) (failures self.new)) }
-        ensures fault { OnErr result (Rose (failures self.old) (failures self.new)) }
+        ensures failures { IsCounted result (failures self.old) (failures self.new) }
         ensures gives { keeps_model → OnOk result (may_read self.old at into.new) }
         ensures reads { keeps_model → ReadsNoMore (may_read self.old) (may_read self.new) }
         ensures crash { keeps_model → LeavesNoMore (may_leave self.old) (may_leave self.new) }
@@ -66,8 +66,7 @@ pub trait Sectors: Drop {
     fn write(&mut self, at: u64, from: &Sector) -> Result<(), DeviceFault>
         requires { at < size self.old }
         ensures size { size self.new ≡ size self.old }
-        ensures ok { OnOk result (Stayed (failures self.old) (failures self.new)) }
-        ensures fault { OnErr result (Rose (failures self.old) (failures self.new)) }
+        ensures failures { IsCounted result (failures self.old) (failures self.new) }
         ensures written { keeps_model → OnOk result ((s : List ℕ) → may_read self.new at s → s ≡ from.now) }
         ensures others { keeps_model → (i : ℕ) (s : List ℕ) → i ≢ at → may_read self.new i s → may_read self.old i s }
         ensures crash { keeps_model → FollowsWrite at (may_leave self.old) (may_leave self.new) }
@@ -76,12 +75,9 @@ pub trait Sectors: Drop {
     /// Reads whole sectors, as calls of `read` one after the other until one fails. After a `DeviceFault` the bytes of `into` may be
     /// any. Takes no memory.
     fn read_sectors(&mut self, at: u64, into: &mut [u8]) -> Result<(), DeviceFault>
-        requires whole { length into.old % 512 ≡ 0 }
-        requires room { at + length into.old / 512 ≤ size self.old }
-        requires fits { at + length into.old / 512 < 2 ^ 64 }
+        requires { AreWithin (size self.old) at into.old }
         ensures size { size self.new ≡ size self.old }
-        ensures ok { OnOk result (StayedOver (length into.old / 512) (failures self.old) (failures self.new)) }
-        ensures fault { OnErr result (Rose (failures self.old) (failures self.new)) }
+        ensures failures { AreCounted (length into.old / 512) result (failures self.old) (failures self.new) }
         ensures gives { keeps_model → OnOk result (MightRead (may_read self.old) at (length into.old / 512) into.new) }
         ensures reads { keeps_model → ReadsNoMore (may_read self.old) (may_read self.new) }
         ensures crash { keeps_model → LeavesNoMore (may_leave self.old) (may_leave self.new) }
@@ -98,12 +94,9 @@ pub trait Sectors: Drop {
     /// Writes whole sectors, as calls of `write` one after the other until one fails. Until a sync succeeds a crash may leave anything in
     /// each of them, and after a `DeviceFault` a read of one may give anything. Takes no memory.
     fn write_sectors(&mut self, at: u64, from: &[u8]) -> Result<(), DeviceFault>
-        requires whole { length from.now % 512 ≡ 0 }
-        requires room { at + length from.now / 512 ≤ size self.old }
-        requires fits { at + length from.now / 512 < 2 ^ 64 }
+        requires { AreWithin (size self.old) at from.now }
         ensures size { size self.new ≡ size self.old }
-        ensures ok { OnOk result (StayedOver (length from.now / 512) (failures self.old) (failures self.new)) }
-        ensures fault { OnErr result (Rose (failures self.old) (failures self.new)) }
+        ensures failures { AreCounted (length from.now / 512) result (failures self.old) (failures self.new) }
         ensures written { keeps_model → OnOk result (ReadsBytes (may_read self.new) at from.now) }
         ensures others { keeps_model → ReadsNoMoreOutside at (length from.now / 512) (may_read self.old) (may_read self.new) }
         ensures crash { keeps_model → LeavesNoMore (FollowsBytes at from.now (may_leave self.old)) (may_leave self.new) }
@@ -120,8 +113,7 @@ pub trait Sectors: Drop {
     /// Settles every sector: from then on a crash leaves what a read gives. A `DeviceFault` settles nothing. Takes no memory.
     fn sync(&mut self) -> Result<(), DeviceFault>
         ensures size { size self.new ≡ size self.old }
-        ensures ok { OnOk result (Stayed (failures self.old) (failures self.new)) }
-        ensures fault { OnErr result (Rose (failures self.old) (failures self.new)) }
+        ensures failures { IsCounted result (failures self.old) (failures self.new) }
         ensures settles { keeps_model → OnOk result (Syncs size may_read may_leave self.old self.new) }
         ensures reads { keeps_model → OnErr result (ReadsNoMore (may_read self.old) (may_read self.new)) }
         ensures crash { keeps_model → LeavesNoMore (may_leave self.old) (may_leave self.new) }

@@ -5,7 +5,7 @@ ghost use Rattle.std.specs.IoError.{error_kind};
 ghost use Rattle.file_calls.specs.HappenedCalls.{WasClosed, WasOpened, WasOpenedToRead, WasRead, WasWritten};
 ghost use Rattle.file_calls.specs.HappenedCalls.{WasSynced, HadNameSettled, HadCopiesDropped};
 ghost use Rattle.file_calls.specs.OpenFacts.{next};
-ghost use Rattle.sector.specs.Failures.{Rose, Stayed, Tells, greatest};
+ghost use Rattle.sector.specs.Failures.{IsCounted, Tells, greatest};
 ghost use Rattle.sector.specs.FileOpening.{WasMadeOfZeros, WasOpenedWhole, WasOpenedWholeToRead, IsWhole};
 ghost use Rattle.sector.specs.FileOpening.{WhyNotOpened};
 
@@ -113,8 +113,7 @@ impl FileSectors {
     fn told(&mut self, outcome: io::Result<()>) -> Result<(), DeviceFault>
         ensures told { IsOk result ↔ (IsOk outcome × (self.old.failures < greatest)) }
         ensures file { self.new.file ≡ self.old.file }
-        ensures ok { OnOk result (Stayed self.old.failures self.new.failures) }
-        ensures fault { OnErr result (Rose self.old.failures self.new.failures) }
+        ensures failures { IsCounted result self.old.failures self.new.failures }
     {
         if outcome.is_ok() && self.failures < u64::MAX {
             return Ok(());
@@ -218,8 +217,7 @@ impl Sectors for FileSectors {
     /// It makes one call of the file: one that failed isn't tried again.
     fn read(&mut self, at: u64, into: &mut Sector) -> Result<(), DeviceFault>
         requires { at ≤ self.old.file.sectors }
-        ensures ok { OnOk result (Stayed self.old.failures self.new.failures) }
-        ensures fault { OnErr result (Rose self.old.failures self.new.failures) }
+        ensures failures { IsCounted result self.old.failures self.new.failures }
         ensures long { length into.new ≡ 512 }
         ensures one_call { self.new.file ≡ next self.old.file }
         ensures happened { Tells result self.old.failures (WasRead self.old.file (at * 512) into.new) }
@@ -230,8 +228,7 @@ impl Sectors for FileSectors {
     /// It makes one call of the file: one that failed isn't tried again.
     fn write(&mut self, at: u64, from: &Sector) -> Result<(), DeviceFault>
         requires { at ≤ self.old.file.sectors }
-        ensures ok { OnOk result (Stayed self.old.failures self.new.failures) }
-        ensures fault { OnErr result (Rose self.old.failures self.new.failures) }
+        ensures failures { IsCounted result self.old.failures self.new.failures }
         ensures long { length from.now ≡ 512 }
         ensures one_call { self.new.file ≡ next self.old.file }
         ensures happened { Tells result self.old.failures (WasWritten self.old.file (at * 512) from.now) }
@@ -242,8 +239,7 @@ impl Sectors for FileSectors {
     /// It makes one call of the file: one that failed isn't tried again.
     fn read_sectors(&mut self, at: u64, into: &mut [u8]) -> Result<(), DeviceFault>
         requires { at ≤ self.old.file.sectors }
-        ensures ok { OnOk result (Stayed self.old.failures self.new.failures) }
-        ensures fault { OnErr result (Rose self.old.failures self.new.failures) }
+        ensures failures { IsCounted result self.old.failures self.new.failures }
         ensures long { length into.new ≡ length into.old }
         ensures one_call { self.new.file ≡ next self.old.file }
         ensures happened { Tells result self.old.failures (WasRead self.old.file (at * 512) into.new) }
@@ -255,8 +251,7 @@ impl Sectors for FileSectors {
     /// It makes one call of the file: one that failed isn't tried again.
     fn write_sectors(&mut self, at: u64, from: &[u8]) -> Result<(), DeviceFault>
         requires { at ≤ self.old.file.sectors }
-        ensures ok { OnOk result (Stayed self.old.failures self.new.failures) }
-        ensures fault { OnErr result (Rose self.old.failures self.new.failures) }
+        ensures failures { IsCounted result self.old.failures self.new.failures }
         ensures one_call { self.new.file ≡ next self.old.file }
         ensures happened { Tells result self.old.failures (WasWritten self.old.file (at * 512) from.now) }
     {
@@ -267,8 +262,7 @@ impl Sectors for FileSectors {
     /// It makes one call of the file: one that failed isn't tried again. Of a file that was opened, the first that succeeds then drops the
     /// system's copies of its pages; where these can't be dropped, it fails.
     fn sync(&mut self) -> Result<(), DeviceFault>
-        ensures ok { OnOk result (Stayed self.old.failures self.new.failures) }
-        ensures fault { OnErr result (Rose self.old.failures self.new.failures) }
+        ensures failures { IsCounted result self.old.failures self.new.failures }
         ensures one_call { self.new.file ≡ next self.old.file }
         ensures happened { (ok : Bool) × WasSynced self.old.file ok × (IsOk result → ok ≡ true) }
 

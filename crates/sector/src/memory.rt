@@ -1,8 +1,8 @@
 //! A device in memory, which a test can make fail and crash.
-ghost use Rattle.std.specs.Prelude.{◌≡◌, ◌≢◌, ◌<◌, ◌≤◌, ◌*◌, ◌%◌, ◌^◌, ◌↔◌, ℕ, List, length, false, IfOk, OnOk};
-ghost use Rattle.std.specs.Prelude.{OnErr, IsErr, IsTrue, MatchBool, MatchResult, slice_set, map, replicate};
+ghost use Rattle.std.specs.Prelude.{◌≡◌, ◌<◌, ◌≤◌, ◌%◌, ◌^◌, ◌↔◌, length, IfOk, OnOk};
+ghost use Rattle.std.specs.Prelude.{IsErr, IsTrue, MatchBool, MatchResult, map, replicate};
 ghost use Rattle.std.specs.List.{concat};
-ghost use Rattle.sector.specs.Failures.{Rose, Stayed};
+ghost use Rattle.sector.specs.Failures.{IsCounted, Rose, Stayed};
 ghost use Rattle.sector.specs.Settled.{AreSettledBefore, AreSettledFrom};
 
 use crate::{DeviceFault, SECTOR_SIZE, Sector, Sectors};
@@ -209,9 +209,9 @@ impl Slot {
 }
 
 impl Sectors for MemSectors {
-    ghost use Rattle.sector.specs.SectorModel.{FollowsWrite, LeavesNoMore, ReadsNoMore, Syncs, TimeGoesOn};
-    ghost use Rattle.sector.specs.Slots.{image, settled_image, settled_sectors, MayBeLeft, MayRead, length-left};
-    ghost use Rattle.sector.specs.Slots.{IsSettledAs, HasSameSectors, FailsNext, CountsDown};
+    ghost use Rattle.sector.specs.SectorModel.{FollowsWrite, LeavesNoMore, Syncs};
+    ghost use Rattle.sector.specs.Slots.{MayBeLeft, MayRead, length-left, IsSettledAs, IsWritten};
+    ghost use Rattle.sector.specs.Slots.{HasSameSectors, FailsNext, CountsDown};
 
     ghost size = { λ m. length m.slots.items };
 
@@ -240,19 +240,15 @@ impl Sectors for MemSectors {
     fn read(&mut self, at: u64, into: &mut Sector) -> Result<(), DeviceFault>
         requires { at < length self.old.slots.items }
         ensures size { length self.new.slots.items ≡ length self.old.slots.items }
-        ensures ok { OnOk result (Stayed self.old.failures self.new.failures) }
-        ensures fault { OnErr result (Rose self.old.failures self.new.failures) }
-        ensures gives { Unit {0} → OnOk result (MayRead self.old at into.new) }
-        ensures reads { Unit {0} → ReadsNoMore (MayRead self.old) (MayRead self.new) }
-        ensures crash { Unit {0} → LeavesNoMore (MayBeLeft self.old) (MayBeLeft self.new) }
-        ensures time { Unit {0} → TimeGoesOn (λ m. 0) (λ m t. MayBeLeft m) self.old self.new (MayBeLeft self.new) }
+        ensures failures { IsCounted result self.old.failures self.new.failures }
+        ensures gives { OnOk result (MayRead self.old at into.new) }
 
         // The call fails exactly where it was to fail, or the count of failures stands at its end.
         ensures told { IsErr result ↔ FailsNext self.old }
         ensures next { CountsDown self.old self.new }
 
         // A read settles nothing.
-        ensures sectors { HasSameSectors self.old self.new }
+        ensures sectors { self.new.slots ≡ self.old.slots }
     {
         if self.fails() {
             return Err(DeviceFault);
@@ -264,21 +260,15 @@ impl Sectors for MemSectors {
     fn write(&mut self, at: u64, from: &Sector) -> Result<(), DeviceFault>
         requires { at < length self.old.slots.items }
         ensures size { length self.new.slots.items ≡ length self.old.slots.items }
-        ensures ok { OnOk result (Stayed self.old.failures self.new.failures) }
-        ensures fault { OnErr result (Rose self.old.failures self.new.failures) }
-        ensures written { Unit {0} → OnOk result ((s : List ℕ) → MayRead self.new at s → s ≡ from.now) }
-        ensures others { Unit {0} → (i : ℕ) (s : List ℕ) → i ≢ at → MayRead self.new i s → MayRead self.old i s }
-        ensures crash { Unit {0} → FollowsWrite at (MayBeLeft self.old) (MayBeLeft self.new) }
-        ensures time { Unit {0} → TimeGoesOn (λ m. 0) (λ m t. MayBeLeft m) self.old self.new (MayBeLeft self.new) }
+        ensures failures { IsCounted result self.old.failures self.new.failures }
+        ensures crash { FollowsWrite at (MayBeLeft self.old) (MayBeLeft self.new) }
 
         // The call fails exactly where it was to fail, or the count of failures stands at its end.
         ensures told { IsErr result ↔ FailsNext self.old }
         ensures next { CountsDown self.old self.new }
 
         // Whether or not it failed, the sector was written and is unsettled, and the others are as they were.
-        ensures content { image self.new ≡ slice_set (image self.old) at from.now }
-        ensures settled { settled_image self.new ≡ settled_image self.old }
-        ensures unsettled { settled_sectors self.new ≡ slice_set (settled_sectors self.old) at false }
+        ensures sectors { IsWritten at from.now self.old self.new }
     {
         let fails = self.fails();
         self.unsettled = self.unsettled.with(at as usize);
@@ -294,12 +284,9 @@ impl Sectors for MemSectors {
 
     fn sync(&mut self) -> Result<(), DeviceFault>
         ensures size { length self.new.slots.items ≡ length self.old.slots.items }
-        ensures ok { OnOk result (Stayed self.old.failures self.new.failures) }
-        ensures fault { OnErr result (Rose self.old.failures self.new.failures) }
-        ensures settles { Unit {0} → OnOk result (Syncs (λ m. length m.slots.items) MayRead MayBeLeft self.old self.new) }
-        ensures reads { Unit {0} → OnErr result (ReadsNoMore (MayRead self.old) (MayRead self.new)) }
-        ensures crash { Unit {0} → LeavesNoMore (MayBeLeft self.old) (MayBeLeft self.new) }
-        ensures time { Unit {0} → TimeGoesOn (λ m. 0) (λ m t. MayBeLeft m) self.old self.new (MayBeLeft self.new) }
+        ensures failures { IsCounted result self.old.failures self.new.failures }
+        ensures settles { OnOk result (Syncs (λ m. length m.slots.items) MayRead MayBeLeft self.old self.new) }
+        ensures crash { LeavesNoMore (MayBeLeft self.old) (MayBeLeft self.new) }
 
         // The call fails exactly where it was to fail, or the count of failures stands at its end.
         ensures told { IsErr result ↔ FailsNext self.old }

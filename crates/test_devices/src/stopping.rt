@@ -1,6 +1,6 @@
 //! A device in memory that is stopped after so many calls.
-ghost use Rattle.std.specs.Prelude.{◌≡◌, ◌≤◌, ◌<◌, ◌^◌, ◌-◌, length, OnOk, OnErr};
-ghost use Rattle.sector.specs.Failures.{Rose, Stayed};
+ghost use Rattle.std.specs.Prelude.{◌≡◌, length};
+ghost use Rattle.sector.specs.Failures.{IsCounted};
 
 use sector::{DeviceFault, MemSectors, Sector, Sectors};
 
@@ -35,8 +35,7 @@ impl Stopping {
 
     fn told(&mut self, outcome: Result<(), DeviceFault>) -> Result<(), DeviceFault>
         ensures device { self.new.device ≡ self.old.device }
-        ensures ok { OnOk result (Stayed self.old.failures self.new.failures) }
-        ensures fault { OnErr result (Rose self.old.failures self.new.failures) }
+        ensures counted { IsCounted result self.old.failures self.new.failures }
     {
         if outcome.is_ok() && self.failures < u64::MAX {
             return Ok(());

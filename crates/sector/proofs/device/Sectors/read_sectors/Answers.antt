@@ -10,7 +10,10 @@ returns-in_err-read-clause-time g c keeps =
 pub loop-k-preserved : goal.loop-k-preserved
 loop-k-preserved g c = record {
   size = c.read.ensures.size ∙ c.loop-k.invariant.size;
-  failures = (c.in_ok-read.ensures.ok.0 ∙ c.loop-k.invariant.failures.0, λ some. omega (arith, c.in_ok-read.ensures.ok.1, c.loop-k.invariant.failures.0));
+  failures = (
+    c.in_ok-read.ensures.failures.0 ∙ c.loop-k.invariant.failures.0,
+    λ some. omega (arith, c.in_ok-read.ensures.failures.1, c.loop-k.invariant.failures.0),
+  );
   gives = λ keeps.
       let here : g.Self.Sectors.may_read c.args.self.now (c.args.at + c.loop-k.k) c.copy_from_slice.new.self =
       subst (λ (s : List ℕ). g.Self.Sectors.may_read c.args.self.now (c.args.at + c.loop-k.k) s) (sym c.copy_from_slice.ensures.after)

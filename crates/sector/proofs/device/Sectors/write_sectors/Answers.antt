@@ -19,7 +19,10 @@ returns-in_err-write-clause-time g c keeps =
 pub loop-k-preserved : goal.loop-k-preserved
 loop-k-preserved g c = record {
   size = c.write.ensures.size ∙ c.loop-k.invariant.size;
-  failures = (c.in_ok-write.ensures.ok.0 ∙ c.loop-k.invariant.failures.0, λ some. omega (arith, c.in_ok-write.ensures.ok.1, c.loop-k.invariant.failures.0));
+  failures = (
+    c.in_ok-write.ensures.failures.0 ∙ c.loop-k.invariant.failures.0,
+    λ some. omega (arith, c.in_ok-write.ensures.failures.1, c.loop-k.invariant.failures.0),
+  );
   written = λ keeps.
       let len : (512 * c.loop-k.k + 512) - 512 * c.loop-k.k ≡ 512 = omega arith in
       written_more c.args.at c.loop-k.k _ _ _ (c.loop-k.invariant.written keeps) (c.write.ensures.others keeps)

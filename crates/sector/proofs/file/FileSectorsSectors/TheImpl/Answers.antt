@@ -28,8 +28,7 @@ write-tells x c =
     λ keeps. keeps.writes _ _ _ _ c.ensures.happened.1 in
     record {
       size = search rules;
-      ok = c.ensures.ok;
-      fault = c.ensures.fault;
+      failures = c.ensures.failures;
       written = λ keeps. grind (arith, common_steps, written_one _ _ _ _ c.ensures.long (keep keeps));
       others = grind (arith, common_steps);
       crash = λ keeps. rw c.ensures.one_call (follows_one _ _ _ _ c.ensures.long (keep keeps));

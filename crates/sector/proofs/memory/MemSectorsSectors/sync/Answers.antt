@@ -4,12 +4,12 @@ use Rattle.sector.proofs.Slots.{settles, fewer, written-settled, all_settled}
 use Rattle.sector.specs.Slots.{written, settled_slot, IsSettledSlot}
 
 pub returns-else-fails-clause-settles : goal.returns-else-fails-clause-settles
-returns-else-fails-clause-settles c keeps =
+returns-else-fails-clause-settles c =
     let is : c.settle_all.new.slots.items ≡ map settled_slot c.args.self.now.slots.items = rw c.fails.ensures.slots at c.settle_all.ensures in
     settles c.args.self.now.slots.items c.settle_all.new.slots.items is
 
 pub returns-else-fails-clause-crash : goal.returns-else-fails-clause-crash
-returns-else-fails-clause-crash c keeps image left =
+returns-else-fails-clause-crash c image left =
     let is : c.settle_all.new.slots.items ≡ map settled_slot c.args.self.now.slots.items = rw c.fails.ensures.slots at c.settle_all.ensures in
     fewer c.args.self.now.slots.items image (rw is at left)
 
