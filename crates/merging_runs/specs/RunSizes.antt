@@ -88,6 +88,20 @@ wholes_of rs = map (λ r. r.left + r.made) rs
 abbrev pub AtMostMoved : ℕ → ℕ → ℕ → List RunSize → List RunSize → Type 0
 AtMostMoved each o n old new = left_above o old ≤ left_above o new + each * n
 
+-- Of a run, so many moves of so many elements at most were made. Where a move takes one alone, each is kept.
+pub record IsMerged (each moves : ℕ) (old new : RunSize) : Type 0 where
+  pub last : new.last ≡ old.last
+  pub whole : each ≡ 1 → new.left + new.made ≡ old.left + old.made
+  pub moved : new.left + moves ≤ old.left
+  pub slowly : old.left ≤ new.left + each * moves
+
+-- so it is of these runs, which have numbers above that one where something was moved
+pub record AreMerged (each o moves : ℕ) (old new : List RunSize) : Type 0 where
+  pub lasts : lasts_of new ≡ lasts_of old
+  pub wholes : each ≡ 1 → wholes_of new ≡ wholes_of old
+  pub moved : left_above o new + moves ≤ left_above o old
+  pub slowly : AtMostMoved each o moves old new
+
 -- where nothing was left to move behind the place, nothing is left from it on
 abbrev pub RestsFrom : ℕ → ℕ → List RunSize → List RunSize → Type 0
 RestsFrom o place old new = left_above o (drop (place + 1) old) ≡ 0 → left_above o (drop place new) ≡ 0

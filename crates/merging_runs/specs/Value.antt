@@ -1,6 +1,6 @@
 -- What `Runs` holds as contracts see it.
 use Rattle.std.specs.Prelude.{◌≡◌, ◌≤◌, ◌<◌, ℕ, ◌+◌, ◌^◌, nat_le, if◌then◌else◌, List, map, Option, Some, None}
-use Rattle.merging_runs.specs.Held.{Held, HeldRun, mixed_upto, size_upto}
+use Rattle.merging_runs.specs.Held.{Held, HeldRun, IsSameBut, mixed_upto, size_upto}
 use Rattle.merging_runs.specs.RunSizes.{RunSize}
 
 -- the runs, how many more fit without memory, how far each is merged, how much they hold, and how often memory for a
@@ -11,6 +11,13 @@ pub record RunsValue (R : Type 0) : Type 0 where
   pub sizes : List RunSize
   pub held : Held
   pub refused : ℕ
+
+-- nothing has changed but how much there is still to give back of the run that was taken out
+pub record OnlyGivesBack {R : Type 0} (old new : RunsValue R) : Type 0 where
+  pub runs : new.runs ≡ old.runs
+  pub held : IsSameBut old.held new.held
+  pub sizes : new.sizes ≡ old.sizes
+  pub refused : new.refused ≡ old.refused
 
 -- how much there is to give back of a run of so many elements: one more
 abbrev pub held_of : {R : Type 0} → (R → ℕ) → (R → RunSize) → (R → ℕ) → R → HeldRun

@@ -1,8 +1,7 @@
 //! Runs of a like size made into one, some elements at a time.
-ghost use Rattle.std.specs.Prelude.{◌≡◌, ◌≤◌, ◌<◌, ◌+◌, ◌-◌, ◌*◌, [], ◌∷◌, true, false, map, take, drop};
+ghost use Rattle.std.specs.Prelude.{◌≡◌, ◌≤◌, ◌<◌, ◌-◌, [], ◌∷◌, true, false, map, take, drop};
 ghost use Rattle.std.specs.Vec.{vec_len};
-ghost use Rattle.merging_runs.specs.RunSizes.{AtMostMoved, EndsIf, IsMoved, IsTried, RestsFrom, has_alike, lasts_of};
-ghost use Rattle.merging_runs.specs.RunSizes.{left_above, wholes_of};
+ghost use Rattle.merging_runs.specs.RunSizes.{AreMerged, EndsIf, IsMerged, IsMoved, IsTried, RestsFrom, has_alike};
 
 use crate::run::Run;
 
@@ -48,11 +47,8 @@ pub(crate) fn open_last<R: Run>(runs: &mut Vec<R>, oldest: u64, refused: &mut u6
 fn move_on<R: Run>(run: &mut R, oldest: u64, most: usize) -> usize
     requires { oldest < (R.sizes run.old).last }
     ensures agree { R.agree oldest (run.new ∷ []) (run.old ∷ []) }
-    ensures last { (R.sizes run.new).last ≡ (R.sizes run.old).last }
-    ensures whole { R.each ≡ 1 → (R.sizes run.new).left + (R.sizes run.new).made ≡ (R.sizes run.old).left + (R.sizes run.old).made }
     ensures most { result ≤ most }
-    ensures moved { (R.sizes run.new).left + (most - result) ≤ (R.sizes run.old).left }
-    ensures slowly { (R.sizes run.old).left ≤ (R.sizes run.new).left + R.each * (most - result) }
+    ensures merged { IsMerged R.each (most - result) (R.sizes run.old) (R.sizes run.new) }
     ensures ended { 0 < result → (R.sizes run.new).left ≡ 0 }
 {
     for moved in 0..most {
@@ -68,11 +64,8 @@ fn move_on<R: Run>(run: &mut R, oldest: u64, most: usize) -> usize
 fn move_at<R: Run>(runs: &mut Vec<R>, place: usize, oldest: u64, most: usize) -> usize
     ensures agree { R.agree oldest runs.new.items runs.old.items }
     ensures most { result ≤ most }
-    ensures lasts { lasts_of (map R.sizes runs.new.items) ≡ lasts_of (map R.sizes runs.old.items) }
-    ensures wholes { R.each ≡ 1 → wholes_of (map R.sizes runs.new.items) ≡ wholes_of (map R.sizes runs.old.items) }
     ensures len { vec_len runs.new ≡ vec_len runs.old }
-    ensures moved { left_above oldest (map R.sizes runs.new.items) + (most - result) ≤ left_above oldest (map R.sizes runs.old.items) }
-    ensures slowly { AtMostMoved R.each oldest (most - result) (map R.sizes runs.old.items) (map R.sizes runs.new.items) }
+    ensures merged { AreMerged R.each oldest (most - result) (map R.sizes runs.old.items) (map R.sizes runs.new.items) }
     ensures ended { 0 < result → RestsFrom oldest place (map R.sizes runs.old.items) (map R.sizes runs.new.items) }
 {
     if place >= runs.len() {

@@ -2,7 +2,7 @@
 ghost use Rattle.std.specs.Prelude.{◌≡◌, ◌≤◌, ◌<◌, ◌+◌, ◌-◌, ◌^◌, ◌++◌, ◌||◌, ℕ, Bool, true, false, List, [], ◌∷◌};
 ghost use Rattle.std.specs.Prelude.{min, IfSome, ⊤};
 ghost use Rattle.merging_runs.specs.Next.{IsNext};
-ghost use Rattle.merging_runs.specs.RunSizes.{IsSwept, RunSize, joined};
+ghost use Rattle.merging_runs.specs.RunSizes.{IsMerged, IsSwept, RunSize, joined};
 
 use crate::give_back::GiveBack;
 use std::alloc::Global;
@@ -94,11 +94,8 @@ pub trait Run: Drop {
         requires some { 0 < (sizes self.old).left }
         ensures makes { makes oldest self.old self.new }
         ensures agree { agree oldest (self.new ∷ []) (self.old ∷ []) }
-        ensures last { (sizes self.new).last ≡ (sizes self.old).last }
-        ensures whole { each ≡ 1 → (sizes self.new).left + (sizes self.new).made ≡ (sizes self.old).left + (sizes self.old).made }
-        ensures room { (sizes self.new).left ≡ 0 → room self.new ≡ 0 }
-        ensures fewer { (sizes self.new).left < (sizes self.old).left }
-        ensures slowly { (sizes self.old).left ≤ (sizes self.new).left + each };
+        ensures merged { IsMerged each 1 (sizes self.old) (sizes self.new) }
+        ensures room { (sizes self.new).left ≡ 0 → room self.new ≡ 0 };
 
     /// Drops what has a number up to `oldest`. It looks at each element that it holds, and takes no memory.
     fn sweep(&mut self, oldest: u64)

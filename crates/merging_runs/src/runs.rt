@@ -2,10 +2,10 @@
 ghost use Rattle.std.specs.Prelude.{◌≡◌, ◌≤◌, ◌<◌, ◌+◌, ◌-◌, ◌++◌, ◌||◌, ℕ, Bool, [], ◌∷◌, length, nat_lt, All, OnOk};
 ghost use Rattle.std.specs.Prelude.{None, false};
 ghost use Rattle.std.specs.List.{list_any};
-ghost use Rattle.merging_runs.specs.Held.{IsSameBut, IsSameMixed, due_upto, given_a_forget, size_in, whole_upto};
+ghost use Rattle.merging_runs.specs.Held.{IsSameMixed, due_upto, given_a_forget, size_in, whole_upto};
 ghost use Rattle.merging_runs.specs.Next.{IsNext};
 ghost use Rattle.merging_runs.specs.RunSizes.{IsMoved, IsTried, LeavesMerges, left_above, moves_for};
-ghost use Rattle.merging_runs.specs.Value.{size_of};
+ghost use Rattle.merging_runs.specs.Value.{OnlyGivesBack, size_of};
 
 use crate::give_back::GiveBack;
 use crate::merges::{move_runs, open_last};
@@ -159,10 +159,7 @@ impl<R: Run> Runs<R> {
     // Gives back so much at most of the run that is being given back, if there is one: how much more may be given back, which is none while
     // something is left of it.
     fn give_back(&mut self, most: usize) -> usize
-        ensures runs { self.new.runs ≡ self.old.runs }
-        ensures held { IsSameBut self.old.held self.new.held }
-        ensures sizes { self.new.sizes ≡ self.old.sizes }
-        ensures refused { self.new.refused ≡ self.old.refused }
+        ensures others { OnlyGivesBack self.old self.new }
         ensures taken { self.old.held.taken + result ≡ self.new.held.taken + most }
         ensures ended { 0 < result → self.new.held.taken ≡ 0 }
     {
@@ -182,10 +179,7 @@ impl<R: Run> Runs<R> {
         requires none { self.old.held.taken ≡ 0 }
         requires some { 0 < most }
         requires most { most ≤ given_a_forget }
-        ensures runs { self.new.runs ≡ self.old.runs }
-        ensures held { IsSameBut self.old.held self.new.held }
-        ensures sizes { self.new.sizes ≡ self.old.sizes }
-        ensures refused { self.new.refused ≡ self.old.refused }
+        ensures others { OnlyGivesBack self.old self.new }
         ensures taken { R.held run + 1 + result ≡ self.new.held.taken + most }
         ensures ended { 0 < result → self.new.held.taken ≡ 0 }
     {

@@ -14,19 +14,21 @@ returns g c =
     let was = c.index_mut.result.now in
     let at = c.index_mut.ensures.value in
     let new = c.move_on.new.run in
-    let moved = c.move_on.ensures in
+    let merged = c.move_on.ensures.merged in
     let same = ap (λ r. (size r).last) (same_run runs.items i c.index.result.now was within c.index.ensures at) in
     let late : o < (size was).last = omega (arith, same, c.last.ensures, c.if-last-oldest.false) in
-    let left = left_changed size o runs.items i was new within at late moved.last in
+    let left = left_changed size o runs.items i was new within at late merged.last in
     record {
-      agree = other_agrees (g.R.Run.agree o) (g.met.R.Run.between o) runs.items i was new within at moved.agree;
-      most = moved.most;
-      lasts = lasts_changed size runs.items i was new within at moved.last;
-      wholes = λ one. number_kept size (λ s. s.left + s.made) runs.items i was new within at (moved.whole one);
+      agree = other_agrees (g.R.Run.agree o) (g.met.R.Run.between o) runs.items i was new within at c.move_on.ensures.agree;
+      most = c.move_on.ensures.most;
       len = search rules;
-      moved = omega (arith, left, moved.moved);
-      slowly = as_slow _ _ (size was).left (size new).left (g.R.Run.each * (c.args.most - c.move_on.result)) left moved.slowly;
-      ended = λ some behind. none_left size o runs.items i (i + 1) new (omega arith) (moved.ended some) behind;
+      merged = record {
+        lasts = lasts_changed size runs.items i was new within at merged.last;
+        wholes = λ one. number_kept size (λ s. s.left + s.made) runs.items i was new within at (merged.whole one);
+        moved = omega (arith, left, merged.moved);
+        slowly = as_slow _ _ (size was).left (size new).left (g.R.Run.each * (c.args.most - c.move_on.result)) left merged.slowly;
+      };
+      ended = λ some behind. none_left size o runs.items i (i + 1) new (omega arith) (c.move_on.ensures.ended some) behind;
     }
 
 pub returns-then-last-oldest-clause-ended : goal.returns-then-last-oldest-clause-ended

@@ -14,10 +14,7 @@ loop-after-init g c =
       agree = g.met.R.Run.same c.args.oldest c.args.runs.now.items;
       len = refl;
       most = omega arith;
-      lasts = refl;
-      wholes = λ one. refl;
-      moved = omega arith;
-      slowly = omega arith;
+      merged = record { lasts = refl; wholes = λ one. refl; moved = omega arith; slowly = omega arith };
       ended = λ some. past_left g.R.Run.sizes c.args.oldest c.args.runs.now.items (vec_len c.args.runs.now - 0) (omega (arith, len));
     }
 
@@ -37,10 +34,12 @@ loop-after-preserved g c =
       agree = g.met.R.Run.through o c.move_at-rest.new.runs.items c.loop-after.runs.items runs.items moved.agree is.agree;
       len = moved.len ∙ is.len;
       most = omega (arith, is.most, moved.most);
-      lasts = moved.lasts ∙ is.lasts;
-      wholes = λ one. moved.wholes one ∙ is.wholes one;
-      moved = omega (arith, is.moved, moved.moved, is.most, moved.most);
-      slowly = slower g.R.Run.each c.args.most c.loop-after.rest c.move_at-rest.result _ _ _ is.most moved.most is.slowly moved.slowly;
+      merged = record {
+        lasts = moved.merged.lasts ∙ is.merged.lasts;
+        wholes = λ one. moved.merged.wholes one ∙ is.merged.wholes one;
+        moved = omega (arith, is.merged.moved, moved.merged.moved, is.most, moved.most);
+        slowly = slower g.R.Run.each c.args.most c.loop-after.rest c.move_at-rest.result _ _ _ is.most moved.most is.merged.slowly moved.merged.slowly;
+      };
       ended = λ some.
           ap (λ n. left_above o (drop n (map g.R.Run.sizes c.move_at-rest.new.runs.items))) at
           ∙ moved.ended some (ap (λ n. left_above o (drop n (map g.R.Run.sizes c.loop-after.runs.items))) behind ∙ is.ended (omega (arith, some, moved.most)));
@@ -50,6 +49,7 @@ pub returns-clause-moved : goal.returns-clause-moved
 returns-clause-moved g c =
     let o = c.args.oldest in
     let is = c.loop-after.invariant in
+    let merged = is.merged in
     let test = c.loop-after-test.false in
     let end = c.len-after-end.ensures in
     let none : vec_len c.args.runs.now - c.loop-after.after ≡ 0 = omega (arith, test, end) in
@@ -57,6 +57,11 @@ returns-clause-moved g c =
     let was = left_above o (map g.R.Run.sizes c.args.runs.now.items) in
     let moved : now + min c.args.most was ≤ was = elim (cases_lt 0 c.loop-after.rest) [
       | inl some ↦ let all = ap (λ n. left_above o (drop n (map g.R.Run.sizes c.loop-after.runs.items))) none in omega (arith, is.ended some, all)
-      | inr none_left ↦ omega (arith, none_left, is.moved)
+      | inr none_left ↦ omega (arith, none_left, merged.moved)
     ] in
-    record { lasts = is.lasts; wholes = is.wholes; moved = moved; slowly = slowest g.R.Run.each c.args.most c.loop-after.rest was now is.most is.slowly }
+    record {
+      lasts = merged.lasts;
+      wholes = merged.wholes;
+      moved = moved;
+      slowly = slowest g.R.Run.each c.args.most c.loop-after.rest was now is.most merged.slowly;
+    }

@@ -1,11 +1,9 @@
 use Rattle.merging_runs.proofs.sweeps.sweep_first.Goals as goal
-use Rattle.std.proofs.Common.{◌<◌, ◌≤◌, ◌≡◌, ◌+◌, ◌*◌, length, ap, sym, ◌∙◌, arith}
+use Rattle.std.proofs.Common.{◌≡◌, ◌*◌, ap, sym, ◌∙◌, arith}
 use Rattle.std.proofs.lemmas.Bool.Decides.{nat_tests}
 use Rattle.std.specs.Prelude.{◌^◌, min}
 use Rattle.merging_runs.proofs.RunSteps.{other_agrees, same_run}
 use Rattle.merging_runs.proofs.SweptRuns.{found_at, left_swept, mixed_at, mixed_swept, none_found, whole_swept}
-use Rattle.merging_runs.proofs.SweptRuns.{IsFound}
-use Rattle.merging_runs.specs.Held.{HeldRun}
 use Rattle.merging_runs.specs.Value.{held_of}
 
 pub returns-in_err-place-clause-none : goal.returns-in_err-place-clause-none

@@ -1,5 +1,5 @@
 use Rattle.merging_runs.proofs.runs.Runs.next_number.Goals as goal
-use Rattle.std.proofs.Common.{◌≡◌, ℕ, List, ap, subst, ◌∙◌}
+use Rattle.std.proofs.Common.{◌≡◌, List, ap, subst, ◌∙◌}
 use Rattle.std.specs.List.{list_any}
 use Rattle.std.specs.Prelude.{◌||◌}
 use Rattle.merging_runs.specs.Next.{IsNext}
