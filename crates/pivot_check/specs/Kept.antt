@@ -1,6 +1,7 @@
 -- What is kept of committed transactions, so that a commit can be checked once older ones are forgotten.
 use Rattle.std.specs.List.{list_any}
-use Rattle.std.specs.Prelude.{◌≡◌, ℕ, ◌<◌, ◌≤◌, nat_le, Bool, true, false, ◌&&◌, ◌||◌, ◌==◌, List, [], ◌∷◌, Option}
+use Rattle.std.specs.Prelude.{◌≡◌, ℕ, ◌<◌, ◌≤◌, nat_le, nat_lt, Bool, true, false, ◌&&◌, ◌||◌, ◌==◌, List, [], ◌∷◌}
+use Rattle.std.specs.Prelude.{Option}
 use Rattle.std.specs.Prelude.{Some, None, find, option_map, map, max, ◌+◌, ◌-◌, if◌then◌else◌}
 use Rattle.model.specs.Map.{Bytes, KeyWrite, is_same_key}
 use Rattle.model.specs.PrivateCopy.{Mark, is_covered}
@@ -175,6 +176,11 @@ pub record IsGivenBack (old new : CommittedValue) : Type 0 where
   pub readers : due_upto new.facts.readers.oldest new.held.readers
       ≡ due_upto new.facts.readers.oldest old.held.readers - given_a_forget
   pub written : due_upto new.facts.oldest new.held.written ≡ due_upto new.facts.oldest old.held.written - given_a_forget
+
+-- such a step was done, and more is to be given back exactly where that is answered
+pub record IsStep (old new : CommittedValue) (more : Bool) : Type 0 where
+  pub given_back : IsGivenBack old new
+  pub still : more ≡ nat_lt 0 (runs_due new)
 
 -- no more postings are to be moved than before in runs with numbers that may be asked for, and no refusal was counted
 abbrev pub LeavesMergesOf : CommittedValue → CommittedValue → Type 0

@@ -1,10 +1,10 @@
 //! The committed transactions.
-ghost use Rattle.std.specs.Prelude.{◌≡◌, ◌+◌, ◌≤◌, ◌<◌, List, [], length, nat_lt, false, OnOk, ◌-◌};
+ghost use Rattle.std.specs.Prelude.{◌≡◌, ◌+◌, ◌≤◌, ◌<◌, List, [], length, false, OnOk, ◌-◌};
 ghost use Rattle.model.specs.History.{Record};
 ghost use Rattle.merging_runs.specs.Held.{size_in};
 ghost use Rattle.merging_runs.specs.Next.{IsNext};
 ghost use Rattle.pivot_check.specs.Merged.{AddsWrittenRun, AreMoved, AreMovedWith, IsTriedIn};
-ghost use Rattle.pivot_check.specs.Kept.{Forgets, HasForgotten, HasRoom, IsEmpty, IsGivenBack};
+ghost use Rattle.pivot_check.specs.Kept.{Forgets, HasForgotten, HasRoom, IsEmpty, IsStep};
 ghost use Rattle.pivot_check.specs.Kept.{IsInReach, KeepsNoneUpto, LeavesMergesOf, is_kept, kept_count, runs_due};
 ghost use Rattle.pivot_check.specs.Index.{answer_found};
 ghost use Rattle.pivot_check.specs.StandsFor.{StandForSame, StandWithRecord, StandsFor};
@@ -261,8 +261,7 @@ impl Committed {
         ensures stands_for { (h : List Record) → StandsFor self.old.facts h → StandsFor self.new.facts h }
         ensures forgets { Forgets oldest self.old.facts self.new.facts }
         ensures forgotten { HasForgotten oldest self.new.facts }
-        ensures given_back { IsGivenBack self.old self.new }
-        ensures still { result ≡ nat_lt 0 (runs_due self.new) }
+        ensures step { IsStep self.old self.new result }
         ensures kept { result ≡ false → KeepsNoneUpto self.new.facts.oldest self.new.facts }
         ensures merges { LeavesMergesOf self.old self.new }
     {
