@@ -22,7 +22,7 @@ use Rattle.commit_log.specs.Copying.{log_sectors, open_record, ReadsFrom, Leaves
 use Rattle.commit_log.specs.Copying.{LeavesSteps, puts, write_sets_of}
 use Rattle.commit_log.specs.Format.{current, head_sector}
 use Rattle.commit_log.specs.LogImage.{IsLogImage, span, last_digest, next_index}
-use Rattle.commit_log.specs.LogState.{IsSameBefore, OnlyWrites}
+use Rattle.commit_log.specs.LogState.{IsSameBefore, KeepsBefore, OnlyWrites}
 use Rattle.commit_log.specs.Reading.{LeavesAsBefore, OnlyReads}
 use Rattle.commit_log.specs.RecordFormat.{closed_gate, first_digest, open_gate, sectors_for, body_sectors}
 use Rattle.commit_log.specs.RecordFormat.{padded_body, record_body, record_digest}
@@ -53,6 +53,21 @@ module _ {D : Type 0} (S : Ghosts D) where
         → LeavesNoMore (FollowsWrites at n (S.may_leave start)) (S.may_leave new)
         → TimeGoesOn S.moment S.left_since start new (FollowsWrites at n (S.may_leave start)) → OnlyWrites S at n start new
     sectors_written new others follows time = grind (arith, common_steps, of_one_more, nothing_yet)
+
+  -- what stands before the sectors that are written stays
+  pub kept_before : (at n : ℕ) (start now : D) → OnlyWrites S at n start now → KeepsBefore S at start now
+  kept_before at n start now alone =
+      let same : (c : List (List ℕ)) → FollowsWrites at n (S.may_leave start) c → IsSameBefore at (S.may_leave start) c =
+      λ c from. (from.0, from.1, from.2.before) in
+      record {
+        others = λ i s lt read. alone.others i s (inl lt) read;
+        crash = λ c left. same c (alone.left c left);
+        time = record {
+          later = alone.time.later;
+          each = λ c left. same c (alone.time.each c left);
+          before = λ t c le left. elim (alone.time.before t c le left) [ inl was ↦ inl was | inr from ↦ inr (same c from) ];
+        };
+      }
 
   module _ (at n : ℕ) (start now next : D) (so_far : OnlyWrites S at n start now) where
     -- one sector more

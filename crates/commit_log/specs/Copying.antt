@@ -1,13 +1,19 @@
 -- A copy of a map: the log whose records put the map's pairs, by rising key, 64 to a record.
-use Rattle.std.specs.Prelude.{◌≡◌, ◌⊎◌, ◌<◌, ℕ, zero, suc, ◌+◌, ◌/◌, List, [], ◌∷◌, ◌++◌, length, take, drop}
-use Rattle.std.specs.Prelude.{replicate, slice_get, get_or, Some}
-use Rattle.model.specs.Map.{KeyMap, KeyWrite}
+use Rattle.std.specs.Prelude.{◌≡◌, ◌⊎◌, ◌<◌, ◌≤◌, ◌↔◌, ℕ, zero, suc, ◌+◌, ◌*◌, ◌/◌, ◌^◌, List, [], ◌∷◌, ◌++◌, length}
+use Rattle.std.specs.Prelude.{take, drop, replicate, slice_get, get_or, Some, Result, OnOk, IfOk, IfErr, IsErrOf}
+use Rattle.model.specs.Bounds.{value_max, body_bound}
+use Rattle.model.specs.Map.{KeyMap, KeyWrite, IsInBounds}
 use Rattle.sector.specs.SectorModel.{IsSameElsewhere, LeavesNoMore, LeavesOnly}
 use Rattle.sector.specs.declared.device.Sectors.{Ghosts}
 use Rattle.commit_log.specs.Format.{current, head_sector}
 use Rattle.commit_log.specs.LogImage.{IsLogImage, span}
-use Rattle.commit_log.specs.LogState.{IsSameBefore}
-use Rattle.commit_log.specs.RecordFormat.{first_digest, open_gate, record_body, record_digest, sectors_in}
+use Rattle.commit_log.specs.LogState.{IsSameBefore, OnlyWrites}
+use Rattle.commit_log.specs.Opening.{MightHold}
+use Rattle.commit_log.specs.Reading.{OnlyReads}
+use Rattle.commit_log.specs.RecordFormat.{first_digest, body_sectors, closed_gate, open_gate, padded_body}
+use Rattle.commit_log.specs.RecordFormat.{record_body}
+use Rattle.commit_log.specs.RecordFormat.{record_digest, sectors_in}
+use Rattle.commit_log.specs.Recovery.{map_after}
 use Rattle.commit_log.specs.declared.faults.LogFault.{LogFault}
 use Rattle.commit_log.specs.declared.faults.LogFault.TheVariants.{Full, Device, Memory, NotEmpty}
 
@@ -52,6 +58,28 @@ abbrev pub ReadsFrom : (ℕ → List ℕ → Type 0) → ℕ → List (List ℕ)
 ReadsFrom may_read at sectors = (k : ℕ) (s : List ℕ) → k < length sectors → may_read (at + k) s
     → s ≡ get_or sectors k []
 
+-- a device of that size has room for the log of a map, and a buffer of that capacity for the body of any record
+pub record HasRoomToCopy (size : ℕ) (map : KeyMap) (capacity : ℕ) : Type 0 where
+  pub room : copy_size map ≤ size
+  pub fits : size < 2 ^ 64
+  pub memory : 512 * body_bound value_max ≤ capacity
+
+-- the next so many pairs of these are there, and within the model's bounds
+pub record HasNext (count : ℕ) (pairs : KeyMap) : Type 0 where
+  pub there : count ≤ length pairs
+  pub in_bounds : IsInBounds pairs
+
+-- these bytes are the body of the record of these writes, which has this digest
+pub record IsBodyOf (before : List ℕ) (index : ℕ) (writes : List KeyWrite) (bytes digest : List ℕ) : Type 0 where
+  pub body : bytes ≡ padded_body before index writes
+  pub sectors : length bytes ≡ 512 * body_sectors writes
+  pub digest_is : digest ≡ record_digest before index writes
+
+-- reads give the records of these write sets, and a closed gate behind them
+pub record ReadsRecords (may_read : ℕ → List ℕ → Type 0) (lists : List (List KeyWrite)) : Type 0 where
+  pub records : ReadsFrom may_read 1 (records_of lists)
+  pub behind : ReadsFrom may_read (1 + span lists) (closed_gate ∷ [])
+
 -- a sector of zeros
 unfoldable pub zero_sector : List ℕ
 zero_sector = replicate 512 0
@@ -89,3 +117,31 @@ IsCopyFault Device = Unit {0}
 IsCopyFault Memory = Unit {0}
 IsCopyFault NotEmpty = Unit {0}
 IsCopyFault other = ⊥
+
+-- when each fault of a copy comes, and what it leaves of the device
+pub record FailsToCopy {D : Type 0} (g : Ghosts D) (map : KeyMap) (old new : D) (result : Result ℕ LogFault) : Type 0
+  where
+    pub errors : IfErr result IsCopyFault
+    pub full : IsErrOf result Full ↔ (g.size old < copy_size map)
+    pub unchanged : IsErrOf result Full ⊎ IsErrOf result Memory → new ≡ old
+    pub untouched : g.keeps_model → IsErrOf result NotEmpty → OnlyReads g old new
+
+-- the first sector held zeros where the call succeeds, and something else where it tells so, in an image that the
+-- device might have held
+pub record FindsFirst {D T : Type 0} (g : Ghosts D) (device : D) (result : Result T LogFault) : Type 0 where
+  pub empty : OnOk result (MightHold g device IsBlank)
+  pub not_empty : IsErrOf result NotEmpty → MightHold g device (λ image. IsBlank image → ⊥)
+
+-- so many records are told of a copy as there are write sets, which give the map
+pub record CopiesPairs (map : KeyMap) (result : Result ℕ LogFault) : Type 0 where
+  pub number : IfOk result (λ n. n ≡ set_count (length map))
+  pub lists : length (write_sets_of map) ≡ set_count (length map)
+  pub gives : map_after [] (write_sets_of map) ≡ map
+
+-- What a copy leaves: behind the log's sectors what was there, also where a crash comes. A crash at any moment leaves
+-- the first sector as it might have left it before, or the finished log but for that sector; where it was settled and
+-- held zeros, the finished log, or no log.
+pub record LeavesCopying {D : Type 0} (g : Ghosts D) (map : KeyMap) (old new : D) : Type 0 where
+  pub alone : OnlyWrites g 0 (copy_size map) old new
+  pub steps : LeavesSteps g (write_sets_of map) old new
+  pub any_moment : LeavesZeros (g.may_leave old) → LeavesCopyOrNoLog g map old new

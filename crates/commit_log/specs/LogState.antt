@@ -1,5 +1,6 @@
 -- What a log stands for.
-use Rattle.std.specs.Prelude.{◌≡◌, ◌⊎◌, ◌≤◌, ℕ, ◌+◌, ◌-◌, ◌/◌, Bool, false, List, [], ◌∷◌, ◌++◌, length, take}
+use Rattle.std.specs.Prelude.{◌≡◌, ◌⊎◌, ◌≤◌, ◌<◌, ℕ, ◌+◌, ◌-◌, ◌/◌, ◌%◌, ◌^◌, Bool, false, List, [], ◌∷◌, ◌++◌}
+use Rattle.std.specs.Prelude.{length, take}
 use Rattle.std.specs.Prelude.{slice_set, Result, OnOk}
 use Rattle.model.specs.Map.{KeyWrite}
 use Rattle.sector.specs.SectorModel.{FollowsWrites, IsSettled, IsSameElsewhere, LeavesNoMore, LeavesOnly}
@@ -99,11 +100,29 @@ OnlyAppends {g = g} old new writes =
 abbrev pub IsSameBefore : ℕ → (List (List ℕ) → Type 0) → List (List ℕ) → Type 0
 IsSameBefore at may_leave c = (d : List (List ℕ)) × may_leave d × (take at c ≡ take at d)
 
+-- What stands before this sector stays: reads give no more of it than before, and a crash at any moment leaves it as
+-- before.
+pub record KeepsBefore {D : Type 0} (g : Ghosts D) (at : ℕ) (old new : D) : Type 0 where
+  pub others : (i : ℕ) (s : List ℕ) → i < at → g.may_read new i s → g.may_read old i s
+  pub crash : LeavesNoMore (IsSameBefore at (g.may_leave old)) (g.may_leave new)
+  pub time : LeavesOnly g.moment g.left_since old new (IsSameBefore at (g.may_leave old))
+
 -- The image while a device is made an empty log: one of these but for sector 1, or, with the closed gate there, but for
 -- sector 0.
 abbrev pub IsBeingMade : (List (List ℕ) → Type 0) → List (List ℕ) → Type 0
 IsBeingMade may_leave c =
     (d : List (List ℕ)) × may_leave d × (IsSameElsewhere 1 d c ⊎ IsSameElsewhere 0 (slice_set d 1 closed_gate) c)
+
+-- No sector but the first two is written, and a crash at any moment finds the head only where it finds the closed gate.
+pub record OnlyFormats {D : Type 0} (g : Ghosts D) (old new : D) : Type 0 where
+  pub any_moment : LeavesOnly g.moment g.left_since old new (IsBeingMade (g.may_leave old))
+  pub others : (i : ℕ) (s : List ℕ) → 2 ≤ i → g.may_read new i s → g.may_read old i s
+
+-- this body, which is whole sectors, has room behind its gate, and a sector more
+pub record FitsBehind (size gate : ℕ) (body : List ℕ) : Type 0 where
+  pub whole : length body % 512 ≡ 0
+  pub room : gate + 1 + length body / 512 < size
+  pub fits : gate + 1 + length body / 512 < 2 ^ 64
 
 -- these bytes are the body of this write set's record behind those of the others, and this is its gate
 pub record IsNextRecord (lists : List (List KeyWrite)) (writes : List KeyWrite) (gate : ℕ) (bytes : List ℕ) : Type 0

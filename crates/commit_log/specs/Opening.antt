@@ -1,12 +1,14 @@
 -- What opening finds.
-use Rattle.std.specs.Prelude.{◌≡◌, ◌+◌, ℕ, List, [], length, drop, slice_get, Option, Some, Result, MatchResult}
+use Rattle.std.specs.Prelude.{◌≡◌, ◌⊎◌, ◌<◌, ◌+◌, ℕ, List, [], length, drop, slice_get, Option, Some, MatchOption}
+use Rattle.std.specs.Prelude.{Result, MatchResult, IfOk}
 use Rattle.model.specs.Map.{KeyWrite}
 use Rattle.sector.specs.declared.device.Sectors.{Ghosts}
 use Rattle.commit_log.specs.Format.{current}
 use Rattle.commit_log.specs.LogImage.{HoldsRecords, HoldsDamage, IsLogImage, IsDamaged, HasHead, HasNoRecord}
 use Rattle.commit_log.specs.LogImage.{BeginsWith, IsNoLog, IsRecordAt, span, last_digest}
+use Rattle.commit_log.specs.LogFaults.{IsDeviceOrMemory}
 use Rattle.commit_log.specs.LogState.{Holds}
-use Rattle.commit_log.specs.RecordFormat.{first_digest}
+use Rattle.commit_log.specs.RecordFormat.{IsWriteSet, body_sectors, first_digest, record_digest}
 use Rattle.commit_log.specs.Recovery.{map_after}
 use Rattle.commit_log.specs.declared.faults.LogFault.{LogFault}
 use Rattle.commit_log.specs.declared.faults.LogFault.TheVariants.{NotALog, Damaged, Device, Memory, OldFormat}
@@ -74,6 +76,23 @@ IsRecordIn f index before at image found = IsRecordAt f index before (drop at im
 abbrev pub HasNoRecordIn : LogFormat → ℕ → List ℕ → ℕ → List (List ℕ) → Type 0
 HasNoRecordIn f index before at image = HasNoRecord f index before (drop at image)
 
+-- a record that was read from this place on, behind that digest: it ends before the last of so many sectors
+pub record IsFitRecord (f : LogFormat) (index : ℕ) (before : List ℕ) (at count : ℕ) (found : Record) : Type 0 where
+  pub sectors : at + found.sectors < count
+  pub proper : IsWriteSet f found.writes.items
+  pub digest : found.digest.bytes ≡ record_digest before index found.writes.items
+
+-- it stands there in the image, in as many sectors as it tells
+pub record IsRecordFound (f : LogFormat) (index : ℕ) (before : List ℕ) (at : ℕ) (image : List (List ℕ))
+    (found : Record) : Type 0 where
+  pub stands : IsRecordIn f index before at image found
+  pub counted : found.sectors ≡ body_sectors found.writes.items
+
+-- what reading a record came to, where the image is this one
+abbrev pub ReadsRecord : LogFormat → ℕ → List ℕ → ℕ → Result (Option Record) LogFault → List (List ℕ) → Type 0
+ReadsRecord f index before at result image =
+    IfOk result (λ o. MatchOption o (HasNoRecordIn f index before at image) (IsRecordFound f index before at image))
+
 -- the device holds this image, which begins with this head, or is no log
 abbrev pub HoldsHead : {D : Type 0} → Ghosts D → D → Option LogFormat → List (List ℕ) → Type 0
 HoldsHead g device head image = Holds g device image × BeginsWith head image
@@ -89,3 +108,9 @@ pub record IsOpened {D : Type 0} (g : Ghosts D) (f : LogFormat) (device : D) (fo
   pub holds : IsLogImage f lists image
   pub tells : TellsOf lists found
   pub settled : Holds g device image
+
+-- what reading a log came to: it is told of one image that the device might have held, but for the faults of the device
+-- and of memory
+abbrev pub ReadsLog : {D : Type 0} → Ghosts D → D → D → Result Found LogFault → Type 0
+ReadsLog g old new result = MatchResult result (λ found. MightHold g old (IsOpened g current new found))
+    (λ e. IsDeviceOrMemory e ⊎ MightHold g old (λ image. IsRefusal image e))

@@ -1,7 +1,7 @@
 -- What calls that only read a device change.
-use Rattle.std.specs.Prelude.{◌≡◌, ◌+◌, ◌*◌, ◌<◌, ℕ, List, length, take, drop, Option, Result, MatchResult, IfOk}
-use Rattle.std.specs.Prelude.{OnOk, IfSome, IfNone, slice_get, Some}
-use Rattle.sector.specs.Failures.{Rose}
+use Rattle.std.specs.Prelude.{◌≡◌, ◌+◌, ◌*◌, ◌^◌, ◌<◌, ◌≤◌, ℕ, List, length, take, drop, Result, MatchResult, OnOk}
+use Rattle.std.specs.Prelude.{slice_get, Some}
+use Rattle.sector.specs.Failures.{Rose, Stayed}
 use Rattle.sector.specs.SectorModel.{LeavesNoMore, LeavesOnly, ReadsNoMore}
 use Rattle.sector.specs.declared.device.Sectors.{Ghosts}
 use Rattle.commit_log.specs.declared.faults.LogFault.{LogFault}
@@ -15,6 +15,26 @@ TellsFailure before now e = (e ≡ Device → Rose before now) × ((e ≡ Device
 abbrev pub FaultIs : {T : Type 0} → ℕ → ℕ → Result T LogFault → Type 0
 FaultIs before now result = MatchResult result (λ _. now ≡ before) (TellsFailure before now)
 
+-- so it is of calls of the device, of which at `Ok` there was one at least
+abbrev pub FaultIsCounted : {T : Type 0} → ℕ → ℕ → Result T LogFault → Type 0
+FaultIsCounted before now result = MatchResult result (λ _. Stayed before now) (TellsFailure before now)
+
+-- n sectors from this one on are within a device of that size, and fit behind these bytes
+pub record CanRead (size at n : ℕ) (bytes : List ℕ) : Type 0 where
+  pub room : at + n ≤ size
+  pub fits : at + n < 2 ^ 64
+  pub memory : length bytes + 512 * n < 2 ^ 63
+
+-- a device of that size has so many sectors, and these are n at least
+pub record CountsAtLeast (n size count : ℕ) : Type 0 where
+  pub least : n ≤ count
+  pub all : count ≡ size
+
+-- so many bytes more stand behind those that stood there
+pub record IsGrown (more : ℕ) (old new : List ℕ) : Type 0 where
+  pub long : length new ≡ length old + more
+  pub front : take (length old) new ≡ old
+
 -- a read gives what this image holds
 abbrev pub ReadsAs : (ℕ → List ℕ → Type 0) → List (List ℕ) → Type 0
 ReadsAs may_read image = (i : ℕ) (s : List ℕ) → may_read i s → slice_get image i ≡ Some s
@@ -27,16 +47,6 @@ HasRead result may_read at n old new = (image : List (List ℕ)) → ReadsAs may
 -- P of each image of so many sectors as which reads give
 abbrev pub OfEachRead : ℕ → (ℕ → List ℕ → Type 0) → (List (List ℕ) → Type 0) → Type 0
 OfEachRead count may_read P = (image : List (List ℕ)) → length image ≡ count → ReadsAs may_read image → P image
-
--- where something was read there, P of the image and of that
-abbrev pub OfEachFound : {T : Type 0} → ℕ → (ℕ → List ℕ → Type 0) → Result (Option T) LogFault
-    → (List (List ℕ) → T → Type 0) → Type 0
-OfEachFound count may_read result P = OfEachRead count may_read (λ image. IfOk result (λ found. IfSome found (P image)))
-
--- where nothing was, P of the image
-abbrev pub OfNoneFound : {T : Type 0} → ℕ → (ℕ → List ℕ → Type 0) → Result (Option T) LogFault
-    → (List (List ℕ) → Type 0) → Type 0
-OfNoneFound count may_read result P = OfEachRead count may_read (λ image. IfOk result (λ found. IfNone found (P image)))
 
 -- a crash since old leaves what one at old might have left
 abbrev pub LeavesAsBefore : {D : Type 0} → Ghosts D → D → D → Type 0

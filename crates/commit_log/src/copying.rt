@@ -1,17 +1,16 @@
 //! Copying a map into a log of its own.
-ghost use Rattle.std.specs.Prelude.{◌≡◌, ◌⊎◌, ◌<◌, ◌≤◌, ◌+◌, ◌*◌, ◌/◌, ◌%◌, ◌^◌, ◌↔◌, [], ◌∷◌, length, vec_capacity};
-ghost use Rattle.std.specs.Prelude.{OnOk, OnErr, IfOk, IfErr, IfSome, IfNone, IsErrOf};
-ghost use Rattle.sector.specs.Failures.{Rose, Stayed};
-ghost use Rattle.model.specs.Bounds.{value_max, body_bound};
+ghost use Rattle.std.specs.Prelude.{◌≡◌, ◌⊎◌, ◌≤◌, ◌+◌, ◌/◌, ◌^◌, [], length, vec_capacity, OnOk, IfOk, IfErr};
+ghost use Rattle.std.specs.Prelude.{IfSome};
+ghost use Rattle.std.specs.Prelude.{IfNone};
+ghost use Rattle.sector.specs.Failures.{IsCounted};
 ghost use Rattle.model.specs.Map.{IsMap, IsInBounds};
-ghost use Rattle.commit_log.specs.RecordFormat.{closed_gate};
 ghost use Rattle.commit_log.specs.LogImage.{span};
-ghost use Rattle.commit_log.specs.Reading.{FaultIs, OnlyReads};
-ghost use Rattle.commit_log.specs.LogState.{HoldsLog, OnlyWrites};
-ghost use Rattle.commit_log.specs.Opening.{MightHold};
+ghost use Rattle.commit_log.specs.Reading.{FaultIsCounted, OnlyReads};
+ghost use Rattle.commit_log.specs.LogState.{FitsBehind, HoldsLog, OnlyWrites};
 ghost use Rattle.commit_log.specs.Recovery.{map_after};
-ghost use Rattle.commit_log.specs.Copying.{write_sets_of, set_count, copy_size, records_of, open_record, ReadsFrom};
-ghost use Rattle.commit_log.specs.Copying.{IsBlank, LeavesZeros, LeavesSteps, LeavesCopyOrNoLog, IsCopyFault};
+ghost use Rattle.commit_log.specs.Copying.{write_sets_of, set_count, copy_size, open_record, ReadsFrom, ReadsRecords};
+ghost use Rattle.commit_log.specs.Copying.{CopiesPairs, FailsToCopy, FindsFirst, HasRoomToCopy, LeavesCopying};
+ghost use Rattle.commit_log.specs.Copying.{LeavesSteps, LeavesZeros};
 
 use crate::decode::is_same;
 use crate::encode::sectors_for;
@@ -50,12 +49,9 @@ pub fn copy_sectors(map: &Map) -> Option<u64>
 
 /// Writes a record's open gate, and its body behind it.
 fn write_open_record<D: Sectors>(device: &mut D, gate: u64, body: &[u8]) -> Result<(), DeviceFault>
-    requires whole { length body.now % 512 ≡ 0 }
-    requires room { gate + 1 + length body.now / 512 < D.size device.old }
-    requires fits { gate + 1 + length body.now / 512 < 2 ^ 64 }
+    requires { FitsBehind (D.size device.old) gate body.now }
     ensures size { D.size device.new ≡ D.size device.old }
-    ensures ok { OnOk result (Stayed (D.failures device.old) (D.failures device.new)) }
-    ensures fault { OnErr result (Rose (D.failures device.old) (D.failures device.new)) }
+    ensures failures { IsCounted result (D.failures device.old) (D.failures device.new) }
     ensures written { D.keeps_model → OnOk result (ReadsFrom (D.may_read device.new) gate (open_record body.now)) }
     ensures alone { D.keeps_model → OnlyWrites D.Sectors gate (1 + length body.now / 512) device.old device.new }
 {
@@ -69,17 +65,12 @@ fn write_records<D: Sectors>(
     map: &Map,
     body: &mut Vec<u8>,
 ) -> Result<u64, DeviceFault>
-    requires room { copy_size map.now ≤ D.size device.old }
-    requires fits { D.size device.old < 2 ^ 64 }
-    requires memory { 512 * body_bound value_max ≤ vec_capacity body.old }
+    requires { HasRoomToCopy (D.size device.old) map.now (vec_capacity body.old) }
     ensures size { D.size device.new ≡ D.size device.old }
-    ensures ok { OnOk result (D.failures device.new ≡ D.failures device.old) }
-    ensures fault { OnErr result (Rose (D.failures device.old) (D.failures device.new)) }
+    ensures failures { IsCounted result (D.failures device.old) (D.failures device.new) }
     ensures number { IfOk result (λ n. n ≡ length (write_sets_of map.now)) }
-    ensures is_map { IsMap map.now }
-    ensures in_bounds { IsInBounds map.now }
-    ensures records { D.keeps_model → OnOk result (ReadsFrom (D.may_read device.new) 1 (records_of (write_sets_of map.now))) }
-    ensures behind { D.keeps_model → OnOk result (ReadsFrom (D.may_read device.new) (1 + span (write_sets_of map.now)) (closed_gate ∷ [])) }
+    ensures map { IsMap map.now × IsInBounds map.now }
+    ensures copied { D.keeps_model → OnOk result (ReadsRecords (D.may_read device.new) (write_sets_of map.now)) }
     ensures alone { D.keeps_model → OnlyWrites D.Sectors 1 (1 + span (write_sets_of map.now)) device.old device.new }
 {
     let mut ahead = map.pairs();
@@ -103,12 +94,9 @@ fn write_records<D: Sectors>(
 
 /// Writes the records of a map behind a first sector of zeros, and once they are settled the head.
 fn write_log<D: Sectors>(device: &mut D, map: &Map, body: &mut Vec<u8>) -> Result<u64, DeviceFault>
-    requires room { copy_size map.now ≤ D.size device.old }
-    requires fits { D.size device.old < 2 ^ 64 }
-    requires memory { 512 * body_bound value_max ≤ vec_capacity body.old }
+    requires { HasRoomToCopy (D.size device.old) map.now (vec_capacity body.old) }
     ensures size { D.size device.new ≡ D.size device.old }
-    ensures ok { OnOk result (Stayed (D.failures device.old) (D.failures device.new)) }
-    ensures fault { OnErr result (Rose (D.failures device.old) (D.failures device.new)) }
+    ensures failures { IsCounted result (D.failures device.old) (D.failures device.new) }
     ensures number { IfOk result (λ n. n ≡ length (write_sets_of map.now)) }
     ensures copied { D.keeps_model → OnOk result (HoldsLog D.Sectors device.new (write_sets_of map.now)) }
     ensures alone { D.keeps_model → OnlyWrites D.Sectors 0 (copy_size map.now) device.old device.new }
@@ -124,14 +112,12 @@ fn write_log<D: Sectors>(device: &mut D, map: &Map, body: &mut Vec<u8>) -> Resul
 /// Settles a device, and sees that its first sector holds zeros.
 fn settle_zeros<D: Sectors>(device: &mut D) -> Result<(), LogFault>
     requires { 1 ≤ D.size device.old }
-    ensures fault { FaultIs (D.failures device.old) (D.failures device.new) result }
-    ensures no_fault { OnOk result (Stayed (D.failures device.old) (D.failures device.new)) }
+    ensures fault { FaultIsCounted (D.failures device.old) (D.failures device.new) result }
     ensures errors { IfErr result (λ e. (e ≡ LogFault.Device) ⊎ (e ≡ LogFault.NotEmpty)) }
     ensures size { D.size device.new ≡ D.size device.old }
     ensures only_reads { D.keeps_model → OnlyReads D.Sectors device.old device.new }
     ensures zeros { D.keeps_model → OnOk result (LeavesZeros (D.may_leave device.new)) }
-    ensures not_empty { D.keeps_model → IsErrOf result LogFault.NotEmpty → MightHold D.Sectors device.old (λ image. IsBlank image → ⊥) }
-    ensures empty { D.keeps_model → OnOk result (MightHold D.Sectors device.old IsBlank) }
+    ensures first { D.keeps_model → FindsFirst D.Sectors device.old result }
 {
     match device.sync() {
         Ok(()) => {}
@@ -160,34 +146,21 @@ fn settle_zeros<D: Sectors>(device: &mut D) -> Result<(), LogFault>
 /// log's sectors is left as it is. All memory is made before the first call of the device.
 pub fn copy_into<D: Sectors>(alloc: Global, device: &mut D, map: &Map) -> Result<u64, LogFault>
     // When each fault comes, and what it leaves.
-    ensures errors { IfErr result IsCopyFault }
-    ensures full { IsErrOf result LogFault.Full ↔ (D.size device.old < copy_size map.now) }
-    ensures fault { FaultIs (D.failures device.old) (D.failures device.new) result }
-    ensures no_fault { OnOk result (Stayed (D.failures device.old) (D.failures device.new)) }
-    ensures unchanged { IsErrOf result LogFault.Full ⊎ IsErrOf result LogFault.Memory → device.new ≡ device.old }
+    ensures fails { FailsToCopy D.Sectors map.now device.old device.new result }
+    ensures fault { FaultIsCounted (D.failures device.old) (D.failures device.new) result }
     ensures size { D.size device.new ≡ D.size device.old }
-    ensures untouched { D.keeps_model → IsErrOf result LogFault.NotEmpty → OnlyReads D.Sectors device.old device.new }
 
     // `NotEmpty` is told of an image that the device might have held, by its first sector.
-    ensures not_empty { D.keeps_model → IsErrOf result LogFault.NotEmpty → MightHold D.Sectors device.old (λ image. IsBlank image → ⊥) }
-    ensures empty { D.keeps_model → OnOk result (MightHold D.Sectors device.old IsBlank) }
+    ensures first { D.keeps_model → FindsFirst D.Sectors device.old result }
 
     // The records, and the map that they give.
-    ensures number { IfOk result (λ n. n ≡ set_count (length map.now)) }
-    ensures lists { length (write_sets_of map.now) ≡ set_count (length map.now) }
-    ensures gives { map_after [] (write_sets_of map.now) ≡ map.now }
+    ensures lists { CopiesPairs map.now result }
 
     // At `Ok` reads give their log, and a crash leaves it.
     ensures copied { D.keeps_model → OnOk result (HoldsLog D.Sectors device.new (write_sets_of map.now)) }
 
-    // Behind the log's sectors reads give what they gave before, and a crash at any moment of the call leaves what one before it left.
-    ensures alone { D.keeps_model → OnlyWrites D.Sectors 0 (copy_size map.now) device.old device.new }
-
-    // A crash at any moment of the call leaves the first sector as it might have left it before, or the finished log but for that sector.
-    ensures steps { D.keeps_model → LeavesSteps D.Sectors (write_sets_of map.now) device.old device.new }
-
-    // Where the first sector was settled and held zeros, a crash at any moment of the call leaves the finished log, or no log.
-    ensures any_moment { D.keeps_model → LeavesZeros (D.may_leave device.old) → LeavesCopyOrNoLog D.Sectors map.now device.old device.new }
+    // What a crash at any moment of the call leaves, and what the device holds behind the log.
+    ensures crash { D.keeps_model → LeavesCopying D.Sectors map.now device.old device.new }
 {
     let count = device.count();
     let fits = match copy_sectors(map) {

@@ -1,9 +1,9 @@
 //! Making an empty log.
-ghost use Rattle.std.specs.Prelude.{◌≡◌, ◌≢◌, ◌<◌, ◌≤◌, ◌↔◌, [], List, ℕ, OnOk, OnErr, IsErrOf, IfErr};
+ghost use Rattle.std.specs.Prelude.{◌≡◌, ◌≢◌, ◌<◌, ◌≤◌, ◌↔◌, [], List, ℕ, OnOk, IsErrOf, IfErr};
 ghost use Rattle.sector.specs.SectorModel.{LeavesOnly};
-ghost use Rattle.sector.specs.Failures.{Rose, Stayed};
-ghost use Rattle.commit_log.specs.LogState.{HoldsLog, IsBeingMade};
-ghost use Rattle.commit_log.specs.Reading.{FaultIs};
+ghost use Rattle.sector.specs.Failures.{IsCounted};
+ghost use Rattle.commit_log.specs.LogState.{HoldsLog, IsBeingMade, OnlyFormats};
+ghost use Rattle.commit_log.specs.Reading.{FaultIsCounted};
 
 use crate::faults::LogFault;
 use crate::formats::CURRENT;
@@ -19,14 +19,12 @@ pub fn format<D: Sectors>(device: &mut D) -> Result<(), LogFault>
     ensures full { IsErrOf result LogFault.Full ↔ (D.size device.old < 2) }
     ensures unchanged { IsErrOf result LogFault.Full → device.new ≡ device.old }
     ensures errors { IfErr result (λ e. e ≢ LogFault.Full → e ≡ LogFault.Device) }
-    ensures fault { FaultIs (D.failures device.old) (D.failures device.new) result }
-    ensures no_fault { OnOk result (Stayed (D.failures device.old) (D.failures device.new)) }
+    ensures fault { FaultIsCounted (D.failures device.old) (D.failures device.new) result }
     ensures size { D.size device.new ≡ D.size device.old }
     ensures formatted { D.keeps_model → OnOk result (HoldsLog D.Sectors device.new []) }
 
     // A crash at any moment of the call finds the head only where it finds the closed gate, and no other sector changed.
-    ensures any_moment { D.keeps_model → LeavesOnly D.moment D.left_since device.old device.new (IsBeingMade (D.may_leave device.old)) }
-    ensures others { D.keeps_model → (i : ℕ) (s : List ℕ) → 2 ≤ i → D.may_read device.new i s → D.may_read device.old i s }
+    ensures alone { D.keeps_model → OnlyFormats D.Sectors device.old device.new }
 {
     if device.count() < 2 {
         return Err(LogFault::Full);
@@ -40,8 +38,7 @@ pub fn format<D: Sectors>(device: &mut D) -> Result<(), LogFault>
 fn write_head<D: Sectors>(device: &mut D) -> Result<(), DeviceFault>
     requires { 2 ≤ D.size device.old }
     ensures size { D.size device.new ≡ D.size device.old }
-    ensures ok { OnOk result (Stayed (D.failures device.old) (D.failures device.new)) }
-    ensures fault { OnErr result (Rose (D.failures device.old) (D.failures device.new)) }
+    ensures failures { IsCounted result (D.failures device.old) (D.failures device.new) }
     ensures formatted { D.keeps_model → OnOk result (HoldsLog D.Sectors device.new []) }
     // A crash at any moment of the call finds the head only where it finds the closed gate, and no other sector changed.
     ensures any_moment { D.keeps_model → LeavesOnly D.moment D.left_since device.old device.new (IsBeingMade (D.may_leave device.old)) }

@@ -1,11 +1,10 @@
 //! The bytes of a record that puts pairs of a map, in memory that is there.
-ghost use Rattle.std.specs.Prelude.{◌≡◌, ◌<◌, ◌≤◌, ◌+◌, ◌*◌, ◌++◌, length, take, drop, Some, vec_len, vec_capacity};
+ghost use Rattle.std.specs.Prelude.{◌≡◌, ◌≤◌, ◌+◌, ◌*◌, ◌++◌, take, drop, vec_len, vec_capacity};
 ghost use Rattle.std.specs.List.{flat_map};
 ghost use Rattle.model.specs.Bounds.{value_max, payload_bound, body_bound};
-ghost use Rattle.model.specs.Map.{IsInBounds};
 ghost use Rattle.model.specs.Machine.{payload_size};
-ghost use Rattle.commit_log.specs.RecordFormat.{entry_bytes, record_digest, padded_body, body_sectors};
-ghost use Rattle.commit_log.specs.Copying.{puts};
+ghost use Rattle.commit_log.specs.RecordFormat.{entry_bytes};
+ghost use Rattle.commit_log.specs.Copying.{HasNext, IsBodyOf, puts};
 
 use crate::encode::{add_entry, begin, end, entry_len};
 use model::Pairs;
@@ -13,8 +12,7 @@ use model::Pairs;
 /// How many bytes the payload of a record has that puts the next `count` pairs, which it passes over.
 pub fn next_payload_len(pairs: &mut Pairs<'_>, count: u32) -> u32
     requires count { count ≤ 64 }
-    requires there { count ≤ length pairs.old }
-    requires in_bounds { IsInBounds pairs.old }
+    requires next { HasNext count pairs.old }
     ensures len { result ≡ payload_size (puts (take count pairs.old)) }
     ensures rest { pairs.new ≡ drop count pairs.old }
     ensures bound { result ≤ payload_bound value_max }
@@ -31,8 +29,7 @@ pub fn next_payload_len(pairs: &mut Pairs<'_>, count: u32) -> u32
 
 /// Adds the entries that put the next `count` pairs, which it passes over.
 fn add_pairs(body: &mut Vec<u8>, pairs: &mut Pairs<'_>, count: u32)
-    requires there { count ≤ length pairs.old }
-    requires in_bounds { IsInBounds pairs.old }
+    requires next { HasNext count pairs.old }
     requires room { vec_len body.old + payload_size (puts (take count pairs.old)) ≤ vec_capacity body.old + 4 }
     ensures items { body.new.items ≡ body.old.items ++ flat_map entry_bytes (puts (take count pairs.old)) }
     ensures rest { pairs.new ≡ drop count pairs.old }
@@ -56,14 +53,11 @@ pub fn encode_pairs(
     before: &[u8; 32],
     index: u64,
 ) -> [u8; 32]
-    requires there { count ≤ length pairs.old }
-    requires in_bounds { IsInBounds pairs.old }
+    requires next { HasNext count pairs.old }
     requires len { len ≡ payload_size (puts (take count pairs.old)) }
     requires bound { len ≤ payload_bound value_max }
     requires room { 512 * body_bound value_max ≤ vec_capacity body.old }
-    ensures body { body.new.items ≡ padded_body before.now index (puts (take count pairs.old)) }
-    ensures sectors { length body.new.items ≡ 512 * body_sectors (puts (take count pairs.old)) }
-    ensures digest { result ≡ record_digest before.now index (puts (take count pairs.old)) }
+    ensures encoded { IsBodyOf before.now index (puts (take count pairs.old)) body.new.items result }
     ensures rest { pairs.new ≡ drop count pairs.old }
     ensures capacity { vec_capacity body.old ≤ vec_capacity body.new }
 {

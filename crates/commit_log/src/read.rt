@@ -1,16 +1,13 @@
 //! Reading records back.
-ghost use Rattle.std.specs.Prelude.{All, ◌≡◌, ◌⊎◌, ◌<◌, ◌≤◌, ◌+◌, ◌*◌, ◌^◌, length, take, Some, OnOk, IfOk, IfErr};
-ghost use Rattle.std.specs.Prelude.{IsErrAnd, IfSome, IfNone};
-ghost use Rattle.sector.specs.Failures.{Stayed};
+ghost use Rattle.std.specs.Prelude.{All, ◌≡◌, ◌⊎◌, ◌<◌, ◌≤◌, ◌*◌, ◌^◌, OnOk, IfOk, IfErr, IsErrAnd, IfSome, IfNone};
 ghost use Rattle.model.specs.Map.{after_writes};
 ghost use Rattle.commit_log.specs.declared.formats.LogFormat.{LogFormat};
 ghost use Rattle.commit_log.specs.Format.{current, head_sector};
-ghost use Rattle.commit_log.specs.RecordFormat.{IsWithinLimits, IsWriteSet, sectors_for, body_sectors, record_digest};
-ghost use Rattle.commit_log.specs.Reading.{FaultIs, HasRead, LeavesAsBefore, OfEachFound, OfEachRead, OfNoneFound};
-ghost use Rattle.commit_log.specs.Reading.{OnlyReads};
+ghost use Rattle.commit_log.specs.RecordFormat.{IsWithinLimits};
+ghost use Rattle.commit_log.specs.Reading.{CanRead, CountsAtLeast, FaultIs, FaultIsCounted, HasRead, IsGrown};
+ghost use Rattle.commit_log.specs.Reading.{LeavesAsBefore, OfEachRead, OnlyReads};
 ghost use Rattle.commit_log.specs.LogFaults.{IsDeviceOrMemory, IsOpenFault, IsReadMapFault};
-ghost use Rattle.commit_log.specs.Opening.{HasNoRecordIn, HoldsHead, IsOpened, IsRecordIn, IsRefusal, MightHold};
-ghost use Rattle.commit_log.specs.Opening.{ReadsRecords};
+ghost use Rattle.commit_log.specs.Opening.{HoldsHead, IsFitRecord, MightHold, ReadsLog, ReadsRecord, ReadsRecords};
 ghost use Rattle.commit_log.specs.MapReading.{HoldsMapOf, IsMapRefusal};
 
 use crate::decode::{Digest, decode_body, is_same};
@@ -30,15 +27,12 @@ fn read_sectors<D: Sectors>(
     n: u64,
     bytes: &mut Vec<u8>,
 ) -> Result<(), LogFault>
-    requires room { at + n ≤ D.size device.old }
-    requires fits { at + n < 2 ^ 64 }
-    requires memory { length bytes.old.items + 512 * n < 2 ^ 63 }
+    requires { CanRead (D.size device.old) at n bytes.old.items }
     ensures fault { FaultIs (D.failures device.old) (D.failures device.new) result }
     ensures errors { IfErr result IsDeviceOrMemory }
     ensures size { D.size device.new ≡ D.size device.old }
     ensures only_reads { D.keeps_model → OnlyReads D.Sectors device.old device.new }
-    ensures length { OnOk result (length bytes.new.items ≡ length bytes.old.items + 512 * n) }
-    ensures old { OnOk result (take (length bytes.old.items) bytes.new.items ≡ bytes.old.items) }
+    ensures grown { OnOk result (IsGrown (512 * n) bytes.old.items bytes.new.items) }
     ensures bytes { D.keeps_model → HasRead result (D.may_read device.old) at n bytes.old.items bytes.new.items }
 {
     let start = bytes.len();
@@ -66,18 +60,13 @@ fn read_record<D: Sectors>(
     before: &[u8; 32],
     index: u64,
 ) -> Result<Option<Record>, LogFault>
-    requires room { at ≤ count }
-    requires count { count ≡ D.size device.old }
+    requires { CountsAtLeast at (D.size device.old) count }
     ensures fault { FaultIs (D.failures device.old) (D.failures device.new) result }
     ensures size { D.size device.new ≡ D.size device.old }
     ensures only_reads { D.keeps_model → OnlyReads D.Sectors device.old device.new }
     ensures errors { IfErr result IsDeviceOrMemory }
-    ensures sectors { IfOk result (λ o. IfSome o (λ r. at + r.sectors < count)) }
-    ensures proper { IfOk result (λ o. IfSome o (λ r. IsWriteSet format r.writes.items)) }
-    ensures some { D.keeps_model → OfEachFound count (D.may_read device.old) result (IsRecordIn format index before.now at) }
-    ensures counted { D.keeps_model → OfEachFound count (D.may_read device.old) result (λ _ r. r.sectors ≡ body_sectors r.writes.items) }
-    ensures digest { IfOk result (λ o. IfSome o (λ r. r.digest.bytes ≡ record_digest before.now index r.writes.items)) }
-    ensures none { D.keeps_model → OfNoneFound count (D.may_read device.old) result (HasNoRecordIn format index before.now at) }
+    ensures fit { IfOk result (λ o. IfSome o (IsFitRecord format index before.now at count)) }
+    ensures found { D.keeps_model → OfEachRead count (D.may_read device.old) (ReadsRecord format index before.now at result) }
 {
     if count - at < 2 {
         return Ok(None);
@@ -131,8 +120,7 @@ pub(crate) fn read_records<D: Sectors>(
     format: LogFormat,
     count: u64,
 ) -> Result<Found, LogFault>
-    requires some { 2 ≤ count }
-    requires count { count ≡ D.size device.old }
+    requires { CountsAtLeast 2 (D.size device.old) count }
     ensures fault { FaultIs (D.failures device.old) (D.failures device.new) result }
     ensures size { D.size device.new ≡ D.size device.old }
     ensures only_reads { D.keeps_model → OnlyReads D.Sectors device.old device.new }
@@ -212,8 +200,7 @@ pub(crate) fn format_of(sector: &Sector) -> Option<LogFormat>
 /// Settles a device, and reads the format of the log whose head its first sector is, if it is one and there is room for a gate behind
 /// it. Answers it with the number of sectors. Takes no memory.
 fn settle_and_read_head<D: Sectors>(device: &mut D) -> Result<(Option<LogFormat>, u64), LogFault>
-    ensures fault { FaultIs (D.failures device.old) (D.failures device.new) result }
-    ensures no_fault { OnOk result (Stayed (D.failures device.old) (D.failures device.new)) }
+    ensures fault { FaultIsCounted (D.failures device.old) (D.failures device.new) result }
     ensures errors { IfErr result (λ e. e ≡ LogFault.Device) }
     ensures size { D.size device.new ≡ D.size device.old }
     ensures count { IfOk result (λ r. r.1 ≡ D.size device.new) }
@@ -243,8 +230,7 @@ fn settle_and_read_head<D: Sectors>(device: &mut D) -> Result<(Option<LogFormat>
 /// It takes memory for the writes of the log, which are collected: up to twice that of the map they make, and 8 MiB. The map is
 /// made of them, and one record is held at a time. The time is that of one digest of what is read and of a sort of the writes.
 pub(crate) fn read_log<D: Sectors>(alloc: Global, device: &mut D) -> Result<Found, LogFault>
-    ensures fault { FaultIs (D.failures device.old) (D.failures device.new) result }
-    ensures no_fault { OnOk result (Stayed (D.failures device.old) (D.failures device.new)) }
+    ensures fault { FaultIsCounted (D.failures device.old) (D.failures device.new) result }
     ensures size { D.size device.new ≡ D.size device.old }
     ensures short { D.size device.old < 2 → IsErrAnd result (λ e. (e ≡ LogFault.NotALog) ⊎ (e ≡ LogFault.Device)) }
     ensures range { IfOk result (λ found. (found.gate < D.size device.new) × (found.records ≤ found.gate) × (D.size device.new < 2 ^ 64)) }
@@ -254,8 +240,7 @@ pub(crate) fn read_log<D: Sectors>(alloc: Global, device: &mut D) -> Result<Foun
     ensures during { D.keeps_model → LeavesAsBefore D.Sectors device.old device.new }
 
     // The call tells of one image that the device might have held.
-    ensures opened { D.keeps_model → IfOk result (λ found. MightHold D.Sectors device.old (IsOpened D.Sectors current device.new found)) }
-    ensures refused { D.keeps_model → IfErr result (λ e. IsDeviceOrMemory e ⊎ MightHold D.Sectors device.old (λ c. IsRefusal c e)) }
+    ensures tells { D.keeps_model → ReadsLog D.Sectors device.old device.new result }
 {
     let (head, count) = settle_and_read_head(device)?;
     match head {
@@ -272,8 +257,7 @@ pub(crate) fn read_log<D: Sectors>(alloc: Global, device: &mut D) -> Result<Foun
 /// first is the head of no format, `Damaged` where an open gate has not its record behind it, `Memory` where memory is refused. After
 /// each the device may be read again. It takes the memory that `Log::open` takes.
 pub fn read_map<D: Sectors>(alloc: Global, device: &mut D) -> Result<(Map, u8), LogFault>
-    ensures fault { FaultIs (D.failures device.old) (D.failures device.new) result }
-    ensures no_fault { OnOk result (Stayed (D.failures device.old) (D.failures device.new)) }
+    ensures fault { FaultIsCounted (D.failures device.old) (D.failures device.new) result }
     ensures size { D.size device.new ≡ D.size device.old }
     ensures short { D.size device.old < 2 → IsErrAnd result (λ e. (e ≡ LogFault.NotALog) ⊎ (e ≡ LogFault.Device)) }
     ensures errors { IfErr result IsReadMapFault }

@@ -1,8 +1,9 @@
 //! The order in which a record reaches the device.
-ghost use Rattle.std.specs.Prelude.{◌≡◌, ◌<◌, ◌+◌, ◌/◌, ◌%◌, ◌^◌, length, OnOk, OnErr};
-ghost use Rattle.sector.specs.Failures.{Rose, Stayed};
+ghost use Rattle.std.specs.Prelude.{◌≡◌, ◌<◌, ◌+◌, ◌/◌, length};
+ghost use Rattle.sector.specs.Failures.{IsCounted};
 ghost use Rattle.commit_log.specs.RecordFormat.{open_gate, closed_gate};
-ghost use Rattle.commit_log.specs.LogState.{AtOk, HoldsBoth, LeavesEither, LeavesStaged, OfNextRecord, OfStaged};
+ghost use Rattle.commit_log.specs.LogState.{AtOk, FitsBehind, HoldsBoth, LeavesEither, LeavesStaged, OfNextRecord};
+ghost use Rattle.commit_log.specs.LogState.{OfStaged};
 ghost use Rattle.commit_log.specs.LogState.{OnlyWrites};
 
 use crate::blocks::write_sectors;
@@ -24,12 +25,9 @@ pub fn open_gate() -> Sector
 
 /// Writes a record's body and a closed gate behind it, and settles them. The record's own gate stays as it is.
 fn stage<D: Sectors>(device: &mut D, gate: u64, body: &[u8]) -> Result<(), DeviceFault>
-    requires whole { length body.now % 512 ≡ 0 }
-    requires room { gate + 1 + length body.now / 512 < D.size device.old }
-    requires fits { gate + 1 + length body.now / 512 < 2 ^ 64 }
+    requires { FitsBehind (D.size device.old) gate body.now }
     ensures size { D.size device.new ≡ D.size device.old }
-    ensures ok { OnOk result (Stayed (D.failures device.old) (D.failures device.new)) }
-    ensures fault { OnErr result (Rose (D.failures device.old) (D.failures device.new)) }
+    ensures failures { IsCounted result (D.failures device.old) (D.failures device.new) }
 
     // At `Ok` each crash leaves the record behind its gate.
     ensures staged { D.keeps_model → OfNextRecord D.Sectors device.old gate body.now (AtOk result (LeavesStaged D.Sectors device.new)) }
@@ -49,8 +47,7 @@ fn stage<D: Sectors>(device: &mut D, gate: u64, body: &[u8]) -> Result<(), Devic
 fn open_staged<D: Sectors>(device: &mut D, gate: u64) -> Result<(), DeviceFault>
     requires { gate < D.size device.old }
     ensures size { D.size device.new ≡ D.size device.old }
-    ensures ok { OnOk result (Stayed (D.failures device.old) (D.failures device.new)) }
-    ensures fault { OnErr result (Rose (D.failures device.old) (D.failures device.new)) }
+    ensures failures { IsCounted result (D.failures device.old) (D.failures device.new) }
     ensures acknowledged { D.keeps_model → OfStaged D.Sectors device.old gate (AtOk result (HoldsBoth D.Sectors device.new)) }
     ensures any_moment { D.keeps_model → OfStaged D.Sectors device.old gate (LeavesEither D.Sectors device.old device.new) }
     ensures alone { D.keeps_model → OnlyWrites D.Sectors gate 1 device.old device.new }
@@ -62,12 +59,9 @@ fn open_staged<D: Sectors>(device: &mut D, gate: u64) -> Result<(), DeviceFault>
 
 /// Writes a record's body and a closed gate behind it, and opens its gate once these are settled.
 pub fn write_record<D: Sectors>(device: &mut D, gate: u64, body: &[u8]) -> Result<(), DeviceFault>
-    requires whole { length body.now % 512 ≡ 0 }
-    requires room { gate + 1 + length body.now / 512 < D.size device.old }
-    requires fits { gate + 1 + length body.now / 512 < 2 ^ 64 }
+    requires { FitsBehind (D.size device.old) gate body.now }
     ensures size { D.size device.new ≡ D.size device.old }
-    ensures ok { OnOk result (Stayed (D.failures device.old) (D.failures device.new)) }
-    ensures fault { OnErr result (Rose (D.failures device.old) (D.failures device.new)) }
+    ensures failures { IsCounted result (D.failures device.old) (D.failures device.new) }
 
     // At `Ok` reads give the log with the record, and a crash leaves it.
     ensures acknowledged { D.keeps_model → OfNextRecord D.Sectors device.old gate body.now (AtOk result (HoldsBoth D.Sectors device.new)) }

@@ -23,7 +23,7 @@ returns g c =
     rw c.count-count.ensures
     (Read c.in_ok-device.device c.read_map-read.new.device c.in_ok-map.map c.in_ok-map.field-0-1 c.open_to_read.new.self c.close.new.self
     c.in_ok-device.ensures (record {
-      fault = c.in_ok-map.ensures.fault;
+      fault = c.in_ok-map.ensures.fault.0;
       alone = tt;
       found = λ keeps. let m = c.in_ok-map.ensures.map keeps in (m.0, m.1, m.2.0);
       during = c.in_ok-map.ensures.during;

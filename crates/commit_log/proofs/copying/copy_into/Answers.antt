@@ -3,61 +3,59 @@ use Rattle.std.proofs.Common.{arith}
 use Rattle.std.proofs.lemmas.Grind.{common_steps}
 use Rattle.commit_log.proofs.CopyProtocol.{not_begun, still_first, after_reads, no_log, nothing_yet, only_read}
 use Rattle.commit_log.proofs.CopyProtocol.{many_writes}
-use Rattle.commit_log.specs.Copying.{write_sets_of}
+use Rattle.commit_log.specs.Copying.{copy_size, write_sets_of}
+use Rattle.commit_log.specs.LogState.{OnlyWrites}
 
-pub returns-then-not-fits-clause-steps : goal.returns-then-not-fits-clause-steps
-returns-then-not-fits-clause-steps g c keeps =
-    not_begun g.D.Sectors (write_sets_of c.args.map.now) c.args.device.now (g.met.D.Sectors.only_now keeps c.args.device.now)
+pub returns-then-not-fits-clause-crash : goal.returns-then-not-fits-clause-crash
+returns-then-not-fits-clause-crash g c keeps =
+    let alone : OnlyWrites g.D.Sectors 0 (copy_size c.args.map.now) c.args.device.now c.args.device.now = grind (arith, common_steps, nothing_yet) in
+    let steps = not_begun g.D.Sectors (write_sets_of c.args.map.now) c.args.device.now (g.met.D.Sectors.only_now keeps c.args.device.now) in
+    record {
+      alone = alone;
+      steps = steps;
+      any_moment = λ zeros. no_log g.D.Sectors (write_sets_of c.args.map.now) c.args.device.now c.args.device.now zeros steps;
+    }
 
-pub returns-then-not-fits-clause-any_moment : goal.returns-then-not-fits-clause-any_moment
-returns-then-not-fits-clause-any_moment g c keeps zeros =
-    no_log g.D.Sectors (write_sets_of c.args.map.now) c.args.device.now c.args.device.now zeros (returns-then-not-fits-clause-steps g c keeps)
+pub returns-in_err-body-clause-crash : goal.returns-in_err-body-clause-crash
+returns-in_err-body-clause-crash g c keeps =
+    let alone : OnlyWrites g.D.Sectors 0 (copy_size c.args.map.now) c.args.device.now c.args.device.now = grind (arith, common_steps, nothing_yet) in
+    let steps = not_begun g.D.Sectors (write_sets_of c.args.map.now) c.args.device.now (g.met.D.Sectors.only_now keeps c.args.device.now) in
+    record {
+      alone = alone;
+      steps = steps;
+      any_moment = λ zeros. no_log g.D.Sectors (write_sets_of c.args.map.now) c.args.device.now c.args.device.now zeros steps;
+    }
 
-pub returns-in_err-body-clause-steps : goal.returns-in_err-body-clause-steps
-returns-in_err-body-clause-steps g c keeps =
-    not_begun g.D.Sectors (write_sets_of c.args.map.now) c.args.device.now (g.met.D.Sectors.only_now keeps c.args.device.now)
+pub returns-in_err-settle_zeros-clause-crash : goal.returns-in_err-settle_zeros-clause-crash
+returns-in_err-settle_zeros-clause-crash g c keeps =
+    let alone : OnlyWrites g.D.Sectors 0 (copy_size c.args.map.now) c.args.device.now c.settle_zeros.new.device = grind (arith, common_steps, only_read) in
+    let steps = still_first g.D.Sectors (write_sets_of c.args.map.now) c.args.device.now c.settle_zeros.new.device
+    (c.settle_zeros.ensures.only_reads keeps).time in
+    record {
+      alone = alone;
+      steps = steps;
+      any_moment = λ zeros. no_log g.D.Sectors (write_sets_of c.args.map.now) c.args.device.now c.settle_zeros.new.device zeros steps;
+    }
 
-pub returns-in_err-body-clause-any_moment : goal.returns-in_err-body-clause-any_moment
-returns-in_err-body-clause-any_moment g c keeps zeros =
-    no_log g.D.Sectors (write_sets_of c.args.map.now) c.args.device.now c.args.device.now zeros (returns-in_err-body-clause-steps g c keeps)
+pub returns-in-Ok-clause-crash : goal.returns-in-Ok-clause-crash
+returns-in-Ok-clause-crash g c keeps =
+    let alone : OnlyWrites g.D.Sectors 0 (copy_size c.args.map.now) c.args.device.now c.write_log.new.device = grind (arith, only_read, many_writes) in
+    let steps = after_reads g.D.Sectors (write_sets_of c.args.map.now) c.args.device.now c.settle_zeros.new.device c.write_log.new.device
+    (c.settle_zeros.ensures.only_reads keeps).time (c.settle_zeros.ensures.only_reads keeps).left (c.write_log.ensures.steps keeps) in
+    record {
+      alone = alone;
+      steps = steps;
+      any_moment = λ zeros. no_log g.D.Sectors (write_sets_of c.args.map.now) c.args.device.now c.write_log.new.device zeros steps;
+    }
 
-pub returns-in_err-settle_zeros-clause-steps : goal.returns-in_err-settle_zeros-clause-steps
-returns-in_err-settle_zeros-clause-steps g c keeps =
-    still_first g.D.Sectors (write_sets_of c.args.map.now) c.args.device.now c.settle_zeros.new.device (c.settle_zeros.ensures.only_reads keeps).time
-
-pub returns-in_err-settle_zeros-clause-any_moment : goal.returns-in_err-settle_zeros-clause-any_moment
-returns-in_err-settle_zeros-clause-any_moment g c keeps zeros =
-    no_log g.D.Sectors (write_sets_of c.args.map.now) c.args.device.now c.settle_zeros.new.device zeros (returns-in_err-settle_zeros-clause-steps g c keeps)
-
-pub returns-in-Ok-clause-steps : goal.returns-in-Ok-clause-steps
-returns-in-Ok-clause-steps g c keeps =
-    after_reads g.D.Sectors (write_sets_of c.args.map.now) c.args.device.now c.settle_zeros.new.device c.write_log.new.device
-    (c.settle_zeros.ensures.only_reads keeps).time (c.settle_zeros.ensures.only_reads keeps).left (c.write_log.ensures.steps keeps)
-
-pub returns-in-Ok-clause-any_moment : goal.returns-in-Ok-clause-any_moment
-returns-in-Ok-clause-any_moment g c keeps zeros =
-    no_log g.D.Sectors (write_sets_of c.args.map.now) c.args.device.now c.write_log.new.device zeros (returns-in-Ok-clause-steps g c keeps)
-
-pub returns-clause-steps : goal.returns-clause-steps
-returns-clause-steps g c keeps =
-    after_reads g.D.Sectors (write_sets_of c.args.map.now) c.args.device.now c.settle_zeros.new.device c.write_log.new.device
-    (c.settle_zeros.ensures.only_reads keeps).time (c.settle_zeros.ensures.only_reads keeps).left (c.write_log.ensures.steps keeps)
-
-pub returns-clause-any_moment : goal.returns-clause-any_moment
-returns-clause-any_moment g c keeps zeros =
-    no_log g.D.Sectors (write_sets_of c.args.map.now) c.args.device.now c.write_log.new.device zeros (returns-clause-steps g c keeps)
-
-pub returns-then-not-fits-clause-alone : goal.returns-then-not-fits-clause-alone
-returns-then-not-fits-clause-alone g c keeps = grind (arith, common_steps, nothing_yet)
-
-pub returns-in_err-body-clause-alone : goal.returns-in_err-body-clause-alone
-returns-in_err-body-clause-alone g c keeps = grind (arith, common_steps, nothing_yet)
-
-pub returns-in_err-settle_zeros-clause-alone : goal.returns-in_err-settle_zeros-clause-alone
-returns-in_err-settle_zeros-clause-alone g c keeps = grind (arith, common_steps, only_read)
-
-pub returns-in-Ok-clause-alone : goal.returns-in-Ok-clause-alone
-returns-in-Ok-clause-alone g c keeps = grind (arith, only_read, many_writes)
-
-pub returns-clause-alone : goal.returns-clause-alone
-returns-clause-alone g c keeps = grind (arith, common_steps, only_read, many_writes)
+pub returns-clause-crash : goal.returns-clause-crash
+returns-clause-crash g c keeps =
+    let alone : OnlyWrites g.D.Sectors 0 (copy_size c.args.map.now) c.args.device.now c.write_log.new.device =
+    grind (arith, common_steps, only_read, many_writes) in
+    let steps = after_reads g.D.Sectors (write_sets_of c.args.map.now) c.args.device.now c.settle_zeros.new.device c.write_log.new.device
+    (c.settle_zeros.ensures.only_reads keeps).time (c.settle_zeros.ensures.only_reads keeps).left (c.write_log.ensures.steps keeps) in
+    record {
+      alone = alone;
+      steps = steps;
+      any_moment = λ zeros. no_log g.D.Sectors (write_sets_of c.args.map.now) c.args.device.now c.write_log.new.device zeros steps;
+    }

@@ -16,8 +16,8 @@ records g c keeps = records_written g.D.Sectors (write_sets_of c.args.map.now) c
 settled : (g : Over) (c : After-write g) → g.D.Sectors.keeps_model → Ready g.D.Sectors (write_sets_of c.args.map.now) c.sync.new.self
 settled g c keeps = ready g.D.Sectors (write_sets_of c.args.map.now) c.write_records.new.device c.sync.new.self (g.D.Sectors.size c.sync.new.self)
     (omega (arith, c.requires.room, c.write_records.ensures.size, c.sync.ensures.size))
-    (write_sets_are_proper c.args.map.now c.write_records.ensures.is_map c.write_records.ensures.in_bounds) (c.in_ok-records.ensures.records keeps)
-    (c.in_ok-records.ensures.behind keeps) (c.in_ok-sync.ensures.settles keeps)
+    (write_sets_are_proper c.args.map.now c.write_records.ensures.map.0 c.write_records.ensures.map.1) (c.in_ok-records.ensures.copied keeps).records
+    (c.in_ok-records.ensures.copied keeps).behind (c.in_ok-sync.ensures.settles keeps)
 
 head : (g : Over) (c : After-write g) → g.D.Sectors.keeps_model → Copying g.D.Sectors (write_sets_of c.args.map.now) c.args.device.now c.write.new.self
 head g c keeps =

@@ -20,35 +20,19 @@ loop-left-init g c = record {
   copied = none_copied g.D.Sectors c.args.device.now c.args.map.now c.pairs-pairs.result c.pairs-pairs.ensures (λ keeps. g.met.D.Sectors.only_now keeps);
 }
 
-pub write_open_record-requires-clause-room : goal.write_open_record-requires-clause-room
-write_open_record-requires-clause-room g c =
+pub write_open_record-requires : goal.write_open_record-requires
+write_open_record-requires g c =
     let next = next_set_of c.loop-left.pairs c.min-count.result c.next_payload_len-len.result (c.min-count.ensures
     ∙ ap (λ (n : ℕ). min n 64) c.loop-left.invariant.left) (omega (arith, c.loop-left.invariant.left, c.loop-left-test.true))
     (c.next_payload_len-len.ensures.len ∙ ap (λ (l : KeyMap). payload_size (puts (take c.min-count.result l))) c.loop-left.invariant.ahead) in
-    omega (
-      arith,
-      ap length c.deref.ensures.value,
-      c.encode_pairs-digest.ensures.sectors,
-      next.sectors,
-      next_gate_le g.D.Sectors _ _ _ _ _ _ _ c.loop-left.invariant.copied c.min-count.result c.next_payload_len-len.result next,
-      c.requires.room,
-      c.loop-left.invariant.size,
-    )
-
-pub write_open_record-requires-clause-fits : goal.write_open_record-requires-clause-fits
-write_open_record-requires-clause-fits g c =
-    let next = next_set_of c.loop-left.pairs c.min-count.result c.next_payload_len-len.result (c.min-count.ensures
-    ∙ ap (λ (n : ℕ). min n 64) c.loop-left.invariant.left) (omega (arith, c.loop-left.invariant.left, c.loop-left-test.true))
-    (c.next_payload_len-len.ensures.len ∙ ap (λ (l : KeyMap). payload_size (puts (take c.min-count.result l))) c.loop-left.invariant.ahead) in
-    omega (
-      arith,
-      ap length c.deref.ensures.value,
-      c.encode_pairs-digest.ensures.sectors,
-      next.sectors,
-      next_gate_le g.D.Sectors _ _ _ _ _ _ _ c.loop-left.invariant.copied c.min-count.result c.next_payload_len-len.result next,
-      c.requires.room,
-      c.requires.fits,
-    )
+    let long = ap length c.deref.ensures.value in
+    let sectors = c.encode_pairs-digest.ensures.encoded.sectors in
+    let within = next_gate_le g.D.Sectors _ _ _ _ _ _ _ c.loop-left.invariant.copied c.min-count.result c.next_payload_len-len.result next in
+    record {
+      whole = omega (arith, long, sectors);
+      room = omega (arith, long, sectors, next.sectors, within, c.requires.room, c.loop-left.invariant.size);
+      fits = omega (arith, long, sectors, next.sectors, within, c.requires.room, c.requires.fits);
+    }
 
 pub overflow_add-gate-in-loop-left : goal.overflow_add-gate-in-loop-left
 overflow_add-gate-in-loop-left g c =
@@ -79,7 +63,7 @@ loop-left-preserved g c =
     ∙ ap (λ (n : ℕ). min n 64) c.loop-left.invariant.left) (omega (arith, c.loop-left.invariant.left, c.loop-left-test.true))
     (c.next_payload_len-len.ensures.len ∙ ap (λ (l : KeyMap). payload_size (puts (take c.min-count.result l))) c.loop-left.invariant.ahead) in
     let size : length c.deref.result.now ≡ 512 * body_sectors (puts (take c.min-count.result c.loop-left.pairs)) =
-    ap length c.deref.ensures.value ∙ c.encode_pairs-digest.ensures.sectors in
+    ap length c.deref.ensures.value ∙ c.encode_pairs-digest.ensures.encoded.sectors in
     let rest = c.encode_pairs-digest.ensures.rest in
     record {
       left = omega (arith, c.loop-left.invariant.left, ap length rest, length-drop c.min-count.result c.loop-left.pairs);
@@ -87,12 +71,12 @@ loop-left-preserved g c =
       in_bounds = subst IsInBounds (sym rest) (bounds_drop c.min-count.result c.loop-left.pairs c.loop-left.invariant.in_bounds);
       memory = omega (arith, c.loop-left.invariant.memory, c.encode_pairs-digest.ensures.capacity);
       size = c.write_open_record.ensures.size ∙ c.loop-left.invariant.size;
-      failures = c.in_ok-write_open_record.ensures.ok.0 ∙ c.loop-left.invariant.failures;
+      failures = c.in_ok-write_open_record.ensures.failures.0 ∙ c.loop-left.invariant.failures;
       copied = copied_more g.D.Sectors c.args.device.now c.args.map.now c.loop-left.device c.write_open_record.new.device c.loop-left.pairs
           c.encode_pairs-digest.new.pairs c.loop-left.gate _ c.loop-left.records c.min-count.result c.next_payload_len-len.result c.loop-left.digest
           c.deref.result.now c.encode_pairs-digest.result
           c.loop-left.invariant.copied next (ap (λ (n : ℕ). c.loop-left.gate + (1 + n)) c.sectors_for.ensures) rest (c.deref.ensures.value
-          ∙ c.encode_pairs-digest.ensures.body) size c.encode_pairs-digest.ensures.digest
+          ∙ c.encode_pairs-digest.ensures.encoded.body) size c.encode_pairs-digest.ensures.encoded.digest_is
           (λ keeps. c.in_ok-write_open_record.ensures.written keeps)
           (λ keeps. c.write_open_record.ensures.alone keeps);
     }
@@ -105,15 +89,14 @@ returns-clause-number g c =
     c.loop-left.invariant.copied.records_are
     ∙ ap length (done_are_all g.D.Sectors _ _ _ _ _ _ _ c.loop-left.invariant.copied (omega (arith, c.loop-left.invariant.left, c.loop-left-test.false)))
 
-pub returns-clause-records : goal.returns-clause-records
-returns-clause-records g c keeps =
-    all_read g.D.Sectors _ _ _ _ _ _ _ c.loop-left.invariant.copied (omega (arith, c.loop-left.invariant.left, c.loop-left-test.false)) c.write.new.self keeps
-    (c.write.ensures.others keeps)
-
-pub returns-clause-behind : goal.returns-clause-behind
-returns-clause-behind g c keeps =
-    shut_read g.D.Sectors _ _ _ _ _ _ _ c.loop-left.invariant.copied (omega (arith, c.loop-left.invariant.left, c.loop-left-test.false)) c.write.new.self
-    closed_gate (λ s read. c.in_ok-write.ensures.written keeps s read ∙ c.closed_gate.ensures)
+pub returns-clause-copied : goal.returns-clause-copied
+returns-clause-copied g c keeps =
+    let none_left : length c.loop-left.pairs ≡ 0 = omega (arith, c.loop-left.invariant.left, c.loop-left-test.false) in
+    record {
+      records = all_read g.D.Sectors _ _ _ _ _ _ _ c.loop-left.invariant.copied none_left c.write.new.self keeps (c.write.ensures.others keeps);
+      behind = shut_read g.D.Sectors _ _ _ _ _ _ _ c.loop-left.invariant.copied none_left c.write.new.self closed_gate
+          (λ s read. c.in_ok-write.ensures.written keeps s read ∙ c.closed_gate.ensures);
+    }
 
 pub returns-in_err-write_open_record-clause-alone : goal.returns-in_err-write_open_record-clause-alone
 returns-in_err-write_open_record-clause-alone g c keeps =
@@ -121,7 +104,7 @@ returns-in_err-write_open_record-clause-alone g c keeps =
     ∙ ap (λ (n : ℕ). min n 64) c.loop-left.invariant.left) (omega (arith, c.loop-left.invariant.left, c.loop-left-test.true))
     (c.next_payload_len-len.ensures.len ∙ ap (λ (l : KeyMap). payload_size (puts (take c.min-count.result l))) c.loop-left.invariant.ahead) in
     let size : length c.deref.result.now ≡ 512 * body_sectors (puts (take c.min-count.result c.loop-left.pairs)) =
-    ap length c.deref.ensures.value ∙ c.encode_pairs-digest.ensures.sectors in
+    ap length c.deref.ensures.value ∙ c.encode_pairs-digest.ensures.encoded.sectors in
     record_within g.D.Sectors _ _ _ _ _ _ _ c.loop-left.invariant.copied c.write_open_record.new.device c.min-count.result c.next_payload_len-len.result
     (length c.deref.result.now) next size (c.loop-left.invariant.copied.within keeps) (c.write_open_record.ensures.alone keeps)
 

@@ -10,20 +10,22 @@ use Rattle.commit_log.specs.RecordFormat.{entry_bytes}
 
 pub unreachable-requires : goal.unreachable-requires
 unreachable-requires c =
-    not_none c.args.pairs.now c.loop-i.pairs c.loop-i.i c.args.count c.loop-i.invariant.rest c.in_default.ensures.steps.0 c.loop-i-test.true c.requires.there
+    not_none c.args.pairs.now c.loop-i.pairs c.loop-i.i c.args.count c.loop-i.invariant.rest c.in_default.ensures.steps.0 c.loop-i-test.true
+    c.requires.next.there
 
 pub add_entry-requires : goal.add_entry-requires
 add_entry-requires c =
     let p = next_pair c.args.pairs.now c.loop-i.i c.loop-i.pairs c.next.new.self (
       c.in-Some.key.bytes.now,
       c.in-Some.value.now,
-    ) c.loop-i.invariant.rest c.in-Some.ensures.steps c.requires.in_bounds in
+    ) c.loop-i.invariant.rest c.in-Some.ensures.steps c.requires.next.in_bounds in
     grind (arith, common_steps, size_le)
 
 pub loop-i-preserved : goal.loop-i-preserved
 loop-i-preserved c =
     let pair : Bytes × Bytes = (c.in-Some.key.bytes.now, c.in-Some.value.now) in
-    let p = next_pair c.args.pairs.now c.loop-i.i c.loop-i.pairs c.next.new.self pair c.loop-i.invariant.rest c.in-Some.ensures.steps c.requires.in_bounds in
+    let p = next_pair c.args.pairs.now c.loop-i.i c.loop-i.pairs c.next.new.self pair c.loop-i.invariant.rest c.in-Some.ensures.steps c.requires.next.in_bounds
+    in
     let so_far : List ℕ = flat_map entry_bytes (puts (take c.loop-i.i c.args.pairs.now)) in
     let entry : List ℕ = entry_bytes (pair.0, Some pair.1) in
     let added : c.add_entry.new.body.items ≡ c.loop-i.body.items ++ entry = c.add_entry.ensures.items in

@@ -9,13 +9,14 @@ use Rattle.commit_log.proofs.read.read_record.Goals.{then-sectors-body_max-via-e
 use Rattle.commit_log.specs.Reading.{ReadsAs}
 use Rattle.commit_log.specs.RecordFormat.{sectors_for, padded_body}
 
-pub returns-then-count-at-lt2-clause-none : goal.returns-then-count-at-lt2-clause-none
-returns-then-count-at-lt2-clause-none g c keeps image size reads = grind (arith, common_steps, too_short)
+pub returns-then-count-at-lt2-clause-found : goal.returns-then-count-at-lt2-clause-found
+returns-then-count-at-lt2-clause-found g c keeps image size reads = grind (arith, common_steps, too_short)
 
-pub returns-then-sectors-body_max-clause-none : goal.returns-then-sectors-body_max-clause-none
-returns-then-sectors-body_max-clause-none g c keeps image size reads =
-    let long : length c.read_sectors.new.bytes.items ≡ 512 = omega (arith, c.in_ok-read_sectors.ensures.length, ap length c.new-body.ensures.items) in
-    let there = first_read image c.args.at c.new-body.result.items c.read_sectors.new.bytes.items c.new-body.ensures.items c.in_ok-read_sectors.ensures.length
+pub returns-then-sectors-body_max-clause-found : goal.returns-then-sectors-body_max-clause-found
+returns-then-sectors-body_max-clause-found g c keeps image size reads =
+    let long : length c.read_sectors.new.bytes.items ≡ 512 = omega (arith, c.in_ok-read_sectors.ensures.grown.long, ap length c.new-body.ensures.items) in
+    let there = first_read image c.args.at c.new-body.result.items c.read_sectors.new.bytes.items c.new-body.ensures.items
+    c.in_ok-read_sectors.ensures.grown.long
     (c.in_ok-read_sectors.ensures.bytes keeps image reads 0 (omega arith)) in
     let len : big_number 4 c.read_sectors.new.bytes.items ≡ c.read_u32.result =
     ap (λ (l : List ℕ). big_number 4 l) (sym c.deref.ensures.value) ∙ sym c.read_u32.ensures in
@@ -34,8 +35,9 @@ returns-then-sectors-body_max-clause-none g c keeps image size reads =
 whole : (g : Over) (c : After-deref-2 g) → g.D.Sectors.keeps_model → (image : List (List ℕ)) → ReadsAs (g.D.Sectors.may_read c.args.device.now) image
     → IsRead image c.args.at c.sectors_for-sectors.result c.read_sectors.new.bytes.items c.read_sectors-2.new.bytes.items
 whole g c keeps image reads =
-    let long : length c.read_sectors.new.bytes.items ≡ 512 = omega (arith, c.in_ok-read_sectors.ensures.length, ap length c.new-body.ensures.items) in
-    let there = first_read image c.args.at c.new-body.result.items c.read_sectors.new.bytes.items c.new-body.ensures.items c.in_ok-read_sectors.ensures.length
+    let long : length c.read_sectors.new.bytes.items ≡ 512 = omega (arith, c.in_ok-read_sectors.ensures.grown.long, ap length c.new-body.ensures.items) in
+    let there = first_read image c.args.at c.new-body.result.items c.read_sectors.new.bytes.items c.new-body.ensures.items
+    c.in_ok-read_sectors.ensures.grown.long
     (c.in_ok-read_sectors.ensures.bytes keeps image reads 0 (omega arith)) in
     let len : big_number 4 c.read_sectors.new.bytes.items ≡ c.read_u32.result =
     ap (λ (l : List ℕ). big_number 4 l) (sym c.deref.ensures.value) ∙ sym c.read_u32.ensures in
@@ -44,29 +46,22 @@ whole g c keeps image reads =
     record {
       there = there;
       count_is = ap sectors_for len ∙ sym c.sectors_for-sectors.ensures;
-      long = omega (arith, long, c.in_ok-read_sectors-2.ensures.length);
+      long = omega (arith, long, c.in_ok-read_sectors-2.ensures.grown.long);
       each = all_read image c.args.at c.sectors_for-sectors.result c.read_sectors.new.bytes.items c.read_sectors-2.new.bytes.items long there
-          c.in_ok-read_sectors-2.ensures.old (c.in_ok-read_sectors-2.ensures.bytes keeps image mid);
+          c.in_ok-read_sectors-2.ensures.grown.front (c.in_ok-read_sectors-2.ensures.bytes keeps image mid);
     }
 
-pub returns-in-Some-clause-some : goal.returns-in-Some-clause-some
-returns-in-Some-clause-some g c keeps image size reads =
-    let read = whole g (goal.at.returns-in-Some-clause-some g c).After-deref-2 keeps image reads in
+pub returns-in-Some-clause-found : goal.returns-in-Some-clause-found
+returns-in-Some-clause-found g c keeps image size reads =
+    let read = whole g (goal.at.returns-in-Some-clause-found g c).After-deref-2 keeps image reads in
     let same : padded_body c.args.before.now c.args.index c.in-Some.writes.items ≡ c.read_sectors-2.new.bytes.items =
     (rw c.in-Some.is at c.in_ok-writes.ensures.some) ∙ c.deref-2.ensures.value in
-    (is_record c.args.format image c.args.at c.args.count c.sectors_for-sectors.result _ _ c.args.index c.args.before.now size read c.in-Some.writes.items
-    (omega arith) (rw c.in-Some.is at c.in_ok-writes.ensures.proper) (omega arith) same).0
+    let found = is_record c.args.format image c.args.at c.args.count c.sectors_for-sectors.result _ _ c.args.index c.args.before.now size read
+    c.in-Some.writes.items (omega arith) (rw c.in-Some.is at c.in_ok-writes.ensures.proper) (omega arith) same in
+    record { stands = found.0; counted = found.1 }
 
-pub returns-in-Some-clause-counted : goal.returns-in-Some-clause-counted
-returns-in-Some-clause-counted g c keeps image size reads =
-    let read = whole g (goal.at.returns-in-Some-clause-counted g c).After-deref-2 keeps image reads in
-    let same : padded_body c.args.before.now c.args.index c.in-Some.writes.items ≡ c.read_sectors-2.new.bytes.items =
-    (rw c.in-Some.is at c.in_ok-writes.ensures.some) ∙ c.deref-2.ensures.value in
-    (is_record c.args.format image c.args.at c.args.count c.sectors_for-sectors.result _ _ c.args.index c.args.before.now size read c.in-Some.writes.items
-    (omega arith) (rw c.in-Some.is at c.in_ok-writes.ensures.proper) (omega arith) same).1
-
-pub returns-clause-none : goal.returns-clause-none
-returns-clause-none g c keeps image size reads =
-    let read = whole g (goal.at.returns-clause-none g c).After-deref-2 keeps image reads in
+pub returns-clause-found : goal.returns-clause-found
+returns-clause-found g c keeps image size reads =
+    let read = whole g (goal.at.returns-clause-found g c).After-deref-2 keeps image reads in
     no_record c.args.format image c.args.at c.args.count _ _ _ c.args.index c.args.before.now size read
     (λ writes proper same. (rw c.in-None.is at c.in_ok-writes.ensures.none) writes proper (same ∙ sym c.deref-2.ensures.value))

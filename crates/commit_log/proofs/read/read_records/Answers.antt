@@ -36,16 +36,16 @@ records-preserved g c = record {
   failures = c.in_ok-record.ensures.fault ∙ c.in-Ok.ensures.failures.0 ∙ c.records.invariant.failures;
   only_reads = λ keeps. reads_joined g.D.Sectors _ _ c.read.new.self _ (c.records.invariant.only_reads keeps) (c.read.ensures.reads keeps)
       (c.read.ensures.crash keeps) (c.read.ensures.time keeps) (c.read_record.ensures.only_reads keeps);
-  in_range = omega (arith, rw c.in-Some.is at c.in_ok-record.ensures.sectors);
+  in_range = omega (arith, (rw c.in-Some.is at c.in_ok-record.ensures.fit).sectors);
   counted = omega (arith, c.records.invariant.counted);
   found = λ keeps image size reads.
       let there = reads _ _ ((c.records.invariant.only_reads keeps).reads _ _ (c.in-Ok.ensures.gives keeps)) in
       let mid : ReadsAs (g.D.Sectors.may_read c.read.new.self) image =
       λ i s read. reads i s ((c.records.invariant.only_reads keeps).reads i s (c.read.ensures.reads keeps i s read)) in
       let read = c.records.invariant.found keeps image size reads in
+      let found = rw c.in-Some.is at (c.in_ok-record.ensures.found keeps image size mid) in
       more c.args.format image _ _ _ _ _ read there c.if-sector-ne1.false c.in-Some.record.writes.items c.in-Some.record.sectors c.in-Some.record.digest.bytes _
-      (rw c.in-Some.is at (c.in_ok-record.ensures.some keeps image size mid)) (rw c.in-Some.is at (c.in_ok-record.ensures.counted keeps image size mid))
-      (rw c.in-Some.is at c.in_ok-record.ensures.digest) c.in_ok-latest-in-Some.ensures;
+      found.stands found.counted (rw c.in-Some.is at c.in_ok-record.ensures.fit).digest c.in_ok-latest-in-Some.ensures;
 }
 
 pub returns-in-None-clause-found : goal.returns-in-None-clause-found

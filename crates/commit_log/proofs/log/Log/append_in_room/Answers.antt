@@ -12,11 +12,8 @@ encode-requires-clause-bound g c =
     let most : length (payload_bytes c.args.writes.now) ≤ payload_bound value_max = length-payload_le current c.args.writes.now c.requires.proper in
     omega (arith, c.requires.len, payload_size_is c.args.writes.now, most)
 
-pub write_record-requires-clause-room : goal.write_record-requires-clause-room
-write_record-requires-clause-room g c = grind (arith, common_steps)
-
-pub write_record-requires-clause-fits : goal.write_record-requires-clause-fits
-write_record-requires-clause-fits g c = grind (arith, common_steps)
+pub write_record-requires : goal.write_record-requires
+write_record-requires g c = grind (arith, common_steps)
 
 pub overflow_add-self-in-Ok : goal.overflow_add-self-in-Ok
 overflow_add-self-in-Ok g c = grind (arith, common_steps)
