@@ -1,6 +1,9 @@
 //! Reading a command line.
-ghost use Rattle.std.specs.Prelude.{◌≡◌, ◌≤◌, IfOk, IfSome};
+ghost use Rattle.std.specs.Prelude.{◌≡◌, ◌≤◌, IfOk, IfSome, codes, map};
+ghost use Rattle.clap.specs.Matches.{found_of};
 ghost use Rattle.clap.specs.Values.{kind_of};
+ghost use Rattle.clap.specs.Walk.{rows_of};
+ghost use Rattle.command_line.specs.Asking.{AsksFor, HasNumber, Means};
 ghost use Rattle.command_line.specs.Ranges.{IsInRange};
 ghost use Rattle.command_line.specs.Refusals.{IsRefusalOf};
 
@@ -13,7 +16,8 @@ use std::alloc::Global;
 
 // The number of sectors that was given, where it is one of a device that has at most so many.
 fn sectors(found: &ArgMatches<'_>, most: u64) -> Option<u64>
-    ensures { IfSome result (λ n. (2 ≤ n) × (n ≤ most)) }
+    ensures range { IfSome result (λ n. (2 ≤ n) × (n ≤ most)) }
+    ensures given { IfSome result (HasNumber (rows_of (found_of found.now)) (codes "sectors")) }
 {
     match found.get_one::<u64>("sectors") {
         Some(n) if n >= SECTORS_MIN && n <= most => Some(n),
@@ -22,7 +26,8 @@ fn sectors(found: &ArgMatches<'_>, most: u64) -> Option<u64>
 }
 
 fn create<'a>(found: &ArgMatches<'a>) -> Option<Asked<'a>>
-    ensures { IfSome result IsInRange }
+    ensures range { IfSome result IsInRange }
+    ensures means { IfSome result (Means (codes "create") (rows_of (found_of found.now))) }
 {
     Some(Asked::Create {
         data: found.get_str("data")?,
@@ -31,7 +36,8 @@ fn create<'a>(found: &ArgMatches<'a>) -> Option<Asked<'a>>
 }
 
 fn play<'a>(found: &ArgMatches<'a>) -> Option<Asked<'a>>
-    ensures { IfSome result IsInRange }
+    ensures range { IfSome result IsInRange }
+    ensures means { IfSome result (Means (codes "play") (rows_of (found_of found.now))) }
 {
     Some(Asked::Play {
         sectors: sectors(found, MEMORY_SECTORS_MAX)?,
@@ -40,9 +46,10 @@ fn play<'a>(found: &ArgMatches<'a>) -> Option<Asked<'a>>
 
 // What the command of this name was given.
 fn compact<'a>(found: &ArgMatches<'a>) -> Option<Asked<'a>>
-    ensures { IfSome result IsInRange }
+    ensures range { IfSome result IsInRange }
+    ensures means { IfSome result (Means (codes "compact") (rows_of (found_of found.now))) }
 {
-    let sectors = match found.get_one::<u64>("sectors") {
+    let sectors = match found.get_str("sectors") {
         Some(_) => Some(sectors(found, FILE_SECTORS_MAX)?),
         None => None,
     };
@@ -54,7 +61,8 @@ fn compact<'a>(found: &ArgMatches<'a>) -> Option<Asked<'a>>
 }
 
 fn asked<'a>(name: &str, found: &ArgMatches<'a>) -> Option<Asked<'a>>
-    ensures { IfSome result IsInRange }
+    ensures range { IfSome result IsInRange }
+    ensures means { IfSome result (Means name.now (rows_of (found_of found.now))) }
 {
     match name {
         "create" => create(found),
@@ -79,7 +87,8 @@ fn asked<'a>(name: &str, found: &ArgMatches<'a>) -> Option<Asked<'a>>
 ///
 /// It may grow what `clap` keeps of the commands, the words and the error, and the refusal's text.
 pub fn parse<'a>(alloc: Global, words: &'a [&'a str]) -> Result<Asked<'a>, Refusal>
-    ensures { IfOk result IsInRange }
+    ensures range { IfOk result IsInRange }
+    ensures asks { IfOk result (AsksFor (map (λ word. word.now) words.now)) }
 {
     match read(alloc, words) {
         Ok(asked) => Ok(asked),
@@ -89,7 +98,8 @@ pub fn parse<'a>(alloc: Global, words: &'a [&'a str]) -> Result<Asked<'a>, Refus
 
 // What the words ask for, or `clap`'s error.
 fn read<'a>(alloc: Global, words: &'a [&'a str]) -> Result<Asked<'a>, Error>
-    ensures { IfOk result IsInRange }
+    ensures range { IfOk result IsInRange }
+    ensures asks { IfOk result (AsksFor (map (λ word. word.now) words.now)) }
 {
     let mut command = command(alloc)?;
     let found = command.try_get_matches_from_mut(words)?;
