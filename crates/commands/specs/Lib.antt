@@ -9,3 +9,4 @@ pub mod Openings
 pub mod Printing
 pub mod Running
 pub mod Serving
+pub mod Words

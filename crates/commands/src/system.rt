@@ -197,13 +197,24 @@ pub struct CommandLine<'a> {
 }
 
 impl<'a> CommandLine<'a> {
+    ghost use Rattle.std.specs.Prelude.{◌≡◌, map};
+    ghost use Rattle.commands.specs.Words.{words_of};
+
     /// Of these words. Takes no memory.
-    pub fn new(words: &'a [&'a str]) -> Self {
+    pub fn new(words: &'a [&'a str]) -> Self
+        ensures { words_of result ≡ map (λ word. word.now) words.now }
+    {
         CommandLine { words }
     }
 }
 
 impl Words for CommandLine<'_> {
+    ghost use Rattle.std.specs.Prelude.{IfOk};
+    ghost use Rattle.command_line.specs.Asking.{AsksFor};
+    ghost use Rattle.commands.specs.Words.{words_of};
+
+    ghost asks = { λ line result. IfOk result (AsksFor (words_of line)) };
+
     fn asked(&self, alloc: Global) -> Result<Asked<'_>, Refusal> {
         parse(alloc, self.words)
     }
