@@ -13,6 +13,7 @@ use Rattle.sessions.specs.Lives.{Served}
 use Rattle.sessions.specs.SessionStreams.{HubEvent, Choice}
 use Rattle.sessions.specs.StandsFor.{device}
 use Rattle.sessions.specs.declared.hub.Hub.{Hub}
+use Rattle.stream_driver.specs.Appends.{AppendsAtMost, ready_count}
 use Rattle.stream_driver.specs.Buffers.{traffic_through}
 use Rattle.stream_driver.specs.Entries.{DrivenAll}
 use Rattle.stream_driver.specs.Sends.{DrivesTelling}
@@ -46,7 +47,8 @@ IsTurnOf hub turns key polled ready = ready ≡ after_turn (is_passed hub turns 
 -- The drives of a turn in which the poll told of these events. The entries that waited and that it told of became
 -- ready. Of those that are ready and take turns, one that writes and one that reads at most have this one, and the
 -- others are passed over. Each other that is ready was driven once, by rising key, and no other event came to the hub.
--- What their streams hold was written, and those that are over were taken out.
+-- Each of these drives appended one record to the log at most. What their streams hold was written, and those that are
+-- over were taken out.
 pub record DrivesReady {T D : Type 0} {g : Ghosts D} (tells : Type 0) (traffic : T
     → Traffic) (events : List Event) (last : Turns) (hub : Hub D g) (slots : List (Option (Entry (BufferedStream T))))
     (next : Turns) (later : Hub D g) (new : List (Option (Entry (BufferedStream T)))) : Type 0 where
@@ -56,6 +58,7 @@ pub record DrivesReady {T D : Type 0} {g : Ghosts D} (tells : Type 0) (traffic :
   pub driven : List (Option (Entry (BufferedStream T)))
   pub drives : DrivesTelling (traffic_through traffic) tells hub ready later driven
       (λ h k. DrivenAll tells (traffic_through traffic) h ready k driven)
+  pub appends : AppendsAtMost (ready_count ready) hub later
   pub ended : (key : ℕ) → EndsTurn tells traffic (g.moment (device later)) (slot_at driven key) (slot_at new key)
 
 -- what the listener has answered so far

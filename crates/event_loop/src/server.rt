@@ -147,7 +147,7 @@ impl<D: Sectors> EventLoop<D> {
     /// transaction has written, or whose last drive appended a record. Of the two kinds together the next by key, round the table, has its
     /// turn, and beside it one of the other kind; the rest are ready in the next turn, which doesn't wait. So each is driven within as many
     /// turns as the table has places (`each_has_its_turn`). An append ends the share of its stream, so what comes behind it in one piece
-    /// waits for a turn as well.
+    /// waits for a turn as well: a turn appends one record at most for each session that it drives.
     ///
     /// It drives before it accepts: so an event of this poll can't be taken for one of a connection that came since under the same key,
     /// and the places of those that left are free for those that come.

@@ -47,6 +47,7 @@ invariant_of-self g c =
             told = told;
             driven = driven;
             drives = c.drive_ready.ensures.driven;
+            appends = c.drive_ready.ensures.appends _;
             ended = rw c.device.ensures at ended;
           })
           old.sessions _ _ (rw c.device.ensures at c.end_drives.ensures.left) old.serving;
@@ -76,6 +77,7 @@ returns-clause-drives g c =
         told = told;
         driven = c.drive_ready.new.table.slots;
         drives = c.drive_ready.ensures.driven;
+        appends = c.drive_ready.ensures.appends _;
         ended = rw c.device.ensures at c.end_drives.ensures.ended;
       },
       rw c.device.ensures at c.end_drives.ensures.left,
