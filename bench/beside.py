@@ -120,7 +120,7 @@ def pings_beside_ranges(ssikvd):
 
 
 def pings_beside_burst(ssikvd):
-    what = f"one connection that sends {BURST:,} requests at once"
+    what = f"one connection that pipelines {BURST:,} requests"
     yield from pings_beside(ssikvd, what, multiprocessing.Process(target=burst, args=(ssikvd.address, BUSY_SECONDS + 1)))
 
 

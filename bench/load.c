@@ -1,7 +1,7 @@
 /* The load generator: N connections on T threads, each with one transaction after another (a closed loop). It checks each reply and each
  * value, and prints how many transactions a second were committed, and those of the connection that was served least and most.
  *
- *   load --server echo|resp|redis|postgres --address 127.0.0.1:PORT --work ping|pings|read|range|write|hot|fill [options]
+ *   load --server echo|resp|redis|postgres|etcd --address 127.0.0.1:PORT --work ping|pings|read|range|write|hot|fill [options]
  *
  *   ping    PING
  *   pings   32 PINGs, sent together
@@ -12,7 +12,8 @@
  *   fill    sets every key once, 64 in a transaction, on one connection
  *
  *   --connections N (1)  --threads T (1)  --seconds S (1)  --warm-up S (0.1)  --keys K (10000)  --value-bytes B (100)
- *   --at-once       sends a transaction's requests together; without it each waits for the reply to the one before
+ *   --at-once       sends a transaction's requests together; without it each waits for the reply to the one before. With etcd a
+ *                   transaction is always one request.
  */
 #define _GNU_SOURCE
 #include "common.h"
@@ -176,16 +177,20 @@ static void choose_transaction(struct worker *worker, struct connection *connect
         for (int i = 0; i < (work == WORK_PING ? 1 : PINGS); i++) add(connection, PING, 0);
         return;
     }
-    add(connection, BEGIN, 0);
+    add(connection, BEGIN, work == WORK_READ ? GETS : work == WORK_HOT ? 1 : 0);
     add_accesses(worker, connection);
     add(connection, COMMIT, 0);
 }
 
 /* Sends the next request, or all that are left where they go at once. */
 static void send_batch(struct connection *connection) {
-    int last = at_once ? connection->count : connection->sent + 1;
-    connection->awaited = last - connection->sent + server->endings;
+    int last = at_once || server->encode_all ? connection->count : connection->sent + 1;
+    connection->awaited = server->encode_all ? 1 : last - connection->sent + server->endings;
     connection->out.length = 0;
+    if (server->encode_all) {
+        server->encode_all(&connection->out, connection->requests, connection->count);
+        connection->sent = last;
+    }
     while (connection->sent < last) server->encode(&connection->out, connection->requests[connection->sent++]);
     if (server->finish) server->finish(&connection->out);
     send_all(connection->socket, &connection->out);
@@ -339,8 +344,8 @@ static void run_workers(struct worker *workers) {
 }
 
 static void read_server(const char *text) {
-    const struct protocol *const all[] = {&echo, &resp, &redis, &postgres};
-    for (int i = 0; i < 4; i++) {
+    const struct protocol *const all[] = {&echo, &resp, &redis, &postgres, &etcd};
+    for (int i = 0; i < 5; i++) {
         server = all[i];
         if (!strcmp(text, server->name)) return;
     }

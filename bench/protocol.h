@@ -27,6 +27,7 @@ void check_pair(const char *key, size_t key_length, const char *value, size_t le
 enum kind { PING, BEGIN, GET, SET, RANGE, COMMIT };
 struct request {
     enum kind kind;
+    /* Of BEGIN, how many values the transaction reads by GET. */
     uint32_t key;
 };
 
@@ -42,6 +43,8 @@ struct protocol {
     /* What is exchanged before the first request. May be null. */
     void (*greet)(int socket);
     void (*encode)(struct bytes *out, struct request request);
+    /* Instead of it, where a transaction is one message with one reply. */
+    void (*encode_all)(struct bytes *out, const struct request *requests, int count);
     /* Ends a batch of requests that are sent together. May be null. */
     void (*finish)(struct bytes *out);
     /* So many messages end a batch, beside the replies. */
@@ -50,7 +53,7 @@ struct protocol {
      * ends the program. */
     size_t (*take)(const char *from, size_t length, struct request request, enum found *found);
 };
-extern const struct protocol resp, echo, redis, postgres;
+extern const struct protocol resp, echo, redis, postgres, etcd;
 
 /* RESP2's frame of a request, for all that speak it. `begin` and `commit` are the names of the commands. */
 void append_frame(struct bytes *out, struct request request, const char *begin, const char *commit);

@@ -145,7 +145,7 @@ def processor_figures(rows):
     """What each kind of transaction takes of the server's processor."""
     for what, row in {row.what: row for row in reversed(rows) if "processor_seconds" in row.ours[0]}.items():
         took = processor_us(row.ours)
-        yield {"what": what, "figure": took, "unit": "us of the processor", "text": f"{took:.1f} us of the server's processor for each"}
+        yield {"what": what, "figure": took, "unit": "us of CPU time", "text": f"{took:.1f} us of the server's CPU time for each"}
 
 
 def counted(connections):
@@ -157,14 +157,14 @@ def ping_rows(options, ssikvd):
         for connections, goal in ((1, 0.95), (16, 0.9), (64, 0.9)):
             row = Row(f"PING, {counted(connections)}", "C epoll echo", goal)
             compare(options, row, Load(options, "ping", connections), ssikvd, echo)
-            row.notes.append(f"processor time for each, of the echo server: {processor_us(row.theirs):.1f} us.")
+            row.notes.append(f"CPU time for each, of the echo server: {processor_us(row.theirs):.1f} us.")
             yield row
 
 
 def batch_rows(options, ssikvd, redis):
     """32 PINGs at a time, beside Redis."""
     for connections in (1, 16):
-        row = Row(f"32 PINGs sent at once, {counted(connections)}", "Redis", 1.0)
+        row = Row(f"32 pipelined PINGs, {counted(connections)}", "Redis", 1.0)
         yield compare(options, row, Load(options, "pings", connections), ssikvd, redis)
 
 
@@ -185,14 +185,14 @@ class Peer:
         self.name, self.server, self.goals = name, server, goals
 
     def row(self, options, ssikvd, what, work, how):
-        load = Load(options, work, 16, how == "sent at once")
+        load = Load(options, work, 16, how == "pipelined")
         return compare(options, Row(f"{what}, 16 connections, {how}", self.name, self.goals.get((work, how))), load, ssikvd, self.server)
 
 
 def read_rows(options, ssikvd, peers):
     """Transactions that write nothing."""
-    kinds = [("BEGIN, 4 GET, COMMIT", "read", "one request at a time"), ("BEGIN, 4 GET, COMMIT", "read", "sent at once"),
-             ("BEGIN, RANGE of 64, COMMIT", "range", "one request at a time"), ("BEGIN, RANGE of 64, COMMIT", "range", "sent at once")]
+    kinds = [("BEGIN, 4 GET, COMMIT", "read", "one request at a time"), ("BEGIN, 4 GET, COMMIT", "read", "pipelined"),
+             ("BEGIN, RANGE of 64, COMMIT", "range", "one request at a time"), ("BEGIN, RANGE of 64, COMMIT", "range", "pipelined")]
     for what, work, how in kinds:
         for peer in peers:
             if (work, how) in peer.goals:
@@ -201,7 +201,7 @@ def read_rows(options, ssikvd, peers):
 
 def peers_of_reads(postgres, redis, stand_in):
     """Those that are there, with the kinds that each is measured in and what is aimed at."""
-    one, at_once = "one request at a time", "sent at once"
+    one, at_once = "one request at a time", "pipelined"
     all_of_them = [
         Peer("PostgreSQL SERIALIZABLE", postgres, {("read", one): 2.0, ("read", at_once): 2.5, ("range", one): 3.0, ("range", at_once): None}),
         Peer("Redis, MULTI and EXEC", redis, {("read", at_once): 1.5}),
@@ -246,7 +246,7 @@ class Device:
 def commit_rows(options, ssikvd, postgres):
     """Durable commits. Very short slices and many rounds, since a disk's speed changes from moment to moment."""
     device, seconds, rounds = Device(ssikvd.folder), options.seconds / 10, options.rounds * 8
-    kinds = [(16, False, "one request at a time", 0.9), (1, True, "sent at once", None), (1, False, "one request at a time", None)]
+    kinds = [(16, False, "one request at a time", 0.9), (1, True, "pipelined", None), (1, False, "one request at a time", None)]
     for connections, at_once, how, goal in kinds:
         load = Load(options, "write", connections, at_once)
         row = Row(f"BEGIN, SET, COMMIT, {counted(connections)}, {how}", "the device, two syncs", goal, on_disk=True)
@@ -387,8 +387,13 @@ def result_of(row):
     """A row of the results file."""
     middle_half = [quartile(row.ratios(), 1), quartile(row.ratios(), 3)]
     return {"what": row.what, "peer": row.peer, "goal": row.goal, "ratio": row.ratio(), "middle_half": middle_half, "rate": row.rate(row.ours),
-            "peer_rate": row.rate(row.theirs), "load": row.load, "notes": row.notes, "rates": [it["rate"] for it in row.ours],
-            "peer_rates": [it["rate"] for it in row.theirs]}
+            "peer_rate": row.rate(row.theirs), **percentiles("", row.ours), **percentiles("peer_", row.theirs), "load": row.load, "notes": row.notes,
+            "rates": [it["rate"] for it in row.ours], "peer_rates": [it["rate"] for it in row.theirs]}
+
+
+def percentiles(side, slices):
+    """The medians of a side's percentiles, where it has any."""
+    return {side + name: quartile([it[name] for it in slices], 2) for name in ("p50_us", "p99_us", "p999_us") if name in slices[0]}
 
 
 def rounded(value):

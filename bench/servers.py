@@ -11,6 +11,7 @@ import socket
 import subprocess
 import tempfile
 import time
+import urllib.request
 
 HERE = os.path.dirname(os.path.abspath(__file__))
 PROGRAMS = os.path.join(HERE, "out")
@@ -146,6 +147,26 @@ class Redis(Process):
         raise Failure("Redis did not come up")
 
 
+class Etcd(Process):
+    """An etcd of one member, over a folder. Each transaction is one request to its HTTP/JSON gateway."""
+
+    name = "etcd"
+
+    def __init__(self, program, folder, **more):
+        client, peer = (f"http://127.0.0.1:{free_port()}" for _ in range(2))
+        self.address = client.removeprefix("http://")
+        words = [program, "--data-dir", os.path.join(folder, "etcd"), "--listen-client-urls", client, "--advertise-client-urls", client]
+        words += ["--listen-peer-urls", peer, "--initial-advertise-peer-urls", peer, "--initial-cluster", f"default={peer}"]
+        super().__init__([*words, "--logger", "zap", "--log-outputs", os.devnull], stdout=subprocess.DEVNULL, stderr=subprocess.DEVNULL, **more)
+        for _ in range(100):
+            with contextlib.suppress(OSError), urllib.request.urlopen(f"{client}/health", timeout=1) as reply:
+                if b"true" in reply.read():
+                    return
+            time.sleep(0.1)
+        self.stop()
+        raise Failure("etcd did not come up")
+
+
 def count_records(program, data):
     words = run([program, "check", "--data", data]).split()
     if words[0:1] != ["records"]:
@@ -169,7 +190,7 @@ POSTGRES_SETTINGS = {
     "shared_buffers": "512MB",
     "max_wal_size": "4GB",
     "checkpoint_timeout": "30min",
-    "max_connections": "100",
+    "max_connections": "200",
     "max_pred_locks_per_transaction": "1024",
 }
 

@@ -25,10 +25,10 @@ from beside import BEGIN, PING, connect, exchange, frame
 from run import Load, counted, quartile
 from servers import HERE, Failure, Listening, Ssikvd, run
 
-KINDS = [("PING", "ping", 1, False), ("PING", "ping", 16, False), ("32 PINGs sent at once", "pings", 1, False),
-         ("BEGIN, 4 GET, COMMIT", "read", 16, False), ("BEGIN, 4 GET, COMMIT, sent at once", "read", 16, True),
-         ("BEGIN, RANGE of 64, COMMIT, sent at once", "range", 16, True), ("BEGIN, SET, COMMIT", "write", 16, False),
-         ("BEGIN, SET, COMMIT, sent at once", "write", 1, True), ("BEGIN, GET, SET of one of 16 keys, COMMIT", "hot", 16, False)]
+KINDS = [("PING", "ping", 1, False), ("PING", "ping", 16, False), ("32 pipelined PINGs", "pings", 1, False),
+         ("BEGIN, 4 GET, COMMIT", "read", 16, False), ("BEGIN, 4 GET, COMMIT, pipelined", "read", 16, True),
+         ("BEGIN, RANGE of 64, COMMIT, pipelined", "range", 16, True), ("BEGIN, SET, COMMIT", "write", 16, False),
+         ("BEGIN, SET, COMMIT, pipelined", "write", 1, True), ("BEGIN, GET, SET of one of 16 keys, COMMIT", "hot", 16, False)]
 KEYS, VALUE_BYTES, SECTORS = 10_000, 100, 4_194_303
 # Under callgrind: how many transactions are sent before those that count, and how many count.
 WARM, COUNTED = 200, 400

@@ -1,0 +1,273 @@
+#!/usr/bin/env python3
+"""One sitting: measures all that docs/PERFORMANCE.md tells, with one program on one host, and leaves it in bench/results.
+
+    bench/measure.py [--ssikvd PROGRAM] [--quick] [--only PART..]
+
+Takes up to 25 minutes on a machine that does nothing else. Each part leaves a file of its own name, and head.json tells what was measured, and where:
+
+    throughput            transactions that read (BEGIN, 4 GET, COMMIT) and that write (BEGIN, SET, COMMIT) over 1 to 128 connections: ssikvd;
+                          PostgreSQL, SERIALIZABLE; Redis with `appendfsync always`; etcd by its HTTP/JSON gateway. One request at a time, and pipelined
+    readers_and_writers   those that read beside those that write, where a sync takes 0.04, 1 and 5 ms (mix.py)
+    rows                  the rows of run.py, beside an echo server, a stand-in in C and the device
+    growth                what requests cost over 10,000, 100,000 and 1,000,000 keys (scale.py)
+    opening               how long it takes to open a log of so many keys, and the memory for each (scale.py)
+    pauses                for how long nobody else is served (pauses.py), over 10,000 and 1,000,000 keys
+
+What isn't installed is left out with a word. `bench/page.py` makes the tables of the page from these files, and docs/pictures/draw.py the pictures.
+`--quick` makes sure that all of it works, in about a minute; its figures are no use.
+"""
+
+import argparse
+import contextlib
+import datetime
+import hashlib
+import json
+import os
+import platform
+import shutil
+import signal
+import subprocess
+import sys
+import tempfile
+import time
+
+sys.dont_write_bytecode = True
+
+from run import DEFAULT_PROGRAM, Load, check_commits, fill, rounded            # noqa: E402
+from servers import HERE, Etcd, Failure, Postgres, Redis, Ssikvd, find_postgres, run    # noqa: E402
+
+RESULTS = os.path.join(HERE, "results")
+CONNECTIONS = (1, 2, 4, 8, 16, 32, 64, 128)
+FIGURES = ("rate", "p50_us", "p99_us", "p999_us", "refused", "busy")
+ONE, PIPELINED = "one request at a time", "pipelined"
+GROWTH_ROWS = {"fill": (10_000, 100_000, 1_000_000), "insert": (10_000, 100_000, 1_000_000), "read": (10_000, 100_000, 1_000_000),
+               "deleted": (10_000, 100_000, 1_000_000), "old_end": (10_000, 100_000, 1_000_000), "old_commit": (1_000, 10_000)}
+# At a million keys in this order, as long as there is time.
+PAUSE_SCENES = ["quiet", "load", "written_again", "old_commit", "younger", "half_deleted", "straddling", "queue", "coming_and_going", "beside_writers",
+                "largest_ranges", "middle_ranges", "same_key", "first_long_reply", "overlapping", "refilled", "written_before", "large_commits",
+                "old_commits", "sparse_ranges"]
+
+
+# What was measured, and where
+
+def first_line(words):
+    return run(words).splitlines()[0].strip() if shutil.which(words[0]) else None
+
+
+def commit_of(program):
+    """The commit of the repository in which the program was built, and whether its crates have changes that are in no commit."""
+    folder = os.path.dirname(os.path.realpath(program))
+    commit = run(["git", "-C", folder, "rev-parse", "HEAD"]).strip()
+    top = run(["git", "-C", folder, "rev-parse", "--show-toplevel"]).strip()
+    return commit, bool(run(["git", "-C", top, "status", "--porcelain", "--", "crates"]).strip())
+
+
+def postgres_program(options):
+    programs = find_postgres(options.postgres)
+    return programs and os.path.join(programs, "postgres")
+
+
+def file_system(folder):
+    source, kind = run(["df", "--output=source,fstype", folder]).splitlines()[-1].split()
+    return f"{kind} on {source}"
+
+
+def head(options):
+    with open(options.ssikvd, "rb") as binary:
+        digest = hashlib.sha256(binary.read()).hexdigest()
+    with open("/proc/cpuinfo") as info:
+        models = sorted({line.split(":", 1)[1].strip() for line in info if line.startswith("model name")})
+    with open("/proc/meminfo") as info:
+        memory = int(info.readline().split()[1])
+    commit, changed = commit_of(options.ssikvd)
+    return {"commit": commit, "changed": changed, "version": first_line([options.ssikvd, "--version"]), "program_sha256": digest,
+            "date": datetime.datetime.now(datetime.timezone.utc).strftime("%Y-%m-%d"), "processors": os.cpu_count(), "model": ", ".join(models),
+            "memory_gb": round(memory / 1e6, 1), "kernel": os.uname().release, "libc": " ".join(platform.libc_ver()), "disk": file_system(options.folder),
+            "in_memory": file_system("/dev/shm"), "virtual": first_line(["systemd-detect-virt", "--vm"]) if shutil.which("systemd-detect-virt") else None,
+            "postgres": postgres_program(options) and run([postgres_program(options), "--version"]).strip(),
+            "redis": first_line(["redis-server", "--version"]), "etcd": first_line(["etcd", "--version"]), "quick": options.quick, "parts": {}}
+
+
+def store(options, part, value):
+    """The figures of a part as JSON, a row a line."""
+    text = json.dumps(rounded({name: it for name, it in value.items() if name != "rows"}), indent=1)
+    if "rows" in value:
+        text = text[:-2] + ',\n "rows": [\n' + ",\n".join("  " + json.dumps(rounded(row)) for row in value["rows"]) + "\n ]\n}"
+    with open(path_of(options, part), "w", encoding="utf-8") as file:
+        file.write(text + "\n")
+
+
+# Throughput over connections
+
+def started(options, stack):
+    """Those servers that are installed, filled, each with the name in the results."""
+    ssikvd = stack.enter_context(Ssikvd(options.ssikvd, options.folder, options.sectors))
+    fill(options, ssikvd)
+    yield "ssikvd", ssikvd
+    programs = find_postgres(options.postgres)
+    if programs:
+        yield "postgres", stack.enter_context(Postgres(programs, options.folder, options.keys, options.value_bytes))
+    for name, program, start in (("redis", "redis-server", Redis), ("etcd", "etcd", Etcd)):
+        found = shutil.which(program)
+        if not found:
+            print(f"{program} was not found: its rows are missing.", file=sys.stderr)
+            continue
+        folder = stack.enter_context(tempfile.TemporaryDirectory(prefix="ssikvd-measure-", dir=options.folder))
+        server = stack.enter_context(start(found, folder))
+        Load(options, "fill", 1).measure(server, 0)
+        yield name, server
+
+
+def slice_of(options, server, work, how, connections):
+    # Those of the slice before have closed by then: ssikvd has places for 128.
+    time.sleep(0.1)
+    load = Load(options, work, connections, how == PIPELINED)
+    figures = load.measure(server, options.seconds)
+    if isinstance(server, Ssikvd):
+        server.committed += load.committed if work == "write" else 0
+    return {name: figures[name] for name in FIGURES} | {"cpu_us": 1e6 * figures["processor_seconds"] / max(figures["committed"], 1)}
+
+
+def throughput(options):
+    rows = []
+    with contextlib.ExitStack() as stack:
+        servers = dict(started(options, stack))
+        for how in (PIPELINED, ONE):
+            for work in ("read", "write"):
+                for connections in options.connections:
+                    # To etcd a transaction is one request.
+                    names = [name for name in servers if name != "etcd" or how == PIPELINED]
+                    slices = {name: [] for name in names}
+                    for number in range(options.rounds):
+                        for name in names if number % 2 == 0 else reversed(names):
+                            slices[name].append(slice_of(options, servers[name], work, how, connections))
+                    for name in names:
+                        figures = {figure: [it[figure] for it in slices[name]] for figure in slices[name][0]}
+                        rows.append({"server": name, "work": work, "how": how, "connections": connections, **figures})
+                        print(f"{work}, {how}, {connections}: {name} {sorted(figures['rate'])[len(slices[name]) // 2]:,.0f} a second", file=sys.stderr)
+                store(options, "throughput", {"rounds": options.rounds, "seconds": options.seconds, "keys": options.keys,
+                                              "value_bytes": options.value_bytes, "rows": rows})
+        print(check_commits(servers["ssikvd"]), file=sys.stderr)
+
+
+# The parts that programs of their own measure
+
+def program(name, *words):
+    """Runs one of the other programs to its end; what it prints goes where this one's does."""
+    words = [sys.executable, os.path.join(HERE, name), *map(str, words)]
+    with subprocess.Popen(words, stdout=sys.stderr, stdin=subprocess.DEVNULL) as child:
+        try:
+            status = child.wait()
+        except BaseException:
+            child.terminate()
+            raise
+    if status:
+        raise Failure(f"{' '.join(words)} ended with {status}")
+
+
+def path_of(options, part):
+    return os.path.join(options.results, part + ".json")
+
+
+def readers_and_writers(options):
+    more = ["--rounds", 1, "--seconds", 0.2] if options.quick else ["--rounds", 3, "--seconds", 1]
+    program("mix.py", "--ssikvd", options.ssikvd, "--results", path_of(options, "readers_and_writers"), *more)
+
+
+def rows_of_run(options):
+    more = ["--rounds", 1, "--seconds", 0.1] if options.quick else ["--rounds", 5, "--seconds", 0.5]
+    program("run.py", "--ssikvd", options.ssikvd, "--folder", options.folder, "--results", path_of(options, "rows"), *more)
+
+
+def merged(options, part, files):
+    """One file of several: their rows one after the other."""
+    found = []
+    for file in files:
+        with open(file, encoding="utf-8") as opened:
+            found.append(json.load(opened))
+        os.remove(file)
+    store(options, part, {**found[0], "rows": [row for it in found for row in it["rows"]]})
+
+
+def scale(options, part, sizes_of_rows):
+    files = []
+    for row, sizes in sizes_of_rows.items():
+        files.append(path_of(options, f"{part}.{row}"))
+        sizes = sizes[:1] if options.quick else sizes
+        words = [word for size in sizes for word in ("--size", size)]
+        program("scale.py", "--program", options.ssikvd, "--out", files[-1], "--row", row, "--limit", 30, *words)
+    merged(options, part, files)
+
+
+def growth(options):
+    scale(options, "growth", GROWTH_ROWS)
+
+
+def opening(options):
+    scale(options, "opening", {"start": (10_000, 100_000, 1_000_000)})
+
+
+def pauses(options):
+    """The scenes over few keys, and then as many over many as there is time for."""
+    files = []
+    for keys in (10_000,) if options.quick else (10_000, 1_000_000):
+        for scene in PAUSE_SCENES[:4] if options.quick else PAUSE_SCENES:
+            if time.monotonic() > options.end:
+                print(f"{scene}, {keys:,} keys: there is no time left", file=sys.stderr)
+                continue
+            files.append(path_of(options, f"pauses.{keys}.{scene}"))
+            try:
+                program("pauses.py", "--program", options.ssikvd, "--out", files[-1], "--keys", keys, "--scene", scene, "--seconds", 2)
+            except Failure as failure:
+                print(failure, file=sys.stderr)
+    merged(options, "pauses", [file for file in files if os.path.exists(file)])
+
+
+PARTS = {"throughput": throughput, "readers_and_writers": readers_and_writers, "growth": growth, "opening": opening, "rows": rows_of_run, "pauses": pauses}
+
+
+def read_options():
+    parser = argparse.ArgumentParser(description=__doc__, formatter_class=argparse.RawDescriptionHelpFormatter)
+    parser.add_argument("--ssikvd", default=os.path.normpath(DEFAULT_PROGRAM), help="the program that was built (%(default)s)")
+    parser.add_argument("--folder", default="/tmp", help="where data lies that is to be on a disk (%(default)s)")
+    parser.add_argument("--postgres", help="the folder of PostgreSQL's programs (else found)")
+    parser.add_argument("--results", default=RESULTS, help="the folder for the figures (%(default)s)")
+    parser.add_argument("--only", nargs="+", choices=PARTS, default=list(PARTS), help="parts of the sitting (all); head.json stays as it is")
+    parser.add_argument("--minutes", type=float, default=24, help="after which no further scene of the pauses begins (%(default)s)")
+    parser.add_argument("--quick", action="store_true", help="very short slices, few connections and small stores")
+    options = parser.parse_args()
+    if not os.access(options.ssikvd, os.X_OK):
+        parser.error(f"there is no program {options.ssikvd}")
+    options.rounds, options.seconds = (1, 0.2) if options.quick else (3, 1.0)
+    options.connections = (1, 16, 128) if options.quick else CONNECTIONS
+    options.keys, options.value_bytes, options.threads, options.sectors = 10_000, 100, 2, 1 << 22
+    options.end = time.monotonic() + 60 * options.minutes
+    return options
+
+
+def main():
+    options = read_options()
+    signal.signal(signal.SIGTERM, lambda *_: sys.exit("stopped"))
+    try:
+        subprocess.run(["make", "-s", "-C", HERE], check=True)
+        os.makedirs(options.results, exist_ok=True)
+        found = head(options)
+        for part in options.only:
+            begun, failed = time.monotonic(), {}
+            try:
+                PARTS[part](options)
+            except Failure as failure:
+                print(f"{part}: {failure}", file=sys.stderr)
+                failed = {"failed": str(failure)}
+            found["parts"][part] = {"seconds": round(time.monotonic() - begun), "load_after": round(os.getloadavg()[0], 1), **failed}
+            if options.only == list(PARTS):
+                store(options, "head", found)
+            print(f"--- {part}: {found['parts'][part]['seconds']} s", file=sys.stderr)
+        failed = [part for part, it in found["parts"].items() if "failed" in it]
+        return f"measure.py: failed: {', '.join(failed)}" if failed else 0
+    except Failure as failure:
+        return f"measure.py: {failure}"
+
+
+if __name__ == "__main__":
+    sys.exit(main())
