@@ -1,13 +1,14 @@
 #!/usr/bin/env python3
-"""What `compact` costs beside reading the old file and writing the new one: seconds by the clock, medians of some runs.
+"""What `compact` costs against reading the old file and writing the new one: seconds of wall-clock time, medians of some runs.
 
-    bench/copies.py [PROGRAM] [--keys N] [--runs R] [--folder F]
+    bench/copies.py [PROGRAM] [--keys N] [--runs R] [--folder F] [--out FILE]
 
 Logs of N keys of 16 bytes with values of 100, 64 keys a record, once by rising keys over the whole log and once in a random order. Each is copied
-by `compact`; beside it stand `sha256sum` of the old file and writing as many bytes as the new one has, with one sync. The folder is one in
+by `compact`; next to it stand `sha256sum` of the old file and writing as many bytes as the new one has, with one sync. The folder is one in
 memory, unless another is named. Needs Python 3 and sha256sum.
 """
 import argparse
+import json
 import os
 import random
 import resource
@@ -48,7 +49,7 @@ def write_once(path, block, length):
 
 
 def measured(options, folder, order):
-    """The times of each kind, and the most memory that a copy held."""
+    """The times of each kind."""
     old, new = os.path.join(folder, "old"), os.path.join(folder, "new")
     write_log(old, options.keys, order)
     times = {"compact": [], "sha256sum of the file": [], "writing as many bytes with one sync": []}
@@ -63,7 +64,9 @@ def measured(options, folder, order):
     for name, found in times.items():
         print(f"  {name}: {statistics.median(found):.2f} s ({min(found):.2f} to {max(found):.2f})")
     other = sum(statistics.median(found) for name, found in times.items() if name != "compact")
-    print(f"  compact over three times the others together: {statistics.median(times['compact']) / (3 * other):.2f}")
+    ratio = statistics.median(times["compact"]) / (3 * other)
+    print(f"  compact over three times the others together: {ratio:.2f}")
+    return {"order": order, "keys": options.keys, "file_mb": round(os.path.getsize(old) / 1e6, 1), "seconds": times, "ratio": ratio}
 
 
 def main():
@@ -72,11 +75,16 @@ def main():
     parser.add_argument("--keys", type=int, default=1_000_000, help="(%(default)s)")
     parser.add_argument("--runs", type=int, default=11, help="(%(default)s)")
     parser.add_argument("--folder", default="/dev/shm", help="where the files lie (%(default)s)")
+    parser.add_argument("--out", help="a file for the figures, as JSON")
     options = parser.parse_args()
     with tempfile.TemporaryDirectory(prefix="ssikvd-copies-", dir=options.folder) as folder:
-        for order in ("rising", "random"):
-            measured(options, folder, order)
-    print(f"the most that a process held: {resource.getrusage(resource.RUSAGE_CHILDREN).ru_maxrss / 1024:.0f} MB")
+        rows = [measured(options, folder, order) for order in ("rising", "random")]
+    most_mb = resource.getrusage(resource.RUSAGE_CHILDREN).ru_maxrss / 1024
+    print(f"the most that a process held: {most_mb:.0f} MB")
+    if options.out:
+        with open(options.out, "w", encoding="utf-8") as file:
+            json.dump({"runs": options.runs, "most_mb": round(most_mb), "rows": rows}, file, indent=1)
+            file.write("\n")
 
 
 if __name__ == "__main__":

@@ -11,6 +11,9 @@ Takes up to 25 minutes on a machine that does nothing else. Each part leaves a f
     rows                  the rows of run.py, beside an echo server, a stand-in in C and the device
     growth                what requests cost over 10,000, 100,000 and 1,000,000 keys (scale.py)
     opening               how long it takes to open a log of so many keys, and the memory for each (scale.py)
+    copies                `compact` over a log of 1,000,000 keys (copies.py)
+    compactions           for how long a compaction stops the server (compactions.py)
+    allocators            pauses and memory with the C library's allocator and jemalloc (allocators.py)
     pauses                for how long nobody else is served (pauses.py), over 10,000 and 1,000,000 keys
 
 What isn't installed is left out with a word. `bench/page.py` makes the tables of the page from these files, and docs/pictures/draw.py the pictures.
@@ -42,6 +45,7 @@ FIGURES = ("rate", "p50_us", "p99_us", "p999_us", "refused", "busy")
 ONE, PIPELINED = "one request at a time", "pipelined"
 GROWTH_ROWS = {"fill": (10_000, 100_000, 1_000_000), "insert": (10_000, 100_000, 1_000_000), "read": (10_000, 100_000, 1_000_000),
                "deleted": (10_000, 100_000, 1_000_000), "old_end": (10_000, 100_000, 1_000_000), "old_commit": (1_000, 10_000)}
+ALLOCATORS = ["C library", "mxfast=0, trim_threshold=131072", "jemalloc", "jemalloc, decay at once"]
 # At a million keys in this order, as long as there is time.
 PAUSE_SCENES = ["quiet", "load", "written_again", "old_commit", "younger", "half_deleted", "straddling", "queue", "coming_and_going", "beside_writers",
                 "largest_ranges", "middle_ranges", "same_key", "first_long_reply", "overlapping", "refilled", "written_before", "large_commits",
@@ -207,6 +211,21 @@ def opening(options):
     scale(options, "opening", {"start": (10_000, 100_000, 1_000_000)})
 
 
+def copies(options):
+    more = ["--keys", 10_000, "--runs", 1] if options.quick else ["--runs", 3]
+    program("copies.py", options.ssikvd, "--out", path_of(options, "copies"), *more)
+
+
+def compactions(options):
+    more = ["--keys", 10_000, "--runs", 1] if options.quick else ["--runs", 3]
+    program("compactions.py", "--program", options.ssikvd, "--out", path_of(options, "compactions"), *more)
+
+
+def allocators(options):
+    more = ["--keys", 5_000, "--later", 0.5] if options.quick else ["--later", 5]
+    program("allocators.py", "--program", options.ssikvd, "--out", path_of(options, "allocators"), "--allocators", *ALLOCATORS, *more)
+
+
 def pauses(options):
     """The scenes over few keys, and then as many over many as there is time for."""
     files = []
@@ -223,7 +242,8 @@ def pauses(options):
     merged(options, "pauses", [file for file in files if os.path.exists(file)])
 
 
-PARTS = {"throughput": throughput, "readers_and_writers": readers_and_writers, "growth": growth, "opening": opening, "rows": rows_of_run, "pauses": pauses}
+PARTS = {"throughput": throughput, "readers_and_writers": readers_and_writers, "growth": growth, "opening": opening, "rows": rows_of_run,
+         "copies": copies, "compactions": compactions, "allocators": allocators, "pauses": pauses}
 
 
 def read_options():

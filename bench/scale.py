@@ -470,6 +470,7 @@ def row_records(options, commits):
 def row_start(options, keys):
     with Store(options, keys, 0) as server:
         resident, seconds = server.resident_bytes(), [server.opened]
+        server_mb, file_mb = resident / 1e6, os.path.getsize(server.data) / 1e6
         server.stop()
         for _ in range(2):
             begun = time.perf_counter()
@@ -481,7 +482,7 @@ def row_start(options, keys):
         with Store(options, 0, 0) as empty:
             resident -= empty.resident_bytes()
         return {"start_ms": ms(statistics.median(seconds)), "sha256sum_ms": ms(digest), "ratio": round(statistics.median(seconds) / digest, 2),
-                "bytes_per_key": round(resident / keys)}
+                "bytes_per_key": round(resident / keys), "resident_mb": round(server_mb, 1), "file_mb": round(file_mb, 1)}
 
 
 # Each row, and whether its sizes are numbers of keys or of commits.

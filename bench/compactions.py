@@ -1,0 +1,161 @@
+#!/usr/bin/env python3
+"""For how long clients aren't served while a data file is compacted, and how fast one is verified: what bench/sizing.py computes with.
+
+    bench/compactions.py [--program PROGRAM] [--keys N].. [--runs R] [--out FILE]
+
+A server over N keys of 9 bytes with values of 100, 64 keys a record, in a folder in memory. One client commits 80 times a second, and connects again
+as soon as it can. Meanwhile dist/ssikvd-compact stops the server, swaps the files and starts it again. The figure is the longest time from one
+answered commit to the next, without the distance of two. Then ssikvd-verify reads a log of 100,000 commits of one key. Needs Python 3 and flock.
+"""
+import argparse
+import contextlib
+import json
+import os
+import socket
+import subprocess
+import sys
+import tempfile
+import threading
+import time
+
+sys.dont_write_bytecode = True
+
+from logs import write_log, write_records                                    # noqa: E402
+from scale import BEGIN, COMMIT, COMMIT_WRITES, DEFAULT_PROGRAM, frame       # noqa: E402
+from servers import HERE, Failure, free_port, run                            # noqa: E402
+
+TOOLS = os.path.normpath(os.path.join(HERE, "..", "dist"))
+EACH_SECONDS, COMMITS = 1 / 80, 100_000
+SERVE = """#!/bin/sh
+setsid '{program}' serve --data '{data}' --listen 127.0.0.1:{port} > '{folder}/said' 2>&1 < /dev/null 8>&- 9>&- &
+echo $! > '{folder}/pid'
+"""
+STOP = """#!/bin/sh
+pid=$(cat '{folder}/pid')
+kill "$pid"
+while grep -q '^State:.[^Z]' "/proc/$pid/status" 2> /dev/null; do sleep 0.002; done
+"""
+
+
+def key_of(number):
+    return b"k%08d" % number
+
+
+class Client(threading.Thread):
+    """Commits until it is told to end, and notes when each was answered."""
+
+    def __init__(self, port, keys):
+        super().__init__()
+        self.port, self.keys, self.answered, self.ended = port, keys, [], threading.Event()
+
+    def run(self):
+        number, connection = 0, None
+        while not self.ended.is_set():
+            begun = time.monotonic()
+            try:
+                connection = connection or socket.create_connection(("127.0.0.1", self.port), 30)
+                connection.sendall(BEGIN + frame(b"SET", key_of(number % self.keys), b"y" * 100) + COMMIT)
+                reply = b""
+                while reply.count(b"\n") < 3:
+                    piece = connection.recv(4_096)
+                    if not piece:
+                        raise ConnectionError
+                    reply += piece
+                if not reply.startswith(b"+OK\r\n+OK\r\n:"):
+                    raise SystemExit(f"compactions.py: a commit was answered {reply!r}")
+                self.answered.append(time.monotonic())
+                number += 1
+                time.sleep(max(0.0, begun + EACH_SECONDS - time.monotonic()))
+            except OSError:
+                if connection:
+                    connection.close()
+                connection = None
+                time.sleep(0.002)
+
+    def longest(self):
+        return max(later - earlier for earlier, later in zip(self.answered, self.answered[1:]))
+
+
+def wait_for(port):
+    for _ in range(3_000):
+        with contextlib.suppress(OSError), socket.create_connection(("127.0.0.1", port), 1):
+            return
+        time.sleep(0.01)
+    raise Failure("the server did not come up")
+
+
+def script(folder, name, text, **more):
+    path = os.path.join(folder, name)
+    with open(path, "w", encoding="utf-8") as file:
+        file.write(text.format(folder=folder, **more))
+    os.chmod(path, 0o755)
+    return path
+
+
+def compaction(options, folder, keys):
+    """Seconds without a commit, and of the whole compaction."""
+    data, port = os.path.join(folder, "data"), free_port()
+    parts = ([(key_of(it), b"x" * 100) for it in range(at, min(at + COMMIT_WRITES, keys))] for at in range(0, keys, COMMIT_WRITES))
+    write_records(data, parts, free_sectors=200_000)
+    start = script(folder, "start", SERVE, program=options.program, data=data, port=port)
+    stop = script(folder, "stop", STOP)
+    subprocess.run([start], check=True)
+    client = Client(port, keys)
+    try:
+        wait_for(port)
+        client.start()
+        time.sleep(0.5)
+        begun = time.monotonic()
+        run([os.path.join(TOOLS, "ssikvd-compact"), "--stop", stop, "--start", start, data], env={**os.environ, "SSIKVD": options.program})
+        whole = time.monotonic() - begun
+        wait_for(port)
+        time.sleep(0.5)
+    finally:
+        client.ended.set()
+        if client.ident:
+            client.join()
+        subprocess.run([stop], check=False)
+    return client.longest() - EACH_SECONDS, whole
+
+
+def rate_of_verifying(folder):
+    path = os.path.join(folder, "small")
+    write_log(path, COMMITS, 10_000, 100)
+    begun = time.monotonic()
+    run([os.path.join(TOOLS, "ssikvd-verify"), path])
+    return COMMITS / (time.monotonic() - begun)
+
+
+def main():
+    parser = argparse.ArgumentParser(description=__doc__, formatter_class=argparse.RawDescriptionHelpFormatter)
+    parser.add_argument("--program", default=os.path.normpath(DEFAULT_PROGRAM), help="(%(default)s)")
+    parser.add_argument("--keys", type=int, nargs="+", default=[100_000, 1_000_000], help="(100000 1000000)")
+    parser.add_argument("--runs", type=int, default=3, help="(%(default)s)")
+    parser.add_argument("--folder", default="/dev/shm", help="where the files lie (%(default)s)")
+    parser.add_argument("--out", help="a file for the figures, as JSON")
+    options = parser.parse_args()
+    found = {"runs": options.runs, "rows": []}
+    try:
+        for keys in options.keys:
+            row = {"keys": keys, "not_served_s": [], "whole_s": []}
+            for _ in range(options.runs):
+                with tempfile.TemporaryDirectory(prefix="ssikvd-compactions-", dir=options.folder) as folder:
+                    not_served, whole = compaction(options, folder, keys)
+                row["not_served_s"].append(round(not_served, 3))
+                row["whole_s"].append(round(whole, 3))
+            print(row)
+            found["rows"].append(row)
+        with tempfile.TemporaryDirectory(prefix="ssikvd-compactions-", dir=options.folder) as folder:
+            found["verified_a_second"] = [round(rate_of_verifying(folder)) for _ in range(options.runs)]
+        print(f"small records that are verified a second: {found['verified_a_second']}")
+        if options.out:
+            with open(options.out, "w", encoding="utf-8") as file:
+                json.dump(found, file, indent=1)
+                file.write("\n")
+    except Failure as failure:
+        return f"compactions.py: {failure}"
+    return 0
+
+
+if __name__ == "__main__":
+    sys.exit(main())
