@@ -1,17 +1,18 @@
 #!/usr/bin/env python3
-"""Counts which share of commits is refused in random mixes, by this store's rule, by the wider rule that refuses every pivot, and by
-PostgreSQL at the isolation level SERIALIZABLE, each on the same schedule. Prints a Markdown table.
+"""Counts which share of commits is refused in random mixes, by this store's rule and by PostgreSQL at the isolation level SERIALIZABLE, on the
+same schedule. Prints a line for each mix.
 
-    bench/conflicts.py [--transactions N] [--seed N] [--postgres FOLDER] [--row-locks]
+    bench/conflicts.py [--transactions N] [--seed N] [--postgres FOLDER] [--row-locks] [--out FILE]
 
 A schedule is made from its seed: sessions whose single requests follow one another in a random order. There is no clock in it, and nobody
-begins again, so each run gives the same counts. This store's two rules are those of `harness/model.py`, which the program is compared with.
+retries, so each run gives the same counts. This store's rule is that of `harness/model.py`, which the program is compared with.
 PostgreSQL is driven by one request at a time over its own protocol. A write that would wait there for another transaction can never get on,
 since whom it waits for comes later in the schedule; it is given up and counted as a refused write.
 """
 
 import argparse
 import collections
+import json
 import os
 import random
 import socket
@@ -93,14 +94,6 @@ class Narrower(Store):
             return super()._conflict(record)
         finally:
             self.records = records
-
-
-class Wider(Narrower):
-    """A commit is refused for any pivot."""
-
-    @staticmethod
-    def _is_dangerous(source, pivot, target):
-        return True
 
 
 def words_of(request):
@@ -201,19 +194,20 @@ def by_postgres(programs, keys, sessions, requests):
 
 # The table
 
-def share(ends):
+def shares(ends):
     """Of all commits those that were refused, and those refused for a dangerous structure, in percent."""
     commits = sum(ends.values())
-    return f"{100 * (commits - ends[DONE]) / commits:.1f} | {100 * ends[STRUCTURE] / commits:.1f}"
+    return {"refused": round(100 * (commits - ends[DONE]) / commits, 1), "structures": round(100 * ends[STRUCTURE] / commits, 1)}
 
 
 def rows(arguments, programs):
     for keys in KEYS:
         for sessions in SESSIONS:
             requests = list(schedule(arguments.seed, keys, sessions, arguments.transactions))
-            found = [by_store(Wider(), requests), by_store(Narrower(), requests)]
-            found += [by_postgres(programs, keys, sessions, requests)] if programs else []
-            yield f"| {keys} | {sessions} | " + " | ".join(share(ends) for ends in found) + " |"
+            found = {"ssikvd": shares(by_store(Narrower(), requests))}
+            if programs:
+                found["postgres"] = shares(by_postgres(programs, keys, sessions, requests))
+            yield {"keys": keys, "sessions": sessions, **found}
 
 
 def main():
@@ -222,15 +216,19 @@ def main():
     options.add_argument("--seed", type=int, default=1)
     options.add_argument("--postgres", help="the folder of PostgreSQL's programs")
     options.add_argument("--row-locks", action="store_true", help="let PostgreSQL never join what it locked by rows")
+    options.add_argument("--out", help="a file for the figures, as JSON")
     arguments = options.parse_args()
     if arguments.row_locks:
         POSTGRES_SETTINGS.update(max_pred_locks_per_page="100000", max_pred_locks_per_relation="1000000")
     programs = find_postgres(arguments.postgres)
-    columns = ["every pivot", "dangerous pivots"] + (["PostgreSQL"] if programs else [])
-    print("| keys | sessions | " + " | ".join(f"{name}: refused, % | for a structure, %" for name in columns) + " |")
-    print("|---" * (2 + 2 * len(columns)) + "|")
+    found = []
     for row in rows(arguments, programs):
         print(row, flush=True)
+        found.append(row)
+    if arguments.out:
+        with open(arguments.out, "w", encoding="utf-8") as file:
+            json.dump({"transactions": arguments.transactions, "seed": arguments.seed, "row_locks": arguments.row_locks, "rows": found}, file, indent=1)
+            file.write("\n")
 
 
 if __name__ == "__main__":
