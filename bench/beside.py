@@ -111,7 +111,7 @@ def pings_beside(ssikvd, what, other):
     other.join()
     for name, value in (("99th of 100", times[len(times) * 99 // 100]), ("longest", times[-1])):
         text = f"{value:.2f} ms; median {times[len(times) // 2]:.2f} ms, {len(times)} PINGs"
-        yield {"what": f"PING beside {what}, {name}", "figure": value, "unit": "ms", "text": text}
+        yield {"what": f"PING next to {what}, {name}", "figure": value, "unit": "ms", "text": text}
 
 
 def pings_beside_ranges(ssikvd):

@@ -79,7 +79,7 @@ def main():
     options = parser.parse_args()
     with tempfile.TemporaryDirectory(prefix="ssikvd-copies-", dir=options.folder) as folder:
         rows = [measured(options, folder, order) for order in ("rising", "random")]
-    most_mb = resource.getrusage(resource.RUSAGE_CHILDREN).ru_maxrss / 1024
+    most_mb = resource.getrusage(resource.RUSAGE_CHILDREN).ru_maxrss * 1024 / 1e6
     print(f"the most that a process held: {most_mb:.0f} MB")
     if options.out:
         with open(options.out, "w", encoding="utf-8") as file:

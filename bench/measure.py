@@ -41,11 +41,15 @@ from servers import HERE, Etcd, Failure, Postgres, Redis, Ssikvd, find_postgres,
 
 RESULTS = os.path.join(HERE, "results")
 CONNECTIONS = (1, 2, 4, 8, 16, 32, 64, 128)
+# ssikvd has so many open transactions at most; of pipelined ones each ends in the turn in which it begins.
+OPEN_MAX = 64
 FIGURES = ("rate", "p50_us", "p99_us", "p999_us", "refused", "busy")
 ONE, PIPELINED = "one request at a time", "pipelined"
 GROWTH_ROWS = {"fill": (10_000, 100_000, 1_000_000), "insert": (10_000, 100_000, 1_000_000), "read": (10_000, 100_000, 1_000_000),
-               "deleted": (10_000, 100_000, 1_000_000), "old_end": (10_000, 100_000, 1_000_000), "old_commit": (1_000, 10_000)}
+               "deleted": (10_000, 100_000, 1_000_000), "old_end": (10_000, 100_000, 1_000_000), "old_commit": (10_000,)}
 ALLOCATORS = ["C library", "mxfast=0, trim_threshold=131072", "jemalloc", "jemalloc, decay at once"]
+# Where the client of a scene itself was so late, the host had taken the processors away, and the scene is measured again, at most so often.
+LATE_MS, TRIES = 50, 3
 # At a million keys in this order, as long as there is time.
 PAUSE_SCENES = ["quiet", "load", "written_again", "old_commit", "younger", "half_deleted", "straddling", "queue", "coming_and_going", "beside_writers",
                 "largest_ranges", "middle_ranges", "same_key", "first_long_reply", "overlapping", "refilled", "written_before", "large_commits",
@@ -138,9 +142,10 @@ def throughput(options):
         servers = dict(started(options, stack))
         for how in (PIPELINED, ONE):
             for work in ("read", "write"):
-                for connections in options.connections:
+                for connections in options.connections if how == PIPELINED else options.connections[::2] + options.connections[-1:]:
                     # To etcd a transaction is one request.
-                    names = [name for name in servers if name != "etcd" or how == PIPELINED]
+                    left_out = set() if how == PIPELINED else {"etcd", *(["ssikvd"] if connections > OPEN_MAX else [])}
+                    names = [name for name in servers if name not in left_out]
                     slices = {name: [] for name in names}
                     for number in range(options.rounds):
                         for name in names if number % 2 == 0 else reversed(names):
@@ -174,12 +179,12 @@ def path_of(options, part):
 
 
 def readers_and_writers(options):
-    more = ["--rounds", 1, "--seconds", 0.2] if options.quick else ["--rounds", 3, "--seconds", 1]
+    more = ["--rounds", 1, "--seconds", 0.2] if options.quick else ["--rounds", 3, "--seconds", 0.7]
     program("mix.py", "--ssikvd", options.ssikvd, "--results", path_of(options, "readers_and_writers"), *more)
 
 
 def rows_of_run(options):
-    more = ["--rounds", 1, "--seconds", 0.1] if options.quick else ["--rounds", 5, "--seconds", 0.5]
+    more = ["--rounds", 1, "--seconds", 0.1] if options.quick else ["--rounds", 3, "--seconds", 0.5]
     program("run.py", "--ssikvd", options.ssikvd, "--folder", options.folder, "--results", path_of(options, "rows"), *more)
 
 
@@ -222,8 +227,14 @@ def compactions(options):
 
 
 def allocators(options):
-    more = ["--keys", 5_000, "--later", 0.5] if options.quick else ["--later", 5]
+    more = ["--keys", 5_000, "--later", 0.5] if options.quick else ["--later", 2]
     program("allocators.py", "--program", options.ssikvd, "--out", path_of(options, "allocators"), "--allocators", *ALLOCATORS, *more)
+
+
+def late_ms(file):
+    """How late the client of a scene itself was at most."""
+    with open(file, encoding="utf-8") as opened:
+        return max(row["figures"]["client_late_ms"] for row in json.load(opened)["rows"])
 
 
 def pauses(options):
@@ -235,15 +246,19 @@ def pauses(options):
                 print(f"{scene}, {keys:,} keys: there is no time left", file=sys.stderr)
                 continue
             files.append(path_of(options, f"pauses.{keys}.{scene}"))
-            try:
-                program("pauses.py", "--program", options.ssikvd, "--out", files[-1], "--keys", keys, "--scene", scene, "--seconds", 2)
-            except Failure as failure:
-                print(failure, file=sys.stderr)
+            for _ in range(TRIES):
+                try:
+                    program("pauses.py", "--program", options.ssikvd, "--out", files[-1], "--keys", keys, "--scene", scene, "--seconds", 1.5)
+                except Failure as failure:
+                    print(failure, file=sys.stderr)
+                    break
+                if late_ms(files[-1]) < LATE_MS:
+                    break
     merged(options, "pauses", [file for file in files if os.path.exists(file)])
 
 
-PARTS = {"throughput": throughput, "readers_and_writers": readers_and_writers, "growth": growth, "opening": opening, "rows": rows_of_run,
-         "copies": copies, "compactions": compactions, "allocators": allocators, "pauses": pauses}
+PARTS = {"throughput": throughput, "readers_and_writers": readers_and_writers, "rows": rows_of_run, "growth": growth, "opening": opening, "copies": copies,
+         "compactions": compactions, "allocators": allocators, "pauses": pauses}
 
 
 def read_options():

@@ -285,7 +285,7 @@ def written_again(options):
     with Scene(options, options.keys, options.keys // COMMIT_WRITES + SMALL_COMMITS + 8) as scene:
         old, client = scene.client(), scene.client()
         opened(old)
-        with scene.part("everything written again beside an old transaction"):
+        with scene.part("everything written again while an old transaction is open"):
             set_all(client, scattered, options.keys)
         with scene.part("the end of that transaction"):
             old.ask(COMMIT)
@@ -298,7 +298,7 @@ def old_commit(options):
         old, client = scene.client(), scene.client()
         marking(old, PAIRS)
         set_all(client, scattered, options.keys)
-        with scene.part("the COMMIT of one with 256 ranges and 64 writes, beside which everything was written again"):
+        with scene.part("the COMMIT of one with 256 ranges and 64 writes, after everything was written again"):
             old.ask(COMMIT)
             small_commits(client)
     return scene
@@ -340,7 +340,7 @@ def queue(options):
         old, client = scene.client(), scene.client()
         set_all(client, queue_key, QUEUE)
         opened(old)
-        with scene.part("a queue beside an old reader"):
+        with scene.part("a queue with an old reader"):
             for first in range(0, options.keys - STEP, STEP):
                 taken = client_takes(client)
                 if taken != [queue_key(number) for number in range(first, first + STEP)]:
@@ -519,7 +519,7 @@ def first_long_reply(options):
         set_all(client, scattered, options.keys)
         opened(old)
         set_all(client, scattered, options.keys)
-        with scene.part("turns in which nothing is asked for, until what an old transaction saw is given back"):
+        with scene.part("idle turns, until what an old transaction saw is freed"):
             old.ask(COMMIT)
             scene.wait_until_idle()
         with scene.part("the first RANGE of 100 pairs after that"):
@@ -569,7 +569,7 @@ def beside_writers(options):
     with Scene(options, options.keys, options.keys // COMMIT_WRITES + 1000 * int(1 + options.seconds), SYNC_MS) as scene:
         readers = [Session(scene.client(), *(frame(b"GET", scattered(4 * number + it)) for it in range(4))) for number in range(READERS)]
         writers = [Session(scene.client(), sets([scattered(number)])) for number in range(WRITERS)]
-        with scene.part("16 clients that read, beside 16 that write, where a sync takes 1 ms") as more:
+        with scene.part("16 clients that read and 16 that write, where a sync takes 1 ms") as more:
             sessions_go_on(readers + writers, options.seconds)
             waits = sorted(wait for it in readers for wait in it.waits)
             if not waits or not any(it.waits for it in writers):
@@ -606,7 +606,7 @@ def old_commits(options):
         for whose, client in enumerate(clients):
             marking(client, PAIRS, whose)
         set_all(scene.client(), scattered, options.keys)
-        with scene.part("60 COMMITs of ones with 256 ranges and 64 writes, beside which everything was written again, all in one turn"):
+        with scene.part("60 COMMITs of ones with 256 ranges and 64 writes, after everything was written again, all in one turn"):
             all_commit(scene, clients)
     return scene
 

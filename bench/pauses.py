@@ -4,9 +4,9 @@
     bench/pauses.py [--program PROGRAM] [--keys N].. [--out FILE]
     bench/pauses.py --table FILE.. | --waits FILE..
 
-One client sends PING each millisecond, from a process of its own, beside: a random load; everything written again beside an old transaction, and
-the end of that one; the COMMIT of one with 256 ranges and 64 writes beside which everything was written again; the end of the younger of two old
-ones; one key written again and again while many lists of older versions are left; a queue beside an old reader; half of the keys deleted, and
+One client sends PING each millisecond, from a process of its own, during: a random load; everything written again while an old transaction is open,
+and the end of that one; the COMMIT of one with 256 ranges and 64 writes after everything was written again; the end of the younger of two old
+ones; one key written again and again while many lists of older versions are left; a queue with an old reader; half of the keys deleted, and
 ranges over them; ranges over keys that were deleted at their begin and are set again; 256 ranges over a run of written keys that straddles the begin, side by side and each within the next; many COMMITs that have read
 all that was written before their begin; 60 clients with the largest RANGEs, and with such of a quarter of the bytes; 128 connections coming and
 going; the first long reply after an old transaction, whose versions were given back; 16 clients that read beside 16 that write, where a sync takes
@@ -19,8 +19,7 @@ The waits go by the clock, so other work of the machine is in them; by how much 
 hasn't any of that. It is taken by a library that is preloaded into the server (harness/polls.c). Needs Python 3, make and a C compiler, and at a
 million keys 2 GB of memory.
 
-`--table` prints the table of the processor times from such files, as it stands in the documents, and `--waits` that of the waits.
-`docs/pictures/draw.py` draws the picture.
+`--table` prints the table of the processor times from such files, and `--waits` that of the waits. `measure.py` leaves the files of the documents.
 """
 
 import argparse
@@ -34,10 +33,9 @@ sys.dont_write_bytecode = True
 from pause_scenes import CROWDS, SCENES, measured   # noqa: E402
 from preloaded import build                         # noqa: E402
 from scale import DEFAULT_PROGRAM, about            # noqa: E402
-from servers import HERE, Failure                   # noqa: E402
+from servers import Failure                         # noqa: E402
 
 ALL_SCENES = SCENES | CROWDS
-DOCUMENTED = os.path.normpath(os.path.join(HERE, "..", "docs", "pauses"))
 CLOCK = (("median_ms", "median"), ("most_ms", "99.9 %"), ("longest_ms", "longest"), ("client_late_ms", "the client itself was late"))
 
 
@@ -50,10 +48,6 @@ def read_rows(paths):
         with open(path, encoding="utf-8") as file:
             rows += json.load(file)["rows"]
     return rows
-
-
-def rows_of_documents():
-    return read_rows(os.path.join(DOCUMENTED, name) for name in os.listdir(DOCUMENTED) if name.endswith(".json"))
 
 
 def by_scene(rows):

@@ -8,8 +8,8 @@ itself, PostgreSQL too, over fresh folders under --folder. The durable rows tell
 
 Each row is measured in rounds: a slice of one side, a slice of the other, in turn the other way round. The ratio is the median of the
 rounds' ratios, and the middle half of these stands beside it; rates and times are medians of their own. Since a disk stalls now and then,
-whoever syncs, the durable rows have many short slices, and there the third quartiles of the two sides' rates are compared. More is better
-for ssikvd. On a machine that does other work the ratios say more than the rates; the load beside each row tells of that.
+whoever syncs, the durable rows have many short slices. More is better for ssikvd. On a machine that does other work the ratios say more than the
+rates; the load beside each row tells of that.
 """
 
 import argparse
@@ -68,10 +68,8 @@ def quartile(values, number):
 class Row:
     """A line of the table: two sides, measured in turn."""
 
-    def __init__(self, what, peer, goal=None, on_disk=False):
+    def __init__(self, what, peer, goal=None):
         self.what, self.peer, self.goal = what, peer, goal
-        # A disk stalls now and then, whoever syncs. So there the third quartiles are compared: what each side does where it doesn't stall.
-        self.on_disk = on_disk
         self.ours, self.theirs, self.notes = [], [], []
         self.load = 0.0
 
@@ -92,10 +90,10 @@ class Row:
         return [mine["rate"] / max(other["rate"], 1e-9) for mine, other in zip(self.ours, self.theirs)]
 
     def rate(self, slices):
-        return quartile([it["rate"] for it in slices], 3 if self.on_disk else 2)
+        return quartile([it["rate"] for it in slices], 2)
 
     def ratio(self):
-        return self.rate(self.ours) / self.rate(self.theirs) if self.on_disk else quartile(self.ratios(), 2)
+        return quartile(self.ratios(), 2)
 
     def verdict(self):
         if self.goal is None:
@@ -105,7 +103,7 @@ class Row:
     def side(self, slices):
         if "p50_us" not in slices[0]:
             return f"{self.rate(slices):,.1f}/s"
-        median_us = quartile([it["p50_us"] for it in slices], 1 if self.on_disk else 2)
+        median_us = quartile([it["p50_us"] for it in slices], 2)
         return f"{self.rate(slices):,.0f}/s, {median_us:,.0f} us"
 
     def cells(self):
@@ -249,13 +247,13 @@ def commit_rows(options, ssikvd, postgres):
     kinds = [(16, False, "one request at a time", 0.9), (1, True, "pipelined", None), (1, False, "one request at a time", None)]
     for connections, at_once, how, goal in kinds:
         load = Load(options, "write", connections, at_once)
-        row = Row(f"BEGIN, SET, COMMIT, {counted(connections)}, {how}", "the device, two syncs", goal, on_disk=True)
+        row = Row(f"BEGIN, SET, COMMIT, {counted(connections)}, {how}", "the device, two syncs", goal)
         yield row.measure(rounds, lambda: load.measure(ssikvd, seconds), lambda: device.measure(seconds))
         ssikvd.committed += load.committed
     kinds = [("write", 1, "BEGIN, SET, COMMIT"), ("write", 16, "BEGIN, SET, COMMIT"), ("hot", 16, "BEGIN, GET, SET of one of 16 keys, COMMIT")]
     for work, connections, what in kinds if postgres else ():
         load = Load(options, work, connections)
-        row = Row(f"{what}, {counted(connections)}, one request at a time", "PostgreSQL, durable", on_disk=True)
+        row = Row(f"{what}, {counted(connections)}, one request at a time", "PostgreSQL, durable")
         yield row.measure(rounds, lambda: load.measure(ssikvd, seconds), lambda: load.measure(postgres, seconds))
         ssikvd.committed += load.committed
         if work == "hot":

@@ -8,8 +8,6 @@ Each row is measured at each size against a server of its own, over a data file 
 requests at once. Keys have 16 bytes and stand in random order, values 100 bytes. A row at a size ends after --limit seconds; its figures then
 tell of what was done until then, and `cut` of how much that was. Needs Python 3 alone, and memory for data files of up to 0.6 GB.
 
-`bench/scale_report.py FILE` makes the table and the picture of the documentation from such a file.
-
 The rows, and the figures of each. Times are by the clock of the client; those with `cpu` are the server's processor time.
 
     fill       N new keys in random order into an empty store, commits of 64: seconds in all, the longest COMMIT, the longest whole

@@ -28,12 +28,12 @@ TRIES = 3
 QUICK_MS = {
     "nothing else": 2,
     "a random load": 4,
-    "everything written again beside an old transaction": 12,
+    "everything written again while an old transaction is open": 12,
     "the end of that transaction": 28,
-    "the COMMIT of one with 256 ranges and 64 writes, beside which everything was written again": 32,
+    "the COMMIT of one with 256 ranges and 64 writes, after everything was written again": 32,
     "the end of the younger of two old ones": 56,
     "one key written again and again, while many lists of older versions are left": 2,
-    "a queue beside an old reader": 16,
+    "a queue with an old reader": 16,
     "half of the keys deleted, and ranges over them": 3,
     "ranges of 1 over keys that were deleted at the begin and are set again": 3,
     "256 ranges over a run that straddles the begin": 4,
@@ -42,17 +42,17 @@ QUICK_MS = {
     "60 clients with the largest RANGEs": 1400,
     "60 clients with RANGEs of 128 values of 4,096 bytes": 400,
     "128 connections coming and going": 24,
-    "turns in which nothing is asked for, until what an old transaction saw is given back": 6,
+    "idle turns, until what an old transaction saw is freed": 6,
     "the first RANGE of 100 pairs after that": 2.5,
-    "16 clients that read, beside 16 that write, where a sync takes 1 ms": 16,
+    "16 clients that read and 16 that write, where a sync takes 1 ms": 16,
 }
 LONG_MS = {
     "24 COMMITs of 64 values of 16,384 bytes, all in one turn": 670,
-    "60 COMMITs of ones with 256 ranges and 64 writes, beside which everything was written again, all in one turn": 170,
+    "60 COMMITs of ones with 256 ranges and 64 writes, after everything was written again, all in one turn": 170,
     "60 clients with 21 RANGEs of 128 over keys of which one in 384 is left, all in one turn": 1340,
 }
 # Where they are judged, the most syncs between two polls: those of one of 16 that commit.
-SYNCS = {"16 clients that read, beside 16 that write, where a sync takes 1 ms": 2}
+SYNCS = {"16 clients that read and 16 that write, where a sync takes 1 ms": 2}
 
 
 def scenes_and_bounds():
