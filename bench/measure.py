@@ -93,7 +93,7 @@ def head(options):
             "memory_gb": round(memory / 1e6, 1), "kernel": os.uname().release, "libc": " ".join(platform.libc_ver()), "disk": file_system(options.folder),
             "in_memory": file_system("/dev/shm"), "virtual": first_line(["systemd-detect-virt", "--vm"]) if shutil.which("systemd-detect-virt") else None,
             "postgres": postgres_program(options) and run([postgres_program(options), "--version"]).strip(),
-            "redis": first_line(["redis-server", "--version"]), "etcd": first_line(["etcd", "--version"]), "quick": options.quick, "parts": {}}
+            "redis": first_line(["redis-server", "--version"]), "etcd": first_line(["etcd", "--version"]), "quick": options.quick, "remarks": [], "parts": {}}
 
 
 def store(options, part, value):

@@ -7,10 +7,10 @@
 One client sends PING each millisecond, from a process of its own, during: a random load; everything written again while an old transaction is open,
 and the end of that one; the COMMIT of one with 256 ranges and 64 writes after everything was written again; the end of the younger of two old
 ones; one key written again and again while many lists of older versions are left; a queue with an old reader; half of the keys deleted, and
-ranges over them; ranges over keys that were deleted at their begin and are set again; 256 ranges over a run of written keys that straddles the begin, side by side and each within the next; many COMMITs that have read
-all that was written before their begin; 60 clients with the largest RANGEs, and with such of a quarter of the bytes; 128 connections coming and
-going; the first long reply after an old transaction, whose versions were given back; 16 clients that read beside 16 that write, where a sync takes
-1 ms. Three more are crowds, whose requests all stand ready in one turn: COMMITs of 1 MiB, COMMITs of old transactions, and RANGEs over keys most of
+ranges over them; ranges over keys that were deleted at their begin and are set again; 256 ranges over a run of written keys that straddles the
+begin, side by side and each within the next; many COMMITs that have read all that was written before their begin; 60 clients with the largest
+RANGEs, and with such of a quarter of the bytes; 128 connections coming and going; the first long reply after an old transaction, whose versions
+were freed; 16 clients that read and 16 that write, where a sync takes 1 ms. Three more are crowds, whose requests all stand ready in one turn: COMMITs of 1 MiB, COMMITs of old transactions, and RANGEs over keys most of
 which were deleted. Each has a server of its own over a data file in memory (--folder).
 
 The figures of each: the median of the waits, what all but one in a thousand stay below, the longest; the longest processor time of the server

@@ -1,8 +1,8 @@
 #!/usr/bin/env python3
 """What rate a data file sustains, and for how much of the time compactions stop its server: prints the table of docs/OPERATIONS.md, "Sizing".
 
-It measures nothing. It computes from the figures below, each of which was measured, for small commits, of one key, that take two sectors; the keys have
-9 bytes and values of 100. Let F be the commits for which a file has room behind its map, K the number of keys, and r the rate of commits a second.
+It measures nothing. It computes from figures in bench/results, for small commits, of one key, that take two sectors; keys have up to 16 bytes and values
+100. Let F be the commits for which a file has room behind its map, K the number of keys, and r the rate of commits a second.
 
 The timer looks each minute, and compacts if more than half of the sectors are used, or if the log would be full within ten minutes at that rate.
 A compaction then verifies the c commits since the last one, and reads them and copies K keys beside the server, for which it takes half of the time that is
@@ -11,13 +11,19 @@ the first look at which c is more than half of the file without the map, or more
 """
 import argparse
 import math
+import os
+import sys
+
+sys.path.append(os.path.dirname(os.path.abspath(__file__)))
+
+import page     # noqa: E402
 
 LOOK, WITHIN, ABOVE = 60, 600, 0.5          # the timer's seconds, and the two rules of its unit
-VERIFIED = 70_000                           # small records that ssikvd-verify reads a second
-READ = 400_000                              # small records that an opening reads a second: 100,000 in 0.25 s
-COPIED = 1_000_000 / 1.53                   # keys that `compact` copies a second, written in random order
+VERIFIED = page.verified_a_second()         # small records that ssikvd-verify reads a second
+READ = page.read_a_second()                 # small records that an opening reads a second
+COPIED = page.copied_a_second()             # keys that `compact` copies a second, written in random order
 KEYS_OF_SECTOR = 4                          # 64 keys take 16 sectors
-STOPPED = {100_000: 0.3, 1_000_000: 1.6}    # for each number of keys, the seconds for which clients weren't served in a compaction
+STOPPED = page.stopped_s()                  # for each number of keys, the seconds for which clients weren't served in a compaction
 MIB = 2_048
 FILES = ((128 * MIB, 100_000), (512 * MIB, 100_000), (512 * MIB, 1_000_000), (2_048 * MIB, 100_000), (2_048 * MIB, 1_000_000))
 RATES = (100, 1_000, 10_000)
@@ -62,14 +68,19 @@ def cell(sectors, keys, rate):
     return f"{words(seconds)}, {100 * STOPPED[keys] / seconds:.2g} %"
 
 
-def main():
-    argparse.ArgumentParser(description=__doc__, formatter_class=argparse.RawDescriptionHelpFormatter).parse_args()
-    print("| File | Keys | Sustains, commits a second |" + "".join(f" Compactions at {rate:,} a second |" for rate in RATES))
-    print("|" + "---|" * (3 + len(RATES)))
+def lines():
+    """The table."""
+    yield "| File | Keys | Sustains, commits a second |" + "".join(f" Compactions at {rate:,} a second |" for rate in RATES)
+    yield "|" + "---|" * (3 + len(RATES))
     for sectors, keys in FILES:
         size = f"{sectors // MIB} MiB" if sectors < 1_024 * MIB else f"{sectors // MIB // 1_024} GiB"
         cells = "".join(f" {cell(sectors, keys, rate)} |" for rate in RATES)
-        print(f"| {size} | {keys:,} | {rounded(sustained(sectors, keys)):,} |{cells}")
+        yield f"| {size} | {keys:,} | {rounded(sustained(sectors, keys)):,} |{cells}"
+
+
+def main():
+    argparse.ArgumentParser(description=__doc__, formatter_class=argparse.RawDescriptionHelpFormatter).parse_args()
+    print("\n".join(lines()))
 
 
 if __name__ == "__main__":

@@ -17,6 +17,18 @@ HERE = os.path.dirname(os.path.abspath(__file__))
 INK, SOFT, PALE = "#1b2a3a", "#5b7083", "#eef3f7"
 BLUE, GREEN, AMBER, RED = "#2f6fab", "#3c8a5a", "#c98a1b", "#b5483a"
 STYLE = "font-family: sans-serif; font-size: 13px; fill: " + INK
+# How wide the signs from space to ~ are in DejaVu Sans, in thousandths of the size: it is among the widest fonts that browsers take for sans-serif.
+WIDTHS = (
+    318, 401, 460, 838, 636, 950, 780, 275, 390, 390, 500, 838, 318, 361, 318, 337, 636, 636, 636, 636, 636, 636, 636,
+    636, 636, 636, 337, 337, 838, 838, 838, 531, 1000, 684, 686, 698, 770, 632, 575, 775, 752, 295, 295, 656, 557, 863,
+    748, 787, 603, 787, 695, 635, 611, 732, 684, 989, 685, 611, 685, 390, 337, 390, 838, 500, 500, 613, 635, 550, 635,
+    615, 352, 635, 634, 278, 278, 579, 278, 974, 634, 612, 635, 635, 411, 521, 392, 634, 592, 818, 592, 592, 525, 636,
+    337, 636, 838)
+
+
+def width_of(text, size=13, weight="normal"):
+    """How wide a text is drawn at most."""
+    return sum(WIDTHS[ord(sign) - 32] if " " <= sign <= "~" else 1000 for sign in text) * size * (1.13 if weight == "bold" else 1) / 1000
 
 
 class Picture:
@@ -24,14 +36,20 @@ class Picture:
 
     def __init__(self, title, width, height):
         self.title, self.width, self.height, self.parts, self.heads = title, width, height, [], []
+        # Where words stand, and what is filled.
+        self.words, self.filled = [], []
 
     def box(self, x, y, width, height, fill=PALE, line=SOFT, dashes=""):
         dashed = f' stroke-dasharray="{dashes}"' if dashes else ""
+        self.filled.append((x, y, x + width, y + height))
         self.parts.append(
             f'<rect x="{x:g}" y="{y:g}" width="{width:g}" height="{height:g}" rx="4" fill="{fill}" stroke="{line}"{dashed}/>')
 
     def text(self, x, y, text, anchor="start", fill=INK, size=13, weight="normal", family=""):
         of_family = f' font-family="{family}"' if family else ""
+        width = width_of(text, size, weight)
+        left = x - {"start": 0, "middle": width / 2, "end": width}[anchor]
+        self.words.append((left, y - 0.76 * size, left + width, y + 0.24 * size, text))
         self.parts.append(
             f'<text x="{x:g}" y="{y:g}" text-anchor="{anchor}" fill="{fill}" font-size="{size}" font-weight="{weight}"{of_family}>'
             f'{escape(text)}</text>')
@@ -46,6 +64,9 @@ class Picture:
         self.parts.append(
             f'<line x1="{x1:g}" y1="{y1:g}" x2="{x2:g}" y2="{y2:g}" stroke="{color}" stroke-width="{width:g}"{dashed}{end}/>')
 
+    def dot(self, x, y, color):
+        self.parts.append(f'<circle cx="{x:g}" cy="{y:g}" r="3" fill="{color}"/>')
+
     def svg(self):
         head = (
             f'<svg xmlns="http://www.w3.org/2000/svg" viewBox="0 0 {self.width:g} {self.height:g}" width="{self.width:g}" '
@@ -53,7 +74,8 @@ class Picture:
         markers = "".join(
             f'<marker id="{name}" viewBox="0 0 8 8" refX="7" refY="4" markerWidth="7" markerHeight="7" orient="auto">'
             f'<path d="M0 0 L8 4 L0 8 z" fill="{color}"/></marker>' for name, color in [("arrow", SOFT), *self.heads])
-        paper = '<rect width="100%" height="100%" fill="white"/>'
+        # A card of its own, so that a dark page doesn't hide dark words.
+        paper = '<rect width="100%" height="100%" rx="6" fill="white"/>'
         return "\n".join([head, f"<title>{escape(self.title)}</title>", f"<defs>{markers}</defs>", paper, *self.parts, "</svg>"]) + "\n"
 
 

@@ -6,10 +6,10 @@ terminal of its own runs in the background, and `^C` ends it. Port 7777 is anoth
 the reason. `long` runs also what needs `rt` for a minute.
 
 Then: no table cell over 120 characters and no sentence over 40 words, no link that leads nowhere, pictures as docs/pictures/draw.py draws
-them, with the figures of docs/PERFORMANCE.md, of which README.md has some, the table of sizes of docs/OPERATIONS.md as bench/sizing.py computes it,
-and the crates of docs/ARCHITECTURE.md as crates.txt has them. The
-commands and refusals of docs/PROTOCOL.md, docs/CLIENTS.md and man/ssikvd.7 are those of the definitions, and the tables of docs/LOG_FORMAT.md those of
-the model's logs. docs/TESTING.md has each harness of runner.py. Numbers of the code are its constants. Documents that are installed link to none that isn't.
+them, docs/PERFORMANCE.md and the figures that other documents have from it as bench/page.py writes them from bench/results, the table of sizes of
+docs/OPERATIONS.md as bench/sizing.py computes it, and the crates of docs/ARCHITECTURE.md as crates.txt has them. The commands and refusals of
+docs/PROTOCOL.md, docs/CLIENTS.md and man/ssikvd.7 are those of the definitions, and the tables of docs/LOG_FORMAT.md those of the model's logs.
+docs/TESTING.md has each harness of runner.py. Numbers of the code are its constants. Documents that are installed link to none that isn't.
 Of each block of ```ini and ```python: a unit that `systemd-analyze verify` takes, Python that is Python.
 """
 import glob
@@ -328,14 +328,9 @@ def pictures(tally):
         draw = os.path.join(TOP, "docs", "pictures", "draw.py")
         ran = subprocess.run([sys.executable, "-B", draw, "--check"], capture_output=True, text=True)
         expect(ran.returncode == 0, (ran.stdout + ran.stderr).strip())
-    with tally.run("the figures"):
-        runs = [os.path.join(TOP, "docs", "runs", name) for name in os.listdir(os.path.join(TOP, "docs", "runs"))]
-        report = subprocess.run([sys.executable, "-B", os.path.join(TOP, "bench", "report.py"), *runs], capture_output=True, text=True)
-        expect_shown(report)
-    with tally.run("the pauses"):
-        place = os.path.join(TOP, "docs", "pauses")
-        words = [sys.executable, "-B", os.path.join(TOP, "bench", "pauses.py"), "--table", *(os.path.join(place, name) for name in os.listdir(place))]
-        expect_shown(subprocess.run(words, capture_output=True, text=True))
+    with tally.run("the figures that were measured"):
+        ran = subprocess.run([sys.executable, "-B", os.path.join(TOP, "bench", "page.py")], capture_output=True, text=True)
+        expect(ran.returncode == 0, (ran.stdout + ran.stderr).strip())
     with tally.run("the sizing"):
         words = [sys.executable, "-B", os.path.join(TOP, "bench", "sizing.py")]
         expect_shown(subprocess.run(words, capture_output=True, text=True), "docs/OPERATIONS.md")
@@ -363,24 +358,6 @@ CONSTANTS = (
     ("model/src/values.rt", "VALUE_MAX", "value over # bytes|value has # bytes at most|bytes and values of up to #|of 256 bytes, values of #"),
     ("resp/src/writing.rt", "BRIEF_MAX", "an output of #|value or pairs has # bytes"),
 )
-# Figures of README.md, each with the row of docs/PERFORMANCE.md that has it, and what a unit of the one is in the other.
-FIGURES = (
-    (r"([\d,]+) transactions of four reads a second", r"^\| 6 \| PostgreSQL SERIALIZABLE \| ([\d,]+)", 1),
-    (r"([\d,]+) durable commits", r"^\| 11 \| the device, two syncs \| ([\d,]+)", 1),
-    (r"([\d,]+) PINGs", r"^\| 2 \| C epoll echo \| ([\d,]+)", 1),
-    (r"a million keys opened in ([\d.]+) s", r"^\| opening a log of N keys, ms .* ([\d,]+) \|$", 1000),
-)
-
-
-def figures(tally):
-    """The figures of README.md are those of docs/PERFORMANCE.md, within three of a hundred."""
-    for said, row, unit in FIGURES:
-        with tally.run(f"README.md: {said}"):
-            first, last = (re.findall(pattern, text_of(name), re.M) for name, pattern in (("README.md", said), ("docs/PERFORMANCE.md", row)))
-            expect(first and last, "it isn't there")
-            said, due = (float(found[-1].replace(",", "")) for found in (first, last))
-            expect(abs(said * unit - due) <= 0.03 * due, f"README.md has {said}, and docs/PERFORMANCE.md {due}")
-
 
 def constants(tally):
     """What documents say of a constant of the code is its value."""
@@ -535,7 +512,7 @@ def log_format(tally):
 def main():
     need(PROGRAM)
     tally = Tally("documents")
-    for part in (run_commands, worked, other_blocks, style, links, pictures, figures, constants, installed, layers, sealed, tests, names, log_format):
+    for part in (run_commands, worked, other_blocks, style, links, pictures, constants, installed, layers, sealed, tests, names, log_format):
         part(tally)
     return 0 if tally.end() else 1
 

@@ -5,6 +5,9 @@ Where it was overwritten, an arrow leads to it from whoever wrote that key. Each
 that is drawn. Each picture is XML, and on those of the documents no label stands on another. So it is of the examples. Where one refused commit of
 theirs is said to have been answered a number, a dependency doesn't rise, and that is seen.
 
+Of the pictures that docs/pictures/draw.py draws, no words stand on others, on a bar or over the edge, as wide as DejaVu Sans draws them, and each has
+a light card of its own behind it.
+
 `quick` draws 60 scripts, `long` 1,000.
 """
 import os
@@ -18,11 +21,14 @@ from ssikvd_harness.settings import TOP
 from histories import FORMS, RecentStore, model_history
 from random_scripts import by_model, script_of
 
-sys.path.append(os.path.join(TOP, "examples"))
+sys.path += [os.path.join(TOP, "examples"), os.path.join(TOP, "docs", "pictures")]
 
+import draw         # noqa: E402
 import picture      # noqa: E402
 
 DRAWN = ("write_skew", "phantom", "read_only_anomaly")
+# On these words stand in boxes; on the others a box is a bar.
+BOXED = ("crates", "commit", "append")
 
 
 def parse(drawn):
@@ -86,6 +92,31 @@ def labels(name, shown, stage):
         expect(not any(picture.overlap(box, other) for other in stage.taken[:number]), f"{name}: two labels overlap")
 
 
+def words_of(name, shown):
+    """The words of a picture stand apart from one another and from bars, and lie on its card."""
+    text = shown.svg()
+    expect('fill="white"' in text and text.index('fill="white"') < text.index("<text"), f"{name} has no card behind it")
+    for number, (left, top, right, bottom, said) in enumerate(shown.words):
+        box = left, top, right, bottom
+        expect(0 <= left and right <= shown.width and 0 <= top and bottom <= shown.height, f"{name}: '{said}' goes over the edge")
+        on = [other[4] for other in shown.words[:number] if picture.overlap(box, other)]
+        expect(not on, f"{name}: '{said}' stands on '{on[:1]}'")
+        expect(name in BOXED or not any(picture.overlap(box, bar) for bar in shown.filled), f"{name}: '{said}' stands on a bar")
+
+
+def on_a_bar():
+    """Words on a bar, and over the edge, are seen."""
+    for x in (30, 190):
+        shown = picture.Picture("planted", 200, 60)
+        shown.box(20, 20, 80, 20)
+        shown.text(x, 34, "words")
+        try:
+            words_of("planted", shown)
+        except Deviation:
+            continue
+        raise Deviation("words that stand on a bar or over the edge aren't seen")
+
+
 def falsified(name):
     """The picture of an example is wrong where its refused commit is said to have been answered the next number."""
     script, output = (content.decode().splitlines() for content in example_files(name))
@@ -106,6 +137,12 @@ def main():
     for name in DRAWN:
         with tally.run(f"{name}, falsified"):
             falsified(name)
+    for name in draw.PICTURES:
+        if name not in draw.EXAMPLES:
+            with tally.run(f"the words of {name}"):
+                words_of(name, draw.PICTURES[name]())
+    with tally.run("words on a bar, planted"):
+        on_a_bar()
     for number in range(1_000 if is_long() else 60):
         with tally.run(f"script {number}"):
             refused += random_script(number)

@@ -50,7 +50,7 @@ AVOIDED = {
 # Words that a reader searches for.
 SEARCHED = ("throughput", "CPU time", "write-ahead log", "optimistic", "idempotency key", "backoff", "percentile", "pipelined", "restart", "garbage", "snapshot",
             "recovery", "abort", "serializable", "wall-clock", "group commit", "auto-commit", "replication", "authentication")
-NOT_READ = ("docs/STATUS.md", "docs/PERFORMANCE.md")
+NOT_READ = ("docs/STATUS.md",)
 
 
 def prose(name):
