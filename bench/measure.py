@@ -263,7 +263,7 @@ PARTS = {"throughput": throughput, "readers_and_writers": readers_and_writers, "
 
 def read_options():
     parser = argparse.ArgumentParser(description=__doc__, formatter_class=argparse.RawDescriptionHelpFormatter)
-    parser.add_argument("--ssikvd", default=os.path.normpath(DEFAULT_PROGRAM), help="the program that was built (%(default)s)")
+    parser.add_argument("--ssikvd", default=os.environ.get("SSIKVD", os.path.normpath(DEFAULT_PROGRAM)), help="the program that was built (%(default)s)")
     parser.add_argument("--folder", default="/tmp", help="where data lies that is to be on a disk (%(default)s)")
     parser.add_argument("--postgres", help="the folder of PostgreSQL's programs (else found)")
     parser.add_argument("--results", default=RESULTS, help="the folder for the figures (%(default)s)")
