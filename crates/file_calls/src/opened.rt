@@ -21,8 +21,8 @@ pub struct OpenedFile {
 impl OpenedFile {
     ghost use Rattle.std.specs.Path.{path_bytes};
     ghost use Rattle.file_calls.specs.HappenedCalls.{WasAnswered, WasMade, WasOpened, WasOpenedToRead, HadLength};
-    ghost use Rattle.file_calls.specs.HappenedCalls.{HadDirectorySynced, HadNameSettled, HadCopiesDropped, WasAdvised};
-    ghost use Rattle.file_calls.specs.HappenedCalls.{directory_of};
+    ghost use Rattle.file_calls.specs.HappenedCalls.{HadDirectorySynced, HadNameSettled, HadCopiesDropped};
+    ghost use Rattle.file_calls.specs.HappenedCalls.{WasAdvised, directory_of};
 
     /// Makes a new file, to be read and written. Answers the system's error, also where a file of this name exists. Takes no memory.
     pub fn make<R: Files<File = File> + Clock>(rt: &R, path: &str) -> io::Result<OpenedFile>
