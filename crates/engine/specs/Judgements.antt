@@ -44,6 +44,13 @@ abbrev pub IsPayload : List KeyWrite → Option ℕ → Type 0
 IsPayload ws None = ws ≡ []
 IsPayload ws (Some len) = IsWritten ws × (len ≡ payload_size ws)
 
+-- a log that runs, with room for the record of what was written, whose payload is that long
+pub record CanCarryOut {D : Type 0} {g : Ghosts D} (log : Log D g) (ws : List KeyWrite) (payload : Option ℕ) : Type 0
+  where
+    pub running : is_stopped log ≡ false
+    pub room : HasLogRoom (used_sectors log) (sector_count log) ws
+    pub payload_is : IsPayload ws payload
+
 -- the judgement is the machine's, over each state that the engine stands for
 abbrev pub IsJudged : {D : Type 0} {g : Ghosts D} → Engine D g → ℕ → View → Judgement → Type 0
 IsJudged e s t (Refused refusal) = IsRefused e s refusal

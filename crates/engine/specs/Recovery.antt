@@ -1,5 +1,5 @@
 -- What a crash leaves of the store.
-use Rattle.std.specs.Prelude.{◌≡◌, ◌⊎◌, ℕ, true, false, List, [], length}
+use Rattle.std.specs.Prelude.{◌≡◌, ◌⊎◌, ℕ, true, false, List, [], length, Result, IsErrOf}
 use Rattle.model.specs.History.{map_at}
 use Rattle.model.specs.Machine.{State}
 use Rattle.model.specs.Map.{KeyMap, KeyWrite, after_writes}
@@ -9,7 +9,10 @@ use Rattle.commit_log.specs.Format.{current}
 use Rattle.commit_log.specs.LogImage.{IsLogImage}
 use Rattle.commit_log.specs.LogState.{StandsFor as LogStandsFor, device_of}
 use Rattle.commit_log.specs.Recovery.{map_after}
+use Rattle.commit_log.specs.declared.faults.AppendFault.{AppendFault}
+use Rattle.commit_log.specs.declared.faults.AppendFault.TheVariants.{Device, Memory}
 use Rattle.commit_log.specs.declared.log.Log.{Log}
+use Rattle.engine.specs.Changes.{IsLogStopped}
 
 -- the image is that of a log whose write sets make this map
 abbrev pub HoldsMap : List (List ℕ) → KeyMap → Type 0
@@ -43,6 +46,13 @@ pub record IsInDoubt (map : KeyMap) (may_leave : List (List ℕ) → Type 0) : T
 -- an append on which the device failed leaves that of the log's map
 abbrev pub LeavesInDoubt : {D : Type 0} {g : Ghosts D} → Log D g → Log D g → Type 0
 LeavesInDoubt {g = g} old new = WhereStored old (λ map. IsInDoubt map (g.may_leave (device_of new)))
+
+-- what each fault of an append leaves
+pub record FailsToCarryOut {D : Type 0} {g : Ghosts D} (old new : Log D g) (ws : List KeyWrite)
+    (result : Result (Unit {0}) AppendFault) : Type 0 where
+  pub unchanged : IsErrOf result Memory → new ≡ old
+  pub stopped : IsErrOf result Device → IsLogStopped old new ws
+  pub left : IsErrOf result Device → g.keeps_model → LeavesInDoubt old new
 
 -- What a crash leaves: the map that is committed and, once the store is stopped, that or the one with the writes of one
 -- COMMIT more. Which COMMIT that is, the clause `crash` of `Engine::commit` says.

@@ -1,11 +1,10 @@
 //! What a commit writes to the log, and the memory that is made before.
-ghost use Rattle.std.specs.Prelude.{◌≡◌, false, OnOk, IsErrOf};
+ghost use Rattle.std.specs.Prelude.{OnOk};
 ghost use Rattle.model.specs.Map.{after_writes};
-ghost use Rattle.commit_log.specs.LogState.{is_stopped, used_sectors, sector_count};
 ghost use Rattle.engine.specs.HistoryValue.{IsSameHistory, IsReady};
-ghost use Rattle.engine.specs.Changes.{HasLogRoom, IsLogged, IsLogStopped};
-ghost use Rattle.engine.specs.Judgements.{IsPayload};
-ghost use Rattle.engine.specs.Recovery.{IsStored, WhereStored, SurvivesAppend, LeavesInDoubt};
+ghost use Rattle.engine.specs.Changes.{IsLogged};
+ghost use Rattle.engine.specs.Judgements.{CanCarryOut};
+ghost use Rattle.engine.specs.Recovery.{FailsToCarryOut, IsStored, WhereStored, SurvivesAppend};
 
 use crate::history::History;
 use commit_log::{AppendFault, Log};
@@ -21,16 +20,12 @@ pub(crate) fn carry_out<D: Sectors>(
     transaction: &Transaction,
     payload: Option<u32>,
 ) -> Result<(), AppendFault>
-    requires running { is_stopped log.old ≡ false }
-    requires room { HasLogRoom (used_sectors log.old) (sector_count log.old) transaction.now.writes }
-    requires payload { IsPayload transaction.now.writes payload }
+    requires { CanCarryOut log.old transaction.now.writes payload }
     ensures same { IsSameHistory history.old history.new }
     ensures ready { OnOk result (IsReady history.new transaction.now) }
     ensures logged { OnOk result (IsLogged log.old log.new transaction.now.writes) }
     ensures stored { D.keeps_model → WhereStored log.old (λ map. OnOk result (IsStored log.new (after_writes map transaction.now.writes))) }
-    ensures unchanged { IsErrOf result AppendFault.Memory → log.new ≡ log.old }
-    ensures stopped { IsErrOf result AppendFault.Device → IsLogStopped log.old log.new transaction.now.writes }
-    ensures left { IsErrOf result AppendFault.Device → D.keeps_model → LeavesInDoubt log.old log.new }
+    ensures fails { FailsToCarryOut log.old log.new transaction.now.writes result }
     ensures crash { D.keeps_model → SurvivesAppend log.old log.new transaction.now.writes }
 {
     if history.prepare(transaction).is_err() {

@@ -1,5 +1,5 @@
 use Rattle.engine.proofs.records.carry_out.Goals as goal
-use Rattle.std.proofs.Common.{◌≡◌, ◌⊎◌, inl, inr, ℕ, List, [], ◌∷◌, ◌++◌, refl, ◌∙◌}
+use Rattle.std.proofs.Common.{◌≡◌, ◌⊎◌, inl, inr, ℕ, List, [], ◌∷◌, ◌++◌, refl, ◌∙◌, rules}
 use Rattle.model.specs.Map.{KeyMap, KeyWrite, after_writes}
 use Rattle.sector.specs.declared.device.Sectors.{Ghosts}
 use Rattle.commit_log.specs.LogState.{IsBeforeOrAfter}
@@ -34,9 +34,12 @@ returns-in_err-append_in_room-clause-crash g c keeps map h =
     weaker_crash _ _ _ _ (IsBeforeOrAfter h.lists c.entries.result.now) _ (before_or_after c.args.log.now map _ _ c.entries.ensures.writes h)
     ((c.in_err-append_in_room.ensures.keeps keeps).any_moment h.lists h.stands)
 
-pub returns-in_err-append_in_room-clause-left : goal.returns-in_err-append_in_room-clause-left
-returns-in_err-append_in_room-clause-left g c is keeps map h =
-    record {
-      in_doubt = c.entries.result.now;
-      holds = λ i left. before_or_after c.args.log.now map _ _ refl h i ((c.in_err-append_in_room.ensures.keeps keeps).left h.lists h.stands i left);
-    }
+pub returns-in_err-append_in_room-clause-fails : goal.returns-in_err-append_in_room-clause-fails
+returns-in_err-append_in_room-clause-fails g c = record {
+  unchanged = search rules;
+  stopped = search rules;
+  left = λ is keeps map h. record {
+    in_doubt = c.entries.result.now;
+    holds = λ i left. before_or_after c.args.log.now map _ _ refl h i ((c.in_err-append_in_room.ensures.keeps keeps).left h.lists h.stands i left);
+  };
+}

@@ -28,22 +28,22 @@ returns-in-Overwritten-clause-step g c =
 pub returns-in-Err-Memory-clause-step : goal.returns-in-Err-Memory-clause-step
 returns-in-Err-Memory-clause-step g c =
     let j = (c.in-Clear.ensures c.args.self.now c.args.s refl refl (sym c.in-Some.ensures.value)).0 in
-    commit_memory c.args.self.now _ c.args.s c.in-Some.transaction.now j (c.in-Err-Memory.ensures.unchanged (ap Err c.in-Err-Memory.field-0-is)) refl
+    commit_memory c.args.self.now _ c.args.s c.in-Some.transaction.now j (c.in-Err-Memory.ensures.fails.unchanged (ap Err c.in-Err-Memory.field-0-is)) refl
     c.carry_out.ensures.same
 
 pub returns-in-Err-Device-clause-step : goal.returns-in-Err-Device-clause-step
 returns-in-Err-Device-clause-step g c =
     let j = (c.in-Clear.ensures c.args.self.now c.args.s refl refl (sym c.in-Some.ensures.value)).0 in
-    let stops = c.in-Err-Device.ensures.stopped (ap Err c.in-Err-Device.field-0-is) in
+    let stops = c.in-Err-Device.ensures.fails.stopped (ap Err c.in-Err-Device.field-0-is) in
     let leaves = c.refuse-in-Err-Device.ensures.leaves in
     ended_fault c.args.self.now _ c.carry_out.new.log c.carry_out.new.history c.args.s _ _ (λ n. Number n) _ c.refuse-in-Err-Device.ensures.refusal j stops
     c.carry_out.ensures.same leaves (rw leaves.store.log (risen _ _ stops.fault))
-    (c.in-Err-Device.ensures.left (ap Err c.in-Err-Device.field-0-is))
+    (c.in-Err-Device.ensures.fails.left (ap Err c.in-Err-Device.field-0-is))
 
 pub returns-in-Err-Device-clause-appends : goal.returns-in-Err-Device-clause-appends
 returns-in-Err-Device-clause-appends g c =
     let j = (c.in-Clear.ensures c.args.self.now c.args.s refl refl (sym c.in-Some.ensures.value)).0 in
-    let stops = c.in-Err-Device.ensures.stopped (ap Err c.in-Err-Device.field-0-is) in
+    let stops = c.in-Err-Device.ensures.fails.stopped (ap Err c.in-Err-Device.field-0-is) in
     record {
       once = rw c.refuse-in-Err-Device.ensures.leaves.store.log (added_none _ _ stops.records);
       read_only = λ m h none. absurd (stops.written (unwritten c.args.self.now c.args.s c.in-Some.transaction.now m h j none));
