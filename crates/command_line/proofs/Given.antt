@@ -37,17 +37,17 @@ number_given found id n none reads = go (one_text found id) refl
         (t, sym (one_text-rows found id) ∙ e, read.0.0, read.1)
 
 module _ {Z : Type 0} where
-  both_given : (met : Option (Box SubCommand Z)) (name : Text) (rows : List Row)
+  pub both_given : (met : Option (Box SubCommand Z)) (name : Text) (rows : List Row)
       → Some name ≡ option_map (λ b. (out-SubCommand (box_value b)).name.now) met → Some rows ≡ option_map (λ p. p.1) (subcommand_rows met)
       → subcommand_rows met ≡ Some (name, rows)
   both_given None name rows n r = cc
   both_given (Some b) name rows n r = cc
 
-is_plain : is_simple the_command_line ≡ true
+pub is_plain : is_simple the_command_line ≡ true
 unfolding the_command_line
 is_plain = refl
 
-is_free : is_simple_and_free the_command_line ≡ true
+pub is_free : is_simple_and_free the_command_line ≡ true
 unfolding the_command_line
 is_free = refl
 
@@ -58,9 +58,9 @@ pub met : (command : App) (words : List Text) (m : ArgMatches) (name : Text) (ro
 met command words m name rows asked is kinds matches named given means =
     let all = matches (ap is_simple is ∙ is_plain) in
     record {
-      name = name;
       options = rows;
       taken = subst (λ a. fault_of a words ≡ []) is (kinds (ap is_simple_and_free is ∙ is_free));
-      named = ap (λ a. subcommand_of a words) (sym is) ∙ sym all.1 ∙ both_given (out-ArgMatches m).subcommand name rows named given;
-      means = means;
+      named = ap (λ a. subcommand_of a words) (sym is) ∙ sym all.1 ∙ both_given (out-ArgMatches m).subcommand name rows named given
+          ∙ ap (λ (n : Text). Some (n, rows)) means.0;
+      given = means.1;
     }

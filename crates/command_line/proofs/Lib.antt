@@ -1,2 +1,4 @@
+mod Examples
 mod Given
+mod Lacking
 mod Steps

@@ -1,12 +1,15 @@
 -- What the words of a command line ask for.
-use Rattle.std.specs.Prelude.{◌≡◌, ℕ, List, [], Option, Some, None, codes}
+use Rattle.std.specs.Prelude.{◌≡◌, ◌⊎◌, ◌≤◌, ℕ, List, [], Option, Some, None, Result, Ok, Err, codes}
 use Rattle.std.specs.Str.Parse.{IsNumeral, digits_value, without_leading_plus}
 use Rattle.clap.specs.Faults.{fault_of}
 use Rattle.clap.specs.Simple.{subcommand_of}
 use Rattle.clap.specs.Walk.{Row, Text, first_of, one_of}
+use Rattle.command_line.specs.Ranges.{IsInRange}
 use Rattle.command_line.specs.Usage.{the_command_line}
 use Rattle.command_line.specs.declared.asked.Asked.{Asked}
 use Rattle.command_line.specs.declared.asked.Asked.TheVariants.{Create, Serve, Check, Compact, Play}
+use Rattle.command_line.specs.declared.refusals.Refusal.{Refusal}
+use Rattle.command_line.specs.declared.refusals.Refusal.TheVariants.{Memory}
 
 -- the option of this name was given this text
 abbrev pub HasText : List Row → Text → Text → Type 0
@@ -22,22 +25,46 @@ abbrev pub MayHaveNumber : List Row → Text → Option ℕ → Type 0
 MayHaveNumber rows name (Some n) = HasNumber rows name n
 MayHaveNumber rows name None = first_of name rows ≡ None
 
--- what the command of this name asks for, where its options were given so
-abbrev pub Means : Text → List Row → Asked → Type 0
-Means name rows (Create file n) =
-    (name ≡ codes "create") × HasText rows (codes "data") file.now × HasNumber rows (codes "sectors") n
-Means name rows (Serve file listen) =
-    (name ≡ codes "serve") × HasText rows (codes "data") file.now × HasText rows (codes "listen") listen.now
-Means name rows (Check file) = (name ≡ codes "check") × HasText rows (codes "data") file.now
-Means name rows (Compact from to n) =
-    (name ≡ codes "compact") × HasText rows (codes "from") from.now × HasText rows (codes "to") to.now
-    × MayHaveNumber rows (codes "sectors") n
-Means name rows (Play n) = (name ≡ codes "play") × HasNumber rows (codes "sectors") n
+-- the name of the command that is asked for
+abbrev pub name_of : Asked → Text
+name_of (Create file n) = codes "create"
+name_of (Serve file listen) = codes "serve"
+name_of (Check file) = codes "check"
+name_of (Compact from to n) = codes "compact"
+name_of (Play n) = codes "play"
 
--- the words, the program's name first, are taken by the command line, name one of its commands, and ask for this
+-- what its options were given
+abbrev pub Gives : List Row → Asked → Type 0
+Gives rows (Create file n) = HasText rows (codes "data") file.now × HasNumber rows (codes "sectors") n
+Gives rows (Serve file listen) = HasText rows (codes "data") file.now × HasText rows (codes "listen") listen.now
+Gives rows (Check file) = HasText rows (codes "data") file.now
+Gives rows (Compact from to n) =
+    HasText rows (codes "from") from.now × HasText rows (codes "to") to.now × MayHaveNumber rows (codes "sectors") n
+Gives rows (Play n) = HasNumber rows (codes "sectors") n
+
+-- the command of this name, with its options given so, asks for this
+abbrev pub Means : Text → List Row → Asked → Type 0
+Means name rows asked = (name ≡ name_of asked) × Gives rows asked
+
+-- the words, the program's name first, are taken by the command line, name a command of it, and ask for this
 pub record AsksFor (words : List Text) (asked : Asked) : Type 0 where
-  pub name : Text
   pub options : List Row
   pub taken : fault_of the_command_line words ≡ []
-  pub named : subcommand_of the_command_line words ≡ Some (name, options)
-  pub means : Means name options asked
+  pub named : subcommand_of the_command_line words ≡ Some (name_of asked, options)
+  pub given : Gives options asked
+
+-- the words ask for nothing with numbers in range
+abbrev pub AskForNothing : List Text → Type 0
+AskForNothing words = (asked : Asked) → IsInRange asked → AsksFor words asked → ⊥
+
+-- what is answered at the words: what they ask for, or a refusal, for memory or since they ask for nothing
+abbrev pub AnswersTo : List Text → Result Asked Refusal → Type 0
+AnswersTo words (Ok asked) = AsksFor words asked
+AnswersTo words (Err refusal) = (refusal ≡ Memory) ⊎ AskForNothing words
+
+-- the same of the command of a name, and of one number
+abbrev pub MeansNothing : Text → List Row → Type 0
+MeansNothing name rows = (asked : Asked) → IsInRange asked → Means name rows asked → ⊥
+
+abbrev pub LacksNumber : List Row → Text → ℕ → Type 0
+LacksNumber rows name most = (n : ℕ) → (2 ≤ n) × (n ≤ most) → HasNumber rows name n → ⊥

@@ -1,9 +1,10 @@
 //! Reading a command line.
-ghost use Rattle.std.specs.Prelude.{◌≡◌, ◌≤◌, IfOk, IfSome, codes, map};
+ghost use Rattle.std.specs.Prelude.{◌≡◌, ◌⊎◌, ◌≤◌, IfErr, IfOk, IfSome, None, codes, map};
 ghost use Rattle.clap.specs.Matches.{found_of};
 ghost use Rattle.clap.specs.Values.{kind_of};
 ghost use Rattle.clap.specs.Walk.{rows_of};
-ghost use Rattle.command_line.specs.Asking.{AsksFor, HasNumber, Means};
+ghost use Rattle.command_line.specs.Asking.{AnswersTo, AskForNothing, AsksFor, HasNumber, LacksNumber, Means};
+ghost use Rattle.command_line.specs.Asking.{MeansNothing};
 ghost use Rattle.command_line.specs.Ranges.{IsInRange};
 ghost use Rattle.command_line.specs.Refusals.{IsRefusalOf};
 
@@ -18,16 +19,19 @@ use std::alloc::Global;
 fn sectors(found: &ArgMatches<'_>, most: u64) -> Option<u64>
     ensures range { IfSome result (λ n. (2 ≤ n) × (n ≤ most)) }
     ensures given { IfSome result (HasNumber (rows_of (found_of found.now)) (codes "sectors")) }
+    ensures lacks { (result ≡ None) → LacksNumber (rows_of (found_of found.now)) (codes "sectors") most }
 {
-    match found.get_one::<u64>("sectors") {
-        Some(n) if n >= SECTORS_MIN && n <= most => Some(n),
-        _ => None,
+    let given = found.get_one::<u64>("sectors")?;
+    if given < SECTORS_MIN {
+        return None;
     }
+    if given > most { None } else { Some(given) }
 }
 
 fn create<'a>(found: &ArgMatches<'a>) -> Option<Asked<'a>>
     ensures range { IfSome result IsInRange }
     ensures means { IfSome result (Means (codes "create") (rows_of (found_of found.now))) }
+    ensures nothing { (result ≡ None) → MeansNothing (codes "create") (rows_of (found_of found.now)) }
 {
     Some(Asked::Create {
         data: found.get_str("data")?,
@@ -38,16 +42,17 @@ fn create<'a>(found: &ArgMatches<'a>) -> Option<Asked<'a>>
 fn play<'a>(found: &ArgMatches<'a>) -> Option<Asked<'a>>
     ensures range { IfSome result IsInRange }
     ensures means { IfSome result (Means (codes "play") (rows_of (found_of found.now))) }
+    ensures nothing { (result ≡ None) → MeansNothing (codes "play") (rows_of (found_of found.now)) }
 {
     Some(Asked::Play {
         sectors: sectors(found, MEMORY_SECTORS_MAX)?,
     })
 }
 
-// What the command of this name was given.
 fn compact<'a>(found: &ArgMatches<'a>) -> Option<Asked<'a>>
     ensures range { IfSome result IsInRange }
     ensures means { IfSome result (Means (codes "compact") (rows_of (found_of found.now))) }
+    ensures nothing { (result ≡ None) → MeansNothing (codes "compact") (rows_of (found_of found.now)) }
 {
     let sectors = match found.get_str("sectors") {
         Some(_) => Some(sectors(found, FILE_SECTORS_MAX)?),
@@ -60,9 +65,11 @@ fn compact<'a>(found: &ArgMatches<'a>) -> Option<Asked<'a>>
     })
 }
 
+// What the command of this name asks for, by what its options were given.
 fn asked<'a>(name: &str, found: &ArgMatches<'a>) -> Option<Asked<'a>>
     ensures range { IfSome result IsInRange }
     ensures means { IfSome result (Means name.now (rows_of (found_of found.now))) }
+    ensures nothing { (result ≡ None) → MeansNothing name.now (rows_of (found_of found.now)) }
 {
     match name {
         "create" => create(found),
@@ -88,7 +95,7 @@ fn asked<'a>(name: &str, found: &ArgMatches<'a>) -> Option<Asked<'a>>
 /// It may grow what `clap` keeps of the commands, the words and the error, and the refusal's text.
 pub fn parse<'a>(alloc: Global, words: &'a [&'a str]) -> Result<Asked<'a>, Refusal>
     ensures range { IfOk result IsInRange }
-    ensures asks { IfOk result (AsksFor (map (λ word. word.now) words.now)) }
+    ensures asks { AnswersTo (map (λ word. word.now) words.now) result }
 {
     match read(alloc, words) {
         Ok(asked) => Ok(asked),
@@ -100,6 +107,8 @@ pub fn parse<'a>(alloc: Global, words: &'a [&'a str]) -> Result<Asked<'a>, Refus
 fn read<'a>(alloc: Global, words: &'a [&'a str]) -> Result<Asked<'a>, Error>
     ensures range { IfOk result IsInRange }
     ensures asks { IfOk result (AsksFor (map (λ word. word.now) words.now)) }
+    ensures refuses { IfErr result (λ error.
+        (kind_of error ≡ ErrorKind.OutOfMemory) ⊎ AskForNothing (map (λ word. word.now) words.now)) }
 {
     let mut command = command(alloc)?;
     let found = command.try_get_matches_from_mut(words)?;

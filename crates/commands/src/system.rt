@@ -209,11 +209,10 @@ impl<'a> CommandLine<'a> {
 }
 
 impl Words for CommandLine<'_> {
-    ghost use Rattle.std.specs.Prelude.{IfOk};
-    ghost use Rattle.command_line.specs.Asking.{AsksFor};
+    ghost use Rattle.command_line.specs.Asking.{AnswersTo};
     ghost use Rattle.commands.specs.Words.{words_of};
 
-    ghost asks = { λ line result. IfOk result (AsksFor (words_of line)) };
+    ghost asks = { λ line result. AnswersTo (words_of line) result };
 
     fn asked(&self, alloc: Global) -> Result<Asked<'_>, Refusal> {
         parse(alloc, self.words)

@@ -1,10 +1,14 @@
-use Rattle.std.proofs.Common.{◌∙◌, map, subst, sym}
+use Rattle.std.proofs.Common.{◌≡◌, ◌⊎◌, ◌∙◌, ap, inr, map, subst, sym}
 use Rattle.std.specs.Prelude.{IfSome}
+use Rattle.clap.specs.Faults.{is_simple_and_free}
 use Rattle.clap.specs.Matches.{found_of}
 use Rattle.clap.specs.Simple.{app_of}
+use Rattle.clap.specs.Values.{kind_of}
 use Rattle.clap.specs.Walk.{rows_of}
-use Rattle.command_line.specs.Asking.{Means}
-use Rattle.command_line.proofs.Given.{met}
+use Rattle.clap.specs.declared.error.kind.ErrorKind.TheVariants.{OutOfMemory}
+use Rattle.command_line.specs.Asking.{AskForNothing, Means}
+use Rattle.command_line.proofs.Given.{is_free, met}
+use Rattle.command_line.proofs.Lacking.{meant_nothing, passed_on, refused, unnamed}
 use Rattle.command_line.proofs.reading.read.Goals.{in-Some, in-None}
 use Rattle.command_line.proofs.reading.read.Goals as goal
 
@@ -18,3 +22,22 @@ returns-in-Some-asked-clause-asks c = elim c.match-subcommand.branch [
       c.in_ok-command.ensures.takes c.in_ok-found.ensures.kinds c.in_ok-found.ensures.ok.2 w.in-Some.ensures.name w.in-Some.ensures.rows means
   | in-None w ↦ let never = sym w.asked-is ∙ c.in-Some-asked.is in cc
 ]
+
+pub returns-in_err-found-clause-refuses : goal.returns-in_err-found-clause-refuses
+returns-in_err-found-clause-refuses c =
+    passed_on c.from_residual-in_err-found.result c.in_err-found.field-0.0
+    (λ error. (kind_of error ≡ OutOfMemory) ⊎ AskForNothing (map (λ word. word.now) c.args.words.now))
+    c.from_residual-in_err-found.ensures.1
+    (refused (app_of c.in_ok-command.command) (map (λ word. word.now) c.args.words.now) c.in_err-found.field-0.0 c.in_ok-command.ensures.takes
+    (c.in_err-found.ensures.kinds (ap is_simple_and_free c.in_ok-command.ensures.takes ∙ is_free)))
+
+pub returns-clause-refuses : goal.returns-clause-refuses
+returns-clause-refuses c = inr (elim c.match-subcommand.branch [
+  | in-Some w ↦
+      meant_nothing (app_of c.in_ok-command.command) (map (λ word. word.now) c.args.words.now) c.in_ok-found.found w.in-Some.name.now
+      (rows_of (found_of w.in-Some.inner.now)) c.in_ok-command.ensures.takes c.in_ok-found.ensures.ok.2 w.in-Some.ensures.name w.in-Some.ensures.rows
+      (w.asked-asked.ensures.nothing (sym w.asked-is ∙ c.in-None-asked.is))
+  | in-None w ↦
+      unnamed (app_of c.in_ok-command.command) (map (λ word. word.now) c.args.words.now) c.in_ok-found.found c.in_ok-command.ensures.takes
+      c.in_ok-found.ensures.ok.2 w.in-None.ensures.rows
+])
