@@ -5,7 +5,7 @@ same schedule. Prints a line for each mix.
     bench/conflicts.py [--transactions N] [--seed N] [--postgres FOLDER] [--row-locks] [--out FILE]
 
 A schedule is made from its seed: sessions whose single requests follow one another in a random order. There is no clock in it, and nobody
-retries, so each run gives the same counts. This store's rule is that of `harness/model.py`, which the program is compared with.
+retries, so each run gives the same counts. This store's rule is that of `harness/ssikvd_harness/model.py`, which the program is compared with.
 PostgreSQL is driven by one request at a time over its own protocol. A write that would wait there for another transaction can never get on,
 since whom it waits for comes later in the schedule; it is given up and counted as a refused write.
 """
@@ -24,8 +24,8 @@ HERE = os.path.dirname(os.path.abspath(__file__))
 sys.path.insert(0, os.path.join(HERE, "..", "harness"))
 sys.dont_write_bytecode = True
 
-import model  # noqa: E402
-from model import Record, Store  # noqa: E402
+from ssikvd_harness import model  # noqa: E402
+from ssikvd_harness.model import Record, Store  # noqa: E402
 from servers import POSTGRES_SETTINGS, Failure, Postgres, find_postgres  # noqa: E402
 
 KEYS, SESSIONS = (10, 40, 400), (8, 32)
