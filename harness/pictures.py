@@ -6,7 +6,7 @@ that is drawn. Each picture is XML, and on those of the documents no label stand
 theirs is said to have been answered a number, a dependency doesn't rise, and that is seen.
 
 Of the pictures that docs/pictures/draw.py draws, no words stand on others, on a bar or over the edge, as wide as DejaVu Sans draws them, and each has
-a light card of its own behind it.
+a light card of its own behind it. No arrow between the crates passes behind one.
 
 `quick` draws 60 scripts, `long` 1,000.
 """
@@ -117,6 +117,30 @@ def on_a_bar():
         raise Deviation("words that stand on a bar or over the edge aren't seen")
 
 
+def apart(name, shown):
+    """No line of a picture passes behind a box."""
+    parts = list(xml.fromstring(shown.svg()))
+    numbers = [{key: float(part.get(key)) for key in ("x", "y", "width", "height", "x1", "y1", "x2", "y2") if part.get(key, "%")[-1] != "%"} for part in parts]
+    boxes = [it for it in numbers if "width" in it and "x" in it]
+    for line in (it for it in numbers if "x1" in it):
+        for part in range(1, 100):
+            x, y = (line[axis + "1"] + (line[axis + "2"] - line[axis + "1"]) * part / 100 for axis in "xy")
+            on = any(box["x"] < x < box["x"] + box["width"] and box["y"] < y < box["y"] + box["height"] for box in boxes)
+            expect(not on, f"{name}: a line passes behind a box at {x:.0f}, {y:.0f}")
+
+
+def behind_a_box():
+    """A line that passes behind a box is seen."""
+    shown = picture.Picture("planted", 200, 60)
+    shown.line(100, 0, 110, 60)
+    shown.box(80, 20, 80, 20)
+    try:
+        apart("planted", shown)
+    except Deviation:
+        return
+    raise Deviation("a line that passes behind a box isn't seen")
+
+
 def falsified(name):
     """The picture of an example is wrong where its refused commit is said to have been answered the next number."""
     script, output = (content.decode().splitlines() for content in example_files(name))
@@ -143,6 +167,10 @@ def main():
                 words_of(name, draw.PICTURES[name]())
     with tally.run("words on a bar, planted"):
         on_a_bar()
+    with tally.run("the arrows of crates"):
+        apart("crates", draw.PICTURES["crates"]())
+    with tally.run("a line behind a box, planted"):
+        behind_a_box()
     for number in range(1_000 if is_long() else 60):
         with tally.run(f"script {number}"):
             refused += random_script(number)

@@ -33,6 +33,61 @@ def product_crates():
     return {name: [low for low in lows if low in found] for name, lows in found.items()}
 
 
+BOX, BOX_HEIGHT, GAP, STEP = 132, 34, 22, 74
+
+
+def gap_of(node):
+    """How wide a place of a row is: that of a crate, or of an arrow that passes."""
+    return BOX + GAP if isinstance(node, str) else GAP
+
+
+def rows_of(stands_on, place):
+    """The rows with their crates, and with a place for each arrow that passes between the crates of a row; and the ways of the arrows."""
+    rows = {}
+    for name in stands_on:
+        rows.setdefault(place[name], []).append(name)
+    ways = []
+    for name, lows in stands_on.items():
+        for low in lows:
+            passed = [(name, low, row) for row in range(place[name] - 1, place[low], -1)]
+            for node in passed:
+                rows[node[2]].append(node)
+            ways.append([name, *passed, low])
+    return rows, ways
+
+
+def least_moved(wanted, gaps):
+    """Places in this order that are no nearer to each other than the gaps ask for, and as near as possible to the wanted ones."""
+    starts = [sum(gaps[:number]) + gaps[number] / 2 for number in range(len(gaps))]
+    blocks = []
+    for want, start in zip(wanted, starts):
+        blocks.append([want - start, 1])
+        while len(blocks) > 1 and blocks[-2][0] > blocks[-1][0]:
+            (low, many), (high, more) = blocks[-2], blocks.pop()
+            blocks[-1] = [(low * many + high * more) / (many + more), many + more]
+    moved = [at for at, many in blocks for _ in range(many)]
+    return [at + start for at, start in zip(moved, starts)]
+
+
+def laid_out(rows, ways):
+    """Where each crate, and each arrow that passes, stands in its row: near to what it is joined to."""
+    joined = {node: [] for row in rows.values() for node in row}
+    for way in ways:
+        for one, other in zip(way, way[1:]):
+            joined[one].append(other)
+            joined[other].append(one)
+    x = {node: number * (BOX + GAP) for row in rows.values() for number, node in enumerate(row)}
+    for turn in range(60):
+        for level in sorted(rows, reverse=turn % 2 == 0):
+            wanted = {node: sum(x[other] for other in joined[node]) / len(joined[node]) for node in rows[level]}
+            if turn < 20:
+                rows[level].sort(key=wanted.get)
+            row = rows[level]
+            x.update(zip(row, least_moved([wanted[node] for node in row], [gap_of(node) for node in row])))
+    least = min(at - gap_of(node) / 2 for node, at in x.items())
+    return {node: at - least + 20 for node, at in x.items()}
+
+
 def crates():
     stands_on = product_crates()
 
@@ -42,30 +97,28 @@ def crates():
     def level(name):
         return 1 + max((level(low) for low in stands_on[name]), default=-1)
 
-    def place(name):
-        """A crate that stands on none is drawn right below those that stand on it."""
-        users = [level(other) for other, lows in stands_on.items() if name in lows]
-        return level(name) if stands_on[name] else min(users) - 1
-
-    levels = {}
+    # What stands on a crate through another is left out. A crate that stands on none is drawn right below those that stand on it.
+    direct = {name: [low for low in lows if not any(low in below(other) for other in lows)] for name, lows in stands_on.items()}
+    users = {name: [level(other) for other, lows in direct.items() if name in lows] for name in stands_on}
+    place = {name: level(name) if stands_on[name] else min(users[name]) - 1 for name in stands_on}
+    rows, ways = rows_of(direct, place)
+    x = laid_out(rows, ways)
+    legend = "An arrow leads to what a crate stands on; what follows from other arrows is left out."
+    width = max(math.ceil(max(at + gap_of(node) / 2 for node, at in x.items())) + 20, math.ceil(widest([legend])) + 40)
+    picture = Picture("The crates as layers", width, len(rows) * STEP + 44)
+    y = {level: picture.height - 48 - (level - min(rows)) * STEP for level in rows}
+    for way in ways:
+        points = [(x[way[0]], y[place[way[0]]] + BOX_HEIGHT / 2)]
+        for node in way[1:-1]:
+            points += [(x[node], y[node[2]] - BOX_HEIGHT / 2), (x[node], y[node[2]] + BOX_HEIGHT / 2)]
+        points.append((x[way[-1]], y[place[way[-1]]] - BOX_HEIGHT / 2))
+        for number, (one, other) in enumerate(zip(points, points[1:]), 2):
+            picture.line(*one, *other, SOFT, number == len(points))
     for name in stands_on:
-        levels.setdefault(place(name), []).append(name)
-    widest, width, height, step = max(len(names) for names in levels.values()), 132, 34, 74
-    picture = Picture("The crates as layers", widest * (width + 22) + 40, len(levels) * step + 44)
-    places = {}
-    for at, names in levels.items():
-        for number, name in enumerate(names):
-            x = picture.width / 2 + (number - (len(names) - 1) / 2) * (width + 22)
-            places[name] = x, picture.height - 48 - at * step
-    for name, lows in stands_on.items():
-        for low in lows:
-            if not any(low in below(other) for other in lows):    # what stands on it through another is left out
-                (x1, y1), (x2, y2) = places[name], places[low]
-                picture.line(x1, y1 + height / 2, x2, y2 - height / 2, SOFT, True)
-    for name, (x, y) in places.items():
-        picture.box(x - width / 2, y - height / 2, width, height)
-        picture.text(x, y + 5, name, "middle", weight="bold")
-    picture.text(20, picture.height - 8, "An arrow leads to what a crate stands on; what follows from other arrows is left out.", fill=SOFT)
+        at, row = x[name], y[place[name]]
+        picture.box(at - BOX / 2, row - BOX_HEIGHT / 2, BOX, BOX_HEIGHT)
+        picture.text(at, row + 5, name, "middle", weight="bold")
+    picture.text(20, picture.height - 8, legend, fill=SOFT)
     return picture
 
 
