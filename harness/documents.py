@@ -413,9 +413,10 @@ def layers(tally):
 def sealed(tally):
     """The lemmas that would refute the premises on files and sockets are cited where a call is made of one, and nowhere else."""
     for crate, user, lemmas, calls in (
-        ("file_calls", "sector", "error|read|write|sync|close|make|open|open_to_read|length|settle_name|drop_copies",
+        ("file_calls", "sector", "error|read|write|sync|close|make|open|open_to_read|length|directory|link|way|advice",
             [f"counted/CountedFile/{name}" for name in ("read", "write", "write_zeros", "sync", "sync_all", "close")]
-            + [f"opened/OpenedFile/{name}" for name in ("make", "open", "open_to_read", "length", "settle_name", "drop_copies")]),
+            + [f"opened/OpenedFile/{name}" for name in ("make", "open", "open_to_read", "length", "sync_directory", "advise", "drop_copies")]
+            + ["opened/is_link", "opened/without_links"]),
         ("socket_calls", "event_loop",
             "fault|receive|send|send_at_once|ask_whether_there|register|reregister|end_writing|wait|listen|accepts_told|address",
             [f"counted/CountedSocket/{name}" for name in ("read", "write", "send_at_once", "ask_whether_there", "register", "reregister", "end_writing")]
