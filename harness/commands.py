@@ -23,7 +23,7 @@ from ssikvd_harness.log_format import OLD_HEAD, SECTOR, body_sectors, log_image,
 from ssikvd_harness.model import Store
 from ssikvd_harness.rows import EXAMPLES, example_files, request_of, shown
 from ssikvd_harness.server import DEVICE_FAULT, FILE_FAULT, OUT_OF_MEMORY, Server, check, create, folder, free_port, run
-from ssikvd_harness.settings import HARNESS, PATIENCE, PROGRAM, SHIM, TOP, TRACER
+from ssikvd_harness.settings import HARNESS, PATIENCE, PROGRAM, SHIM, TOP, TRACER, bytes_of
 from ssikvd_harness.tracing import Trace, printed
 
 with open(os.path.join(HARNESS, "../crates/command_line/src/commands.rt"), encoding="utf-8") as source:
@@ -300,7 +300,7 @@ def read_only_copies(tally):
                     found = ran.returncode, ran.stdout, ran.stderr
                     expect_found(found, *((3, "", f"ssikvd: {text}\n") if text else (0, line_of(name))))
             os.chmod(place, 0o755)
-            expect(read(data) == image and sorted(os.listdir(place)) == ["data", "ssikvd"], "a file was changed or made")
+            expect(bytes_of(data) == image and sorted(os.listdir(place)) == ["data", "ssikvd"], "a file was changed or made")
 
 
 MANY = [[(b"k%02d" % i, b"1")] for i in range(1, 66)]
@@ -322,11 +322,6 @@ NOT_COMPACTED = {
     "half a sector": (IMAGE[:SECTOR + 256], (), "file fault")}
 
 
-def read(name):
-    with open(name, "rb") as file:
-        return file.read()
-
-
 def compactions(tally):
     """`compact` of each file, which it never changes, and what then stands in the new one."""
     for name, (image, words, log, line) in COMPACTED.items():
@@ -335,13 +330,13 @@ def compactions(tally):
             with open(data, "wb") as file:
                 file.write(image)
             expect_found(run(["compact", "--from", data, "--to", new, *words]), 0, line)
-            expect(read(data) == image, "the old file was changed")
-            expect(read(new) == log_image(log, int(line.split()[-1])), "the new file is another")
+            expect(bytes_of(data) == image, "the old file was changed")
+            expect(bytes_of(new) == log_image(log, int(line.split()[-1])), "the new file is another")
             expect_found(run(["check", "--data", new]), 0, line)
-            again = read(new)
+            again = bytes_of(new)
             expect_found(run(["compact", "--from", data, "--to", new]), 3, "", "ssikvd: file fault\n")
             expect_found(run(["compact", "--from", new, "--to", new]), 3, "", "ssikvd: file fault\n")
-            expect(read(new) == again, "the new file was changed")
+            expect(bytes_of(new) == again, "the new file was changed")
     for name, (image, words, fault) in NOT_COMPACTED.items():
         with folder() as place, tally.run(f"compact of {name}"):
             data = os.path.join(place, "data")
@@ -349,7 +344,7 @@ def compactions(tally):
                 file.write(image)
             found = run(["compact", "--from", data, "--to", os.path.join(place, "new"), *words])
             expect_found(found, 3, "", f"ssikvd: {fault}\n")
-            expect(read(data) == image and os.listdir(place) == ["data"], "it left something behind")
+            expect(bytes_of(data) == image and os.listdir(place) == ["data"], "it left something behind")
     with folder() as place, tally.run("a full log compacted and served again"):
         data, new = os.path.join(place, "data"), os.path.join(place, "new")
         create(data, 4)
@@ -372,7 +367,7 @@ def worked_log(tally):
         create(data, 8)
         expect(asked(data, ("BEGIN", "SET a 1", "COMMIT", "BEGIN", "DEL a", "COMMIT"))[2::3] == [b":1", b":2"], "another reply")
         expect_found(run(["check", "--data", data]), 0, "records 2 keys 0 sectors 6 of 8\n")
-        sectors = [read(data)[at:at + SECTOR] for at in range(0, 8 * SECTOR, SECTOR)]
+        sectors = [bytes_of(data)[at:at + SECTOR] for at in range(0, 8 * SECTOR, SECTOR)]
         for at, front, content in WORKED_BODIES:
             expect(sectors[at].startswith(bytes.fromhex(front)) and sectors[at][44:].startswith(bytes.fromhex(content)), f"sector {at} is another")
         expect([sectors[at][0] for at in (1, 3, 5)] == [1, 1, 0], "another gate")

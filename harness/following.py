@@ -21,7 +21,7 @@ from ssikvd_harness.examples import simple_client
 from ssikvd_harness.frames import frame
 from ssikvd_harness.log_format import SECTOR, Damaged, NotALog, log_of, map_of, read_log
 from ssikvd_harness.server import Server, check, create, folder
-from ssikvd_harness.settings import PATIENCE, PROGRAM, text_of
+from ssikvd_harness.settings import PATIENCE, PROGRAM, bytes_of, text_of
 from ssikvd_harness.tools import DIST, in_memory, loaded, tool
 from ssikvd_harness.trials import Recorder, Trial, write_script
 
@@ -103,15 +103,15 @@ def refusals(tally):
             pair.compact()
             pair.follow(pair.data, pair.new)
             pair.commit(server.port, 5)
-        kept = {name: _bytes(getattr(pair, name)) for name in ("data", "new", "state")}
+        kept = {name: bytes_of(getattr(pair, name)) for name in ("data", "new", "state")}
 
         def refused(what, status, text, change):
             with tally.run(what):
                 change()
-                before = _bytes(pair.new)
+                before = bytes_of(pair.new)
                 found = pair.follow("--once", pair.data, pair.new)
                 expect(found[0] == status and text in found[2] and not found[1], f"it answered {found}")
-                expect(_bytes(pair.new)[:2 * SECTOR] == before[:2 * SECTOR] and _reads(pair.new) == _reads_of(before), "the copy was changed")
+                expect(bytes_of(pair.new)[:2 * SECTOR] == before[:2 * SECTOR] and _reads(pair.new) == _reads_of(before), "the copy was changed")
                 for name, content in kept.items():
                     _put(getattr(pair, name), content)
 
@@ -125,11 +125,6 @@ def refusals(tally):
         refused("a state that is none", 2, "", lambda: _put(pair.state, b"{}"))
         with tally.run("none of these changed what follows"):
             judge_copy(pair, pair.follow("--once", pair.data, pair.new))
-
-
-def _bytes(name):
-    with open(name, "rb") as file:
-        return file.read()
 
 
 def _put(name, content):
@@ -170,7 +165,7 @@ def _reads_of(image):
 
 
 def _reads(name):
-    return _reads_of(_bytes(name))
+    return _reads_of(bytes_of(name))
 
 
 # Crashes and kills
@@ -191,7 +186,7 @@ def crashes(tally):
 
 def judge_crashes(tool_module, pair, chance):
     before, images = log_of(pair.new), 0
-    recorder = Recorder(_bytes(pair.new), os.path.getsize(pair.new), tool_module.read_state(pair.state)["new"]["place"])
+    recorder = Recorder(bytes_of(pair.new), os.path.getsize(pair.new), tool_module.read_state(pair.state)["new"]["place"])
     own = tool_module.os.pwrite, tool_module.os.fsync
 
     def judged(call, real):

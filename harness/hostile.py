@@ -505,6 +505,22 @@ def play_stream(siege, octets, cut=None):
     return due is not None
 
 
+def pieces_of(stream):
+    """The whole requests of a stream, and what stands behind them."""
+    pieces = []
+    with contextlib.suppress(Broken):
+        while found := decode(stream):
+            pieces.append(stream[:found[1]])
+            stream = stream[found[1]:]
+    return [*pieces, stream]
+
+
+def shrunk_stream(siege, stream):
+    """The few requests of a stream that is answered otherwise, and of these the few bytes; None where it is answered as is due now."""
+    few = shrunk(pieces_of(stream), lambda some: play_stream(siege, b"".join(some)), SHRINKING_SECONDS)
+    return few and bytes(shrunk(b"".join(few), lambda some: play_stream(siege, some), SHRINKING_SECONDS) or b"".join(few))
+
+
 def random_bytes(siege, seed=20_081):
     """Streams of random bytes, each answered as the model does to the byte, in pieces of any size. One that isn't is shrunk."""
     chance = random.Random(seed)
@@ -514,8 +530,8 @@ def random_bytes(siege, seed=20_081):
         try:
             play_stream(siege, stream, cut)
         except Deviation as found:
-            few = shrunk(stream, lambda some: play_stream(siege, some), SHRINKING_SECONDS)
-            raise Deviation(f"{bytes(few)!r} is enough of the {len(stream)} bytes with which {found}" if few else f"{found}") from None
+            few = shrunk_stream(siege, stream)
+            raise Deviation(f"{few!r} is enough of the {len(stream)} bytes with which {found}" if few else f"{found}") from None
 
 
 # Memory

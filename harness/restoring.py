@@ -22,18 +22,13 @@ from ssikvd_harness.arguments import is_long, need, run_harness
 from ssikvd_harness.deviations import Tally, expect, is_refused, missing
 from ssikvd_harness.log_format import SECTOR, log_of, map_of, sectors_used
 from ssikvd_harness.server import Server, check, folder, free_port
-from ssikvd_harness.settings import PROGRAM
+from ssikvd_harness.settings import PROGRAM, bytes_of
 from ssikvd_harness.tools import DIST, ENVIRONMENT, commit, fill, loaded, tool, within
 
 SECTORS = 256
 OWNER = (0o640, 12_345 if os.getuid() == 0 else os.getuid(), 12_346 if os.getuid() == 0 else os.getgid())
 FILES = {"data", "data.before-restore", "data.lock"}
 CALLS = ("open", "posix_fallocate", "pwrite", "fchown", "fchmod", "fsync", "link", "rename", "unlink", "remove", "truncate", "utime")
-
-
-def read(name):
-    with open(name, "rb") as file:
-        return file.read()
 
 
 class Case:
@@ -47,7 +42,7 @@ class Case:
     def is_untouched(self, old):
         """Nothing was stopped, and nothing but the lock is there that wasn't."""
         expect(not os.path.exists(self.stopped), "the server was stopped")
-        expect(read(self.data) == old and names(self) <= {"data", "data.lock"}, f"it left {sorted(names(self))}")
+        expect(bytes_of(self.data) == old and names(self) <= {"data", "data.lock"}, f"it left {sorted(names(self))}")
 
 
 def names(case):
@@ -63,7 +58,7 @@ class Files:
         fill(source, 9, SECTORS)
         found = tool("ssikvd-ship", "--records", "7", source, copy)
         expect(found[0] == 0, f"ssikvd-ship answered {found}")
-        self.old, self.copy, self.log = read(old), read(copy), log_of(copy)
+        self.old, self.copy, self.log = bytes_of(old), bytes_of(copy), log_of(copy)
         used = check(copy)[2]
         self.new = self.copy[:SECTOR * used].ljust(len(self.copy), b"\0")
 
@@ -88,8 +83,8 @@ def restore(case, *words):
 def judge_restored(case, files):
     """After a run to its end: the names, the bytes, each sector in its place, owner and mode."""
     expect(names(case) == FILES, f"it left {sorted(names(case))}")
-    expect(read(case.data) == files.new, "the data file is not the copy")
-    expect(read(case.data + ".before-restore") == files.old, "the file of before was not kept")
+    expect(bytes_of(case.data) == files.new, "the data file is not the copy")
+    expect(bytes_of(case.data + ".before-restore") == files.old, "the file of before was not kept")
     now = os.stat(case.data)
     expect((stat.S_IMODE(now.st_mode), now.st_uid, now.st_gid) == OWNER, f"mode and owner are {oct(now.st_mode), now.st_uid, now.st_gid}")
     expect(512 * now.st_blocks >= len(files.new), f"of {len(files.new)} bytes {512 * now.st_blocks} are on the disk")
@@ -151,10 +146,10 @@ def judge_kill(files, script, number, is_after, serves):
         found = names(case)
         own = {name for name in found if name.startswith("data.restoring-")}
         expect("data" in found and found <= FILES | own and len(own) <= 1, f"a kill leaves {sorted(found)}")
-        now = read(case.data)
+        now = bytes_of(case.data)
         expect(now in (files.old, files.new), "a kill leaves a data file that is neither")
         if "data.before-restore" in found:
-            expect(read(case.data + ".before-restore") == files.old, "a kill leaves another file of before")
+            expect(bytes_of(case.data + ".before-restore") == files.old, "a kill leaves another file of before")
         else:
             expect(now == files.old, "a kill leaves no file of before")
         expect(check(case.data)[0] == (12 if now == files.old else 7), "check counts other records")
@@ -308,7 +303,7 @@ def refusals(tally, files):
         with open(case.data + ".before-restore", "w", encoding="ascii") as file:
             file.write("earlier")
         found = restore(case)
-        expect(found[0] == 2 and "earlier restore" in found[2] and read(case.data + ".before-restore") == b"earlier", f"it answered {found}")
+        expect(found[0] == 2 and "earlier restore" in found[2] and bytes_of(case.data + ".before-restore") == b"earlier", f"it answered {found}")
         os.remove(case.data + ".before-restore")
         case.is_untouched(files.old)
     with tally.run("words that don't fit"), files.case() as case:
@@ -326,7 +321,7 @@ def locks(tally, files):
         fcntl.flock(file, fcntl.LOCK_EX)
         found = restore(case)
         expect(found[0] == 75 and "another process holds" in found[2], f"it answered {found}")
-        expect(read(case.data) == files.old and names(case) == {"data", "data.lock"}, f"it left {sorted(names(case))}")
+        expect(bytes_of(case.data) == files.old and names(case) == {"data", "data.lock"}, f"it left {sorted(names(case))}")
         expect(os.path.exists(case.started), "the server wasn't started again")
         found = restore(case, "--data", case.data, case.copy)
         expect(found[0] == 75, f"without a stop it answered {found}")
@@ -364,8 +359,8 @@ def links(tally, files):
         os.rename(case.data, case.place + "/real")
         os.symlink("real", case.data)
         found = restore(case)
-        expect(found[0] == 0 and os.path.islink(case.data) and read(case.place + "/real") == files.new, f"it answered {found}")
-        expect(read(case.place + "/real.before-restore") == files.old, "the file of before was not kept")
+        expect(found[0] == 0 and os.path.islink(case.data) and bytes_of(case.place + "/real") == files.new, f"it answered {found}")
+        expect(bytes_of(case.place + "/real.before-restore") == files.old, "the file of before was not kept")
     for name in ("data.lock", "data.before-restore"):
         with tally.run(f"{name} is a link"), files.case() as case, folder() as elsewhere:
             target = os.path.join(elsewhere, "target")
@@ -373,8 +368,8 @@ def links(tally, files):
                 file.write("of root")
             os.symlink(target, os.path.join(case.place, name))
             found = restore(case)
-            expect(found[0] == 2 and read(target) == b"of root" and os.listdir(elsewhere) == ["target"], f"it answered {found}")
-            expect(read(case.data) == files.old, "the data file is another one")
+            expect(found[0] == 2 and bytes_of(target) == b"of root" and os.listdir(elsewhere) == ["target"], f"it answered {found}")
+            expect(bytes_of(case.data) == files.old, "the data file is another one")
     if os.getuid() != 0:
         missing("links of another user", "root")
         return
@@ -382,12 +377,12 @@ def links(tally, files):
         with tally.run(f"{name} is a link of another user"), files.case() as case, folder() as elsewhere:
             target = os.path.join(elsewhere, "target")
             os.rename(os.path.join(case.place, name), target)
-            before = read(target)
+            before = bytes_of(target)
             os.symlink(target, os.path.join(case.place, name))
             os.lchown(os.path.join(case.place, name), *OWNER[1:])
             found = restore(case)
             expect(found[0] == 2 and "link of another user" in found[2], f"it answered {found}")
-            expect(read(target) == before and os.listdir(elsewhere) == ["target"] and not os.path.exists(case.stopped), "it went elsewhere")
+            expect(bytes_of(target) == before and os.listdir(elsewhere) == ["target"] and not os.path.exists(case.stopped), "it went elsewhere")
 
 
 # Served
@@ -436,11 +431,11 @@ def again(tally, files):
     with tally.run("a restore of what is restored"), files.case() as case:
         expect(restore(case)[0] == 0 and restore(case)[0] == 0, "it failed")
         judge_restored(case, files)
-        expect(len(read(case.stopped)) == 1, "it was stopped twice")
+        expect(len(bytes_of(case.stopped)) == 1, "it was stopped twice")
     with tally.run("a data file that is missing"), files.case() as case:
         os.remove(case.data)
         found = restore(case)
-        expect(found[0] == 0 and read(case.data) == files.new and names(case) == {"data", "data.lock"}, f"it answered {found}")
+        expect(found[0] == 0 and bytes_of(case.data) == files.new and names(case) == {"data", "data.lock"}, f"it answered {found}")
         now, like = os.stat(case.data), os.stat(case.place)
         expect((stat.S_IMODE(now.st_mode), now.st_uid) == (0o600, like.st_uid), f"mode and owner are {oct(now.st_mode), now.st_uid}")
 
@@ -456,7 +451,7 @@ class Copies:
         self.data = [os.path.join(place, f"data{number}") for number in range(self.COUNT)]
         for number, name in enumerate(self.data):
             fill(name, 3 + number, 64 + number)
-        self.bytes = [read(name) for name in self.data]
+        self.bytes = [bytes_of(name) for name in self.data]
 
     @contextlib.contextmanager
     def shipped(self, count, keep):
@@ -470,7 +465,7 @@ class Copies:
 
     def kept(self, copy):
         """Which of the data files the copy and those of before are, by their names."""
-        return {name: self.bytes.index(read(os.path.join(os.path.dirname(copy), name)))
+        return {name: self.bytes.index(bytes_of(os.path.join(os.path.dirname(copy), name)))
                 for name in os.listdir(os.path.dirname(copy)) if name != "copy.lock"}
 
 
@@ -500,7 +495,7 @@ def judge_killed_ship(copies, number, is_after):
     with copies.shipped(3, 2) as copy:
         words = ["--keep", "2", copies.data[3], copy]
         expect(killed("ssikvd-ship", words, number, is_after) == signal.SIGKILL, "it was not killed")
-        found = {name: read(os.path.join(os.path.dirname(copy), name)) for name in os.listdir(os.path.dirname(copy)) if name != "copy.new"}
+        found = {name: bytes_of(os.path.join(os.path.dirname(copy), name)) for name in os.listdir(os.path.dirname(copy)) if name != "copy.new"}
         expect(found["copy"] in copies.bytes[2:4], "the copy is neither that of before nor the new one")
         expect(all(content in found.values() for content in copies.bytes[1:3]), f"one of before is gone: {sorted(found)}")
         found = tool("ssikvd-ship", *words)
@@ -514,10 +509,10 @@ def ages(tally, copies):
         os.utime(copy, (1_000, 1_000))
         found = tool("ssikvd-ship", "--metrics", text, copies.data[0] + ".missing", copy)
         expect(found[0] == 2 and "up to date" in found[2] and "seconds ago" in found[2], f"it answered {found}")
-        told = read(text).decode()
+        told = bytes_of(text).decode()
         expect("_time_seconds{" in told and told.count("} 1000.0\n") == 1 and "ssikvd_backup_failed{" in told and told.endswith("} 1\n"), told)
         found = tool("ssikvd-ship", "--metrics", text, copies.data[0], copy)
-        told = read(text).decode()
+        told = bytes_of(text).decode()
         expect(found[0] == 0 and told.endswith("} 0\n") and os.stat(copy).st_mtime > 1_000, f"it answered {found}, and wrote {told}")
         expect(f"}} {os.stat(copy).st_mtime}\n" in told and stat.S_IMODE(os.stat(text).st_mode) == 0o644, told)
         found = tool("ssikvd-ship", "--metrics", os.path.join(copy, "no", "folder"), copies.data[0], copy)
@@ -534,14 +529,14 @@ def links_of_ships(tally, copies):
             with open(target, "wb") as file:
                 file.write(copies.bytes[1] if name == "copy" else b"of root")
             os.utime(target, (1_000, 1_000))
-            before = read(target), os.stat(target).st_mtime, stat.S_IMODE(os.stat(target).st_mode), os.stat(target).st_uid
+            before = bytes_of(target), os.stat(target).st_mtime, stat.S_IMODE(os.stat(target).st_mode), os.stat(target).st_uid
             with contextlib.suppress(FileNotFoundError):
                 os.remove(link)
             os.symlink(target, link)
             os.lchown(link, *OWNER[1:])
             found = tool("ssikvd-ship", "--metrics", os.path.join(os.path.dirname(copy), "text"), copies.data[1], copy)
             expect(found[0] == (2 if name in ("copy.lock", "copy") else 0), f"it answered {found}")
-            after = read(target), os.stat(target).st_mtime, stat.S_IMODE(os.stat(target).st_mode), os.stat(target).st_uid
+            after = bytes_of(target), os.stat(target).st_mtime, stat.S_IMODE(os.stat(target).st_mode), os.stat(target).st_uid
             expect(before == after and os.listdir(elsewhere) == ["target"], f"it wrote to what the link leads to: {found}")
 
 
@@ -565,7 +560,7 @@ def unit(tally, copies):
         reads = not as_user or tool(*as_user, "test", "-x", words[0])[0] == 0
         found = tool(*(as_user if reads else []), *words)
         expect(found[0] == 0 and "no metrics" in found[2], f"it answered {found}")
-        expect(read(os.path.join(place, "ssikvd-backups", "shop.data")) == copies.bytes[0], "the copy is another log")
+        expect(bytes_of(os.path.join(place, "ssikvd-backups", "shop.data")) == copies.bytes[0], "the copy is another log")
 
 
 # Faults that are planted

@@ -190,17 +190,17 @@ def siege(sectors):
             yield hostile.Siege(server, False)
 
 
-def play_stream_alone(octets):
+def play_stream_alone(pieces):
     with siege(16_384) as besieged:
-        hostile.play_stream(besieged, octets)
+        hostile.play_stream(besieged, b"".join(pieces))
 
 
 def streams_of_bytes(seed):
     chance, played = random.Random(seed), 0
     with siege(16_384) as besieged:
         for _ in range(150):
-            octets = list(hostile.random_stream(chance))
-            played += play_whole(octets, lambda some: hostile.play_stream(besieged, some), play_stream_alone, lambda some: repr(bytes(some)))
+            pieces = hostile.pieces_of(hostile.random_stream(chance))
+            played += play_whole(pieces, lambda some: hostile.play_stream(besieged, b"".join(some)), play_stream_alone, lambda some: repr(b"".join(some)))
     return {"streams": played}
 
 
