@@ -144,6 +144,9 @@ fn settle_zeros<D: Sectors>(device: &mut D) -> Result<(), LogFault>
 /// `Device` where a later call of the device fails. After `Full` and `Memory` the device wasn't called, and after `NotEmpty` it holds what
 /// it held. After `Device` its first sector may hold anything if the head was being written, and else what it held. What stands behind the
 /// log's sectors is left as it is. All memory is made before the first call of the device.
+///
+/// A crash at any moment leaves the finished log but for the first sector, or a first sector as one before could have left it. Where that
+/// was settled and held zeros, it leaves the finished log, or no log.
 pub fn copy_into<D: Sectors>(alloc: Global, device: &mut D, map: &Map) -> Result<u64, LogFault>
     // When each fault comes, and what it leaves.
     ensures fails { FailsToCopy D.Sectors map.now device.old device.new result }

@@ -102,6 +102,9 @@ impl<D: Sectors> Log<D> {
     /// Faults come in this order: `Stopped` after an earlier `Device`; `Full` exactly where no closed gate would fit behind the record;
     /// `Memory` where the memory for the record's body is refused; `Device` where a call of the device fails, and the log is then stopped.
     /// The first three leave the log as it was, and make no call of the device.
+    ///
+    /// A crash at any moment of the call leaves the write sets of before it, or those and these writes. After `Ok` a crash leaves the
+    /// latter, and reads give them. No sector is written but those of the record and of the closed gate behind it.
     pub fn append(&mut self, alloc: Global, writes: &[Write]) -> Result<u64, LogFault>
         requires { IsWriteSet current writes.now }
         ensures added { IfOk result (IsAdded self.old self.new writes.now) }

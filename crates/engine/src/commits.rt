@@ -16,8 +16,8 @@ impl<D: Sectors> Engine<D> {
     ghost use Rattle.engine.specs.Meaning.{Appends, Leads, SurvivesCommit, IsDurable, response_to};
     ghost use Rattle.engine.specs.Meaning.{device_of, failures_of, has_failed, is_stopped};
 
-    /// Commits the session's transaction, and answers its commit number. Where it wrote something, one record is appended to the log; what
-    /// it takes of memory is made before, so that nothing can fail once the record stands.
+    /// Commits the session's transaction, and answers its commit number. Where it wrote something, one record is appended to the log,
+    /// which then uses more sectors; what it takes of memory is made before, so that nothing can fail once the record stands.
     ///
     /// Refusals, the first of these: `NotOpen`; `StoreStopped`; `FullNumbers` where the last number is 2^63 - 1; `Overwritten`, `PivotSelf`
     /// or `Pivot`, as the check of commits says; `FullLog` where the log has no room for the record; `StoreFault` where the device fails,

@@ -16,8 +16,8 @@ impl<D: Sectors> Engine<D> {
     ghost use Rattle.snapshot.specs.Made.{IsKnownRange};
     ghost use Rattle.engine.specs.contracts.engine.Engine.{the_row};
 
-    /// Lends what the session's private copy has at the key, and `None` where it has nothing. The key is marked as read, unless the
-    /// transaction wrote it.
+    /// Lends what the session's private copy has at the key, `VALUE_MAX` bytes at most, and `None` where it has nothing. The key is
+    /// marked as read, unless the transaction wrote it.
     ///
     /// Refusals: `NotOpen`; `FullMarks` for a 257th mark. It may take a copy of the key and room for a mark; `Memory` where that is
     /// refused, never for a key that is written or marked.

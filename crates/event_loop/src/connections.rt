@@ -129,9 +129,9 @@ pub(crate) fn end_drives<D: Sectors>(
 /// Takes at most `SESSIONS_MAX` connections from a listener, each under the next number, and says what the listener may still hold:
 /// `More` where it took that many, `Empty` where none waits, `Failed` where a call failed.
 ///
-/// Each connection that it takes is let in with a session that joins, or turned away, and nothing else happens to the hub and the table.
-/// One for which there is no place, or that memory or registration is refused for, is closed, and the refusals are counted. It may grow the
-/// table, and takes the memory of the sessions and of their streams.
+/// Each connection that it takes is let in with a session that joins, and registered with the poll under its key in the table, or turned
+/// away, and nothing else happens to the hub and the table. One for which there is no place, or that memory or registration is refused
+/// for, is closed, and the refusals are counted. It may grow the table, and takes the memory of the sessions and of their streams.
 pub fn accept_some<D: Sectors, L: Listener>(
     alloc: Global,
     poll: &CountedPoll,

@@ -82,7 +82,8 @@ impl<D: Sectors> EventLoop<D> {
     ghost use Rattle.event_loop.specs.Turns.{accepts_now, has_work, is_told_of, turn_waits};
     ghost use Rattle.event_loop.specs.Waits.{nanos_of};
 
-    /// Listens at an address for the sessions of a hub that was opened. Port 0 stands for one that the system picks.
+    /// Listens at an address for the sessions of a hub that was opened. Port 0 stands for one that the system picks. The poll tells of
+    /// the listener under a key that no entry of the table has.
     ///
     /// A fault is the system's, or out of memory, which is `OutOfMemory`. It takes memory for the events of one poll, and
     /// for the connections that linger.

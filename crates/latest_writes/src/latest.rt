@@ -14,8 +14,8 @@ const LEAST_LIMIT: usize = 1 << 23;
 
 /// The writes of a log, which make a map. A clause sees the map.
 ///
-/// What is held weighs at most twice what was kept when writes were last left out, with one of each key then, or `LEAST_LIMIT`, where
-/// that is more (`IsHeld`).
+/// What is held weighs at most twice what was kept when writes were last left out, with one of each key then, or `LEAST_LIMIT` (8 MiB),
+/// where that is more (`IsHeld`).
 #[derive(Drop)]
 pub struct LatestWrites {
     entries: Vec<Entry>,

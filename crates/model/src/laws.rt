@@ -19,8 +19,8 @@ pub fn cycle_has_dangerous_pivot()
 {}
 
 /// Without dangerous pivots and without concurrent writers of one key, the transactions of a history have a serial order, which is the
-/// one by their places: each dependency rises in it. In every serial order one that had committed when another began stands before that;
-/// by their places it does, be there pivots or not.
+/// one by their places: each dependency rises in it, and it gives the same replies and the same final map. In every serial order one that
+/// had committed when another began stands before that; by their places it does, be there pivots or not.
 pub fn history_has_serial_order()
     ensures dependencies { PlacesRise }
     ensures real_time { PlacesKeepTime }
@@ -55,8 +55,9 @@ pub fn verdict_is_sound()
     ensures recent { ConflictsAreRecent }
 {}
 
-/// Of a store that is opened several times, each time over the map that it had come to before, all that was committed has one order, in
-/// which each transaction is given the replies that it had, and at whose end the map is the one found.
+/// Of a store that is opened several times, each time over the map that it had come to before, all that was committed has one order, the
+/// serial orders of each opening in a row, in which each transaction is given the replies that it had, and at whose end the map is the
+/// one found.
 pub fn restarts_have_one_order()
     ensures follow { ReplaysFollow }
     ensures order { RestartLaw }

@@ -191,8 +191,9 @@ impl Committed {
     /// written keys, the place of each of these keys, and the places of two runs; `Memory` where that is refused. What is kept stands for
     /// the same histories in either case.
     ///
-    /// It begins to merge two runs beside one another that are of a like size, where there are such: that takes the places of both. Where
-    /// memory for these is refused, it counts the refusal, and the two stay. So it does with the last readers, by a count of their own.
+    /// It begins to merge two runs beside one another that are of a like size and have `MERGED_MAX` keys at most together, where there
+    /// are such: that takes the places of both. Where memory for these is refused, it counts the refusal, and the two stay. So it does
+    /// with the last readers, by a count of their own.
     pub fn reserve(&mut self, tx: &Transaction) -> Result<(), Memory>
         ensures same { StandForSame self.old.facts self.new.facts }
         ensures tried { IsTriedIn self.old self.new }

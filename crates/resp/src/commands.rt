@@ -116,7 +116,8 @@ fn range<'a>(request: &Request<'a>) -> Result<Command<'a>, Refusal>
 
 /// The command that a request is. The first part names it, in any case of its letters. What is no command is refused, for the first
 /// of these that holds: `UnknownCommand`, `BadArguments` where the number of parts is another, `BadKey` where a key or a bound has
-/// not 1 to 256 bytes (an empty upper bound is none), and `BadLimit`. Takes no memory.
+/// not 1 to 256 bytes (an empty upper bound is none), and `BadLimit`. A command's value and limit are within the bounds that the engine
+/// asks for. Takes no memory.
 #[tactic(auto, unfolding(model::specs::CommandTable::command_in))]
 pub fn command<'a>(request: &Request<'a>) -> Result<Command<'a>, Refusal>
     ensures meant { Means operation_of result (command_in request.now) }

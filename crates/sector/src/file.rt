@@ -33,8 +33,8 @@ impl FileSectors {
     /// Makes a new file of `count` sectors of zeros, all of them written, and syncs it and its directory. A crash then finds the file,
     /// and no later write of a sector has to find room on the disk for it.
     ///
-    /// Answers an error where a file of this name exists, where `count` is 2^55 or more, and where a call of the system fails; a file
-    /// that it made it then removes. Takes no memory.
+    /// Answers an error where a file of this name exists, where `count` is 2^55 or more (`InvalidInput`), and where a call of the system
+    /// fails; a file that it made it then removes. Takes no memory.
     pub fn create<R: Files<File = File> + Clock>(rt: &R, path: &str, count: u64) -> io::Result<Self>
         ensures too_many { 2 ^ 55 ≤ count → IsErrAnd result (λ e. error_kind e ≡ ErrorKind.InvalidInput) }
         ensures count { IfOk result (λ f. f.file.sectors ≡ count) }
@@ -102,7 +102,7 @@ impl FileSectors {
         with_whole_sectors(OpenedFile::open_to_read(rt, path)?, true)
     }
 
-    /// Closes the file, of which no more is called. Takes no memory.
+    /// Closes the file, as its last call left it; no more of it is called. Takes no memory.
     pub fn close(self)
         ensures { WasClosed self.file }
     {

@@ -282,7 +282,8 @@ impl<D: Sectors> Hub<D> {
     /// Whatever the sessions send, and however their bytes are cut and interleaved: every reply between a transaction's begin and its
     /// commit or abort is what a private copy of the map committed at its begin answers to its own requests alone, and the committed
     /// transactions, run one at a time in one order, give the same replies and the same final map. (Serializable snapshot isolation
-    /// as in Cahill, Röhm and Fekete, SIGMOD 2008.)
+    /// as in Cahill, Röhm and Fekete, SIGMOD 2008.) The device fails in one of the events at most, and in none where its count of
+    /// failures stays.
     pub fn run(&mut self, events: &[Event<'_>])
         ensures run { Runs self.old self.new (map event_of events.now) }
         ensures device { failures self.old ≤ failures self.new }

@@ -131,9 +131,9 @@ impl Transaction {
         }
     }
 
-    /// Reads a key: lends what the transaction last wrote to it, else what its begin number sees. The read is marked unless the
-    /// transaction wrote the key itself. It takes the memory of a new mark and no other; `FullMarks` or `Memory` where that mark is
-    /// refused.
+    /// Reads a key: lends what the transaction last wrote to it, else what its begin number sees, a value of `VALUE_MAX` bytes at most.
+    /// The read is marked unless the transaction wrote the key itself. It takes the memory of a new mark and no other; `FullMarks` or
+    /// `Memory` where that mark is refused.
     pub fn get<'a>(
         &'a mut self,
         versions: &'a Versions,

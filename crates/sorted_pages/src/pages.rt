@@ -165,7 +165,7 @@ impl<V: Aging + Drop> SortedPages<V> {
     /// Makes room for `n` more entries where the key stands or would stand. The entries stay, also where memory is refused, and no
     /// key has less room than before. Where the room is there already, it takes none and succeeds. A page of 288 entries is split where
     /// the `n` would make them more than 576: in the middle, or before its last entry where the key stands behind all of them. No other
-    /// page is made, but for the first.
+    /// page is made, but for the first. No page gets room for more than `n` + 191 entries.
     pub fn reserve(&mut self, key: KeyRef<'_>, n: usize) -> Result<(), AllocError>
         ensures entries { entries self.new ≡ entries self.old }
         ensures rooms { (q : Bytes) → room_at q self.old ≤ room_at q self.new }

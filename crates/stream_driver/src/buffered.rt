@@ -31,9 +31,9 @@ pub enum Flushed {
 /// What it has taken is what the stream behind it took, followed by what it holds. A write is answered `Blocked` or `Failed` only where
 /// the stream behind it was written last, and answered so. A read is answered by the stream behind it once nothing is held; before that,
 /// `Blocked` or `Failed` only where that was written last, and answered so. Once what is held has failed to leave, also between two drives,
-/// reads and writes are answered `Failed` with no further call. After a read that gave fewer bytes than it asked for nothing
-/// more is there, until the poll tells of it: so once a reply to it was taken, a read is answered `Blocked` with no call, until the next
-/// drive begins.
+/// reads and writes are answered `Failed` with no further call. It counts as failed from a write that failed to the next that moves
+/// bytes. After a read that gave fewer bytes than it asked for nothing more is there, until the poll tells of it: so once a reply to it
+/// was taken, a read is answered `Blocked` with no call, until the next drive begins.
 ///
 /// It takes at most `SHARE_MAX` bytes in a drive, its share of a turn: a write takes no more than is left of it. Once none is left, reads
 /// and writes are answered `Blocked` with no call of the stream behind it, until the next drive begins. No poll tells of that, so whoever

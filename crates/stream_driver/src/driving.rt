@@ -227,6 +227,9 @@ pub(crate) fn drive_over<D: Sectors, S: Stream>(
 /// Its events are a run of the hub: lawful at each moment, with the device's failures counted, and what a crash leaves known.
 ///
 /// It may grow what the requests grow, and the output of the session.
+///
+/// Where the stream tells what it moves, what leaves for the peer had been answered: the run passes a hub whose device stood as it did
+/// when the bytes left, and by then the session had been answered them.
 pub fn drive<D: Sectors, S: Stream>(hub: &mut Hub<D>, s: u64, stream: &mut S) -> Progress
     requires { IsPresent hub.old s }
     ensures driven { LeadsAs s S.tells Drove result hub.old (S.traffic stream.old) hub.new (S.traffic stream.new) }

@@ -93,7 +93,7 @@ impl Versions {
         })
     }
 
-    /// Lends the value that number `n` sees at the key, and `None` where it sees none. Takes no memory.
+    /// Lends the value that number `n` sees at the key, of `VALUE_MAX` bytes at most, and `None` where it sees none. Takes no memory.
     pub fn at(&self, n: u64, key: KeyRef<'_>) -> Option<&[u8]>
         ensures value { option_copied result ≡ value_at (map_seen self.now n) key.entry.bytes.now }
         ensures short { IfSome result (λ v. IsValue v.now) }
@@ -181,8 +181,8 @@ impl Versions {
         Ok(())
     }
 
-    /// Installs the writes of commit `n` in the room that `prepare` made for them. No number below `n` sees another map than before.
-    /// Takes no memory.
+    /// Installs the writes of commit `n` in the room that `prepare` made for them: one version more for each. No number below `n` sees
+    /// another map than before. Takes no memory.
     pub fn install(&mut self, n: u64, writes: Vec<Write>)
         requires some { writes.items ≢ [] }
         requires rising { T (is_sorted (slice_cmp nat_cmp) writes.items) }
@@ -205,7 +205,8 @@ impl Versions {
         }
     }
 
-    /// A step of what `reclaim` does. Answers whether it has to be called again until all is done.
+    /// A step of what `reclaim` does. Answers whether it has to be called again until all is done. Each key keeps all of its versions, or
+    /// those that `reclaim` leaves it.
     ///
     /// What each commit replaced is a list, of as many versions as it wrote, under a number that sees them. Once that number is none of
     /// these, the list is due, and a call looks at 2 of the lists that are due, from the last group on: so a new list need not wait for

@@ -50,7 +50,7 @@ impl WriteBuffer {
         self.entries.binary_search_by(|write| write.compare(key))
     }
 
-    /// What was last written to the key. Takes no memory.
+    /// What was last written to the key; a value has `VALUE_MAX` bytes at most. Takes no memory.
     pub fn get(&self, key: KeyRef<'_>) -> Written<'_>
         ensures last { written_lent result ≡ written self.now key.entry.bytes.now }
         ensures short { IsShortWritten result }
