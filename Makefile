@@ -21,14 +21,14 @@ SYSTEM = linux-x86_64
 UNITS = $(wildcard dist/*.service dist/*.timer dist/*.socket)
 COMMANDS = $(foreach file,$(wildcard dist/ssikvd-*),$(if $(findstring .,$(notdir $(file))),,$(file)))
 MANUALS = man/ssikvd.1 man/ssikvd.5 man/ssikvd.7 $(wildcard $(COMMANDS:dist/%=man/%.8))
-NOTES = LICENSE NOTICE README.md CHANGELOG.md CONTRIBUTING.md SECURITY.md $(filter-out docs/DEFINITIONS.md,$(wildcard docs/*.md)) $(wildcard docs/*.svg docs/pictures/*.svg) \
+NOTES = LICENSE NOTICE README.md CHANGELOG.md CONTRIBUTING.md SECURITY.md $(filter-out docs/DEFINITIONS.md docs/CLAUSES.md,$(wildcard docs/*.md)) $(wildcard docs/*.svg docs/pictures/*.svg) \
 	$(filter-out $(UNITS) $(COMMANDS),$(wildcard dist/*)) \
 	$(sort $(shell find examples clients -type f -not -name .gitignore -not -path '*/__pycache__/*' -not -path '*/out/*' -not -path '*/target/*'))
 
 help:
 	@echo 'make build      proves and builds $(BUILT), with the kit'
 	@echo 'make check      the gate, with the kit'
-	@echo 'make definitions  writes docs/DEFINITIONS.md: every definition behind the promises of docs/PROOFS.md'
+	@echo 'make definitions  writes docs/DEFINITIONS.md, every definition behind the promises of docs/PROOFS.md, and docs/CLAUSES.md, every public clause'
 	@echo 'make try        runs a script over a store in memory before anything is proved, with the kit'
 	@echo 'make test       the quick form of the harness, over the program PROGRAM=$(PROGRAM)'
 	@echo 'make install    installs below DESTDIR=$(DESTDIR) PREFIX=$(PREFIX) the program PROGRAM=$(PROGRAM), and all that goes with it'
@@ -46,6 +46,7 @@ check:
 
 definitions:
 	python3 -B harness/reading.py --write
+	python3 -B harness/clauses.py --write
 
 try:
 	cd crates/ssikvd && rt try -- play < ../../examples/write_skew.play

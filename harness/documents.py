@@ -46,6 +46,7 @@ NOT_RUN = (
     (r".*psql", "needs a PostgreSQL; `clients.py long` starts one"),
 )
 COMMAND = r"(rt|ssikvd|python3|grep|cp|psql|\(cd|harness/|bench/|wrong_bodies/|[A-Z]+=\S+) ?"
+WRITTEN = ("CLAUSES.md", "DEFINITIONS.md")    # by `make definitions`, and not kept
 NOT_READ = ("docs/STATUS.md",)    # what is open, written anew with each change
 NEEDS = {"rt": "the kit"}
 # Where redis-cli is missing, this is run in its place: it sends the lines of its input, and shows replies as redis-cli does.
@@ -74,7 +75,7 @@ BEFORE = {"docs/CLIENTS.md": AS_README, "docs/OPERATIONS.md": AS_README}
 
 def documents():
     found = sorted(name for name in os.listdir(TOP) if name.endswith(".md")) + ["harness/README.md"]
-    found += sorted("docs/" + name for name in os.listdir(os.path.join(TOP, "docs")) if name.endswith(".md") and name != "DEFINITIONS.md")
+    found += sorted("docs/" + name for name in os.listdir(os.path.join(TOP, "docs")) if name.endswith(".md") and name not in WRITTEN)
     return found + sorted(os.path.relpath(name, TOP) for pattern in ("*.md", "*/*.md") for name in glob.glob(os.path.join(TOP, "clients", pattern)))
 
 
