@@ -1,11 +1,11 @@
-"""What docs/PROOFS.md names stands where it says: each clause, each definition with its length, each wrong body, each row of its tables.
+"""What docs/PROOFS.md names stands where it says: each clause, each definition with its length, each wrong body, what its layers have.
 
 `audit.py --write` writes the lengths of the definitions into the page, and how many there are.
 
 A promise is a section that begins with lines behind `> `. Behind them stand what carries it (functions with their clauses and files), its definitions
 (`crate/File`, and of each its name, the lines of its declaration without comments, and what it says), the wrong bodies that are refused
-(`crate/name`, whose text to be replaced stands in the file that it names), and what passes. A table of a layer has for each row functions, each with
-clauses behind a colon, and files of `specs` with names in parentheses. The promise itself is that of the README.
+(`crate/name`, whose text to be replaced stands in the file that it names), and what passes. A layer is a paragraph that begins with its crates; what it
+names are functions, types, clauses and definitions of these, and each crate of the program is in one. The promise itself is that of the README.
 
 No clause of the crates has more than 140 columns, or more than two lines of them: what is longer has a name.
 """
@@ -15,6 +15,7 @@ import os
 import re
 from pathlib import Path
 
+from handles import PROGRAM, crates
 from ssikvd_harness.arguments import run_harness
 from ssikvd_harness.deviations import Tally, expect
 from ssikvd_harness.settings import TOP, text_of
@@ -64,7 +65,8 @@ def promises(text):
 
 
 def layers(text):
-    return [(head, below) for head, below in sections(text.partition("## Every clause")[2]) if re.search(r"^\| What holds ", below, re.M)]
+    """The paragraphs of the layers, each its crates and what stands behind them."""
+    return [(re.findall(r"`(\w+)`", head), below) for head, below in re.findall(r"^\*\*((?:`\w+`(?:, )?)+)\.\*\*(.*(?:\n.+)*)", text, re.M)]
 
 
 def definitions_in(text):
@@ -129,76 +131,33 @@ def promise(tally, head, text):
         expect(re.search(r"^Passes: ", text, re.M), "it doesn't say what passes")
 
 
-# ---- The tables of the layers
+# ---- The layers
 
 @functools.cache
-def code_of(crate):
-    return "\n".join(Path(name).read_text(encoding="utf-8") for name in sorted(glob.glob(os.path.join(TOP, "crates", crate, "src", "**", "*.rt"), recursive=True)))
+def texts_of(crate):
+    """The code of a crate, and its definitions."""
+    folder = Path(TOP, "crates", crate)
+    return ["\n".join(path.read_text(encoding="utf-8") for path in sorted(folder.glob(pattern))) for pattern in ("src/**/*.rt", "specs/*.antt")]
 
 
-@functools.cache
-def specs_of(crate):
-    """The files of a crate's definitions, by name."""
-    return {file.stem: file for file in sorted(Path(TOP, "crates", crate, "specs").glob("*.antt"))}
-
-
-def declares(path, name):
-    """Does a file of definitions declare or define this name, or a constructor or field of this name?"""
-    return re.search(rf"^ *(?:(?:abbrev|unfoldable|pub|record|data) )*{re.escape(name)}(?![\w'-])", path.read_text(encoding="utf-8"), re.M)
+def is_known(crate, name):
+    """Is it a function, a type, a clause or a ghost part of the code, or a definition?"""
+    code, specs = texts_of(crate)
+    declared = rf"^ *(?:(?:abbrev|unfoldable|pub|record|data) )*{re.escape(name)}(?![\w'-])"
+    return re.search(rf"\b(?:fn|struct|enum|trait|const|type|ghost|ensures) {name}\b", code) or re.search(declared, specs, re.M)
 
 
 def expanded(token):
-    """`A::{b, c}` stands for two functions."""
+    """`A::{b, c}` stands for two functions of A."""
     owner, _, several = token.rpartition("::") if "{" not in token else token.partition("::")
-    return [(owner, name) for name in several.strip("{}").split(", ")]
+    return [name for name in (owner, *several.strip("{}").split(", ")) if name]
 
 
-def heads_of(crates, function):
-    return [head for crate in crates for head in re.findall(rf"\bfn {function}\b.*?(?:\n *\{{|;\n)", code_of(crate), re.S)]
-
-
-def is_known(crates, name):
-    """Is it a function or a type of the code, or a definition?"""
-    code = "\n".join(code_of(crate) for crate in crates)
-    return re.search(rf"\b(?:fn|struct|enum|trait|const|type) {name}\b", code) or any(declares(path, name) for crate in crates for path in specs_of(crate).values())
-
-
-def carried(crates, cell):
-    """Each group of functions ensures each of the clauses behind its colon; those of a type alone are its invariants and ghost fields."""
-    for group in cell.split("; "):
-        names, _, those = group.partition("`: ")
-        functions = [pair for token in re.findall(r"`([^`]+)`", f"{names}`" if those else names) for pair in expanded(token)]
-        for owner, name in functions:
-            expect(is_known(crates, name), f"there is no {name}")
-            expect(not owner or is_known(crates, owner), f"there is no {owner}")
-        fields = [name for part in re.findall(r"\(([^)]*)\)", those) for name in re.findall(r"`(\w+)`", part)]
-        for field in fields:
-            expect(any(declares(path, field) for crate in crates for path in specs_of(crate).values()), f"no definition has a field {field}")
-        heads = [head for _, name in functions for head in heads_of(crates, name)]
-        kind = r"ensures\*?" if heads else "(?:ghost|invariant|pub ghost)"
-        texts = heads or [code_of(crate) for crate in crates]
-        for clause in re.findall(r"`(\w+)`", re.sub(r"\([^)]*\)", "", those)):
-            expect(any(re.search(rf"\b{kind} {clause}\b", text) for text in texts), f"{names.strip('`')} ensures no {clause}")
-
-
-def defined(crates, cell):
-    for group in filter(None, cell.split("; ")):
-        crate, _, those = group.partition("`: ")
-        own = [crate.strip("`")] if those else crates
-        for outer, inner in re.findall(r"`(\w+)`(?: \(([^)]*)\))?", those or group):
-            files = [specs_of(one)[outer] for one in own if outer in specs_of(one)]
-            expect(files or any(declares(path, outer) for one in own for path in specs_of(one).values()), f"{own} have no {outer}")
-            for name in re.findall(r"`(\w+)`", inner):
-                expect(any(declares(path, name) for path in files), f"{outer} has no {name}")
-
-
-def layer(tally, head, text):
-    crates = re.findall(r"`(\w+)`", head)
-    rows = [[cell.strip() for cell in line.strip("|").split("|")] for line in text.splitlines() if line.startswith("| ")][1:]
-    for what, functions, files in rows:
-        with tally.run(f"{head}: {what}"):
-            carried(crates, functions)
-            defined(crates, files)
+def layer(tally, those, text):
+    named = [token for token in re.findall(r"`([^`]+)`", text) if not os.path.isdir(os.path.join(TOP, "crates", token))]
+    for name in dict.fromkeys(name for token in named for name in expanded(token)):
+        with tally.run(f"{name} of {', '.join(those)}"):
+            expect(any(is_known(crate, name) for crate in those + re.findall(rf"`{name}` of `(\w+)`", text)), "there is none")
 
 
 # ---- The clauses of the crates
@@ -265,9 +224,10 @@ def main(asked):
         promise(tally, head, below)
     found = layers(text)
     with tally.run("the layers"):
-        expect(len(found) > 10, f"there are {len(found)} tables of layers")
-    for head, below in found:
-        layer(tally, head, below)
+        missing = set(crates()) - {crate for those, _ in found for crate in those} - {PROGRAM}
+        expect(not missing, f"none has {sorted(missing)}")
+    for those, below in found:
+        layer(tally, those, below)
     return 0 if tally.end() else 1
 
 
