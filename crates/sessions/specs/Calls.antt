@@ -1,5 +1,6 @@
 -- What the parts of a Serve do to an engine and an output.
-use Rattle.std.specs.Prelude.{◌≡◌, ℕ, Bool, List, [], drop, Option, Some, None, Result, Ok, Err, true, false, IsTrue}
+use Rattle.std.specs.Prelude.{◌≡◌, ◌≤◌, ℕ, Bool, List, [], drop, vec_len, vec_capacity, Option, Some, None, Result}
+use Rattle.std.specs.Prelude.{Ok, Err, true, false, IsTrue}
 use Rattle.model.specs.KeyBytes.{key_bytes, end_bytes}
 use Rattle.model.specs.Leading.{LeadsBy}
 use Rattle.model.specs.Machine.{State, step, leave}
@@ -23,6 +24,12 @@ use Rattle.sessions.specs.declared.requests.Served.TheVariants.{Answered, Incomp
 -- the bytes that were not given out yet
 abbrev pub rest : Buffer → Bytes
 rest b = drop b.start b.bytes.items
+
+-- what was given out is a part of its bytes, which are so many at most, and it has room for as many
+pub record IsWithin (max : ℕ) (buffer : Buffer) : Type 0 where
+  pub start : buffer.start ≤ vec_len buffer.bytes
+  pub len : vec_len buffer.bytes ≤ max
+  pub reserved : max ≤ vec_capacity buffer.bytes
 
 -- the most bytes of room that an emptied output keeps
 abbrev pub output_kept : ℕ

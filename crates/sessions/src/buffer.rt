@@ -1,6 +1,6 @@
 //! Bytes that are added at the end and taken from the front.
 ghost use Rattle.std.specs.Prelude.{◌≡◌, ◌≤◌, ◌+◌, ◌++◌, [], length, drop, vec_len, vec_capacity};
-ghost use Rattle.sessions.specs.Calls.{rest};
+ghost use Rattle.sessions.specs.Calls.{IsWithin, rest};
 
 /// Bytes, of which the first `start` are given out.
 #[derive(Drop)]
@@ -55,13 +55,10 @@ impl Buffer {
 
     /// The piece follows what is left, which is moved only where there is no place behind it. Takes no memory.
     pub(crate) fn append(&mut self, piece: &[u8], max: usize)
-        requires start { self.old.start ≤ vec_len self.old.bytes }
-        requires len { vec_len self.old.bytes ≤ max }
-        requires reserved { max ≤ vec_capacity self.old.bytes }
+        requires within { IsWithin max self.old }
         requires room { length (rest self.old) + length piece.now ≤ max }
         ensures rest { rest self.new ≡ rest self.old ++ piece.now }
-        ensures start { self.new.start ≤ vec_len self.new.bytes }
-        ensures len { vec_len self.new.bytes ≤ max }
+        ensures within { IsWithin max self.new }
         ensures capacity { vec_capacity self.old.bytes ≤ vec_capacity self.new.bytes }
     {
         if piece.len() > max - self.bytes.len() {
