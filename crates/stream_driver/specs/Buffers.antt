@@ -222,6 +222,19 @@ module _ {T : Type 0} where
         (Pauses old new × (answer ≡ Blocked))
         ⊎ ((Stops old new × (answer ≡ Failed)) ⊎ (GoesOn old × WhyGaveSome old answer new))
 
+    -- a read: why it answers so, whether more is there to read, and whether what is held has failed to leave
+    pub record AfterRead (old : BufferedStream T) (len : ℕ) (answer : ReadAnswer) (new : BufferedStream T) : Type 0
+      where
+        pub why : WhyGave old answer new
+        pub short : ReadsShort old len answer new
+        pub failed : ReadFails old answer new
+
+    -- a write: why it answers so, what is left of the share, and whether what is held has failed to leave
+    pub record AfterWrite (old : BufferedStream T) (answer : WriteAnswer) (new : BufferedStream T) : Type 0 where
+      pub why : WhyTook old answer new
+      pub drains : Drains old answer new
+      pub failed : WriteFails old answer new
+
     -- One write of what is held: so much has left, or the stream behind blocked or failed, and all is held still. It
     -- has failed after the stream behind failed, and no more after some has left.
     abbrev pub WhyWroteHeld : BufferedStream T → WriteAnswer → BufferedStream T → Type 0

@@ -280,9 +280,8 @@ impl<S: Stream> BufferedStream<S> {
 impl<S: Stream> Stream for BufferedStream<S> {
     ghost use Rattle.std.specs.Prelude.{◌≡◌, ◌<◌, ◌++◌, length, take};
     ghost use Rattle.stream_driver.specs.Traffic.{ReadsWithin, WritesWithin, bytes_read, bytes_written, EndsWith};
-    ghost use Rattle.stream_driver.specs.Buffers.{GivesMore, TakesMore, LeavesAt, Drains, ReadFails, ReadsShort};
-    ghost use Rattle.stream_driver.specs.Buffers.{WhyGave, WhyTook, WriteFails};
-    ghost use Rattle.stream_driver.specs.Buffers.{TakesAtMost, share_ended, traffic_through};
+    ghost use Rattle.stream_driver.specs.Buffers.{AfterRead, AfterWrite, GivesMore, LeavesAt, TakesAtMost, TakesMore};
+    ghost use Rattle.stream_driver.specs.Buffers.{share_ended, traffic_through};
 
     ghost tells = { S.tells };
 
@@ -301,9 +300,7 @@ impl<S: Stream> Stream for BufferedStream<S> {
         ensures taken { S.tells → (traffic_through S.traffic self.new).taken ≡ (traffic_through S.traffic self.old).taken }
         ensures departed { S.tells → LeavesAt (D.moment device.now) S.traffic self.old self.new }
         ensures answered { EndsWith (Call.Read result) (traffic_through S.traffic self.old) (traffic_through S.traffic self.new) }
-        ensures why { WhyGave S.traffic self.old result self.new }
-        ensures short { ReadsShort self.old (length into.old) result self.new }
-        ensures failed { ReadFails self.old result self.new }
+        ensures buffer { AfterRead S.traffic self.old (length into.old) result self.new }
     {
         let answer = self.give_in_share(device, into);
         self.counts.note_read(answer);
@@ -317,9 +314,7 @@ impl<S: Stream> Stream for BufferedStream<S> {
         ensures taken { S.tells → TakesMore S.traffic self.old (take (bytes_written result) from.now) self.new }
         ensures departed { S.tells → LeavesAt (D.moment device.now) S.traffic self.old self.new }
         ensures answered { EndsWith (Call.Write result) (traffic_through S.traffic self.old) (traffic_through S.traffic self.new) }
-        ensures why { WhyTook S.traffic self.old result self.new }
-        ensures drains { Drains self.old result self.new }
-        ensures failed { WriteFails self.old result self.new }
+        ensures buffer { AfterWrite S.traffic self.old result self.new }
     {
         let answer = self.take_in_share(device, from);
         if let WriteAnswer::Moved(n) = answer {
