@@ -34,7 +34,6 @@ use Rattle.event_loop.proofs.Committed.{answered_committed}
 use Rattle.event_loop.proofs.Entries.{no_entry, polled_sessions}
 use Rattle.event_loop.proofs.Polled.{each_rest, TakesTurns, was_driven, was_polled}
 use Rattle.event_loop.proofs.TableBytes.{driven_was, drives_bytes, finished, polled_bytes}
-use Rattle.event_loop.proofs.Tables.{TableStands}
 use Rattle.event_loop.proofs.WholeTurns.{all_found, each_bytes, new_begins, they_speak}
 use Rattle.event_loop.specs.Departures.{EntriesTell, HoldsAtEnds, IsCommitted, IsKept, IsServing, IsTold}
 use Rattle.event_loop.specs.Departures.{KeepsWhatLeft, LingerersTell, Serving, Tells, first_state, present_state}
@@ -45,7 +44,7 @@ use Rattle.event_loop.specs.Lingerings.{AllTurned, AreTurned, DropsInput, Linger
 use Rattle.event_loop.specs.Order.{is_passed}
 use Rattle.event_loop.specs.Sockets.{IsNewSocket, SocketsTell, session_of, traffic_of}
 use Rattle.event_loop.specs.TableBytes.{ConnectionsSpeak, HaveBytes}
-use Rattle.event_loop.specs.Tables.{AdmitsEach, ComeEach, EndsTurn, after_poll, joins_of, slot_at}
+use Rattle.event_loop.specs.Tables.{AdmitsEach, ComeEach, EndsTurn, TableStands, after_poll, joins_of, slot_at}
 use Rattle.event_loop.specs.Tables.AdmitsEach.{Nobody, OneMore}
 use Rattle.event_loop.specs.Turns.{Accepted, DrivesReady, IsTurn, KeepsWhatLeaves, accepts_now}
 use Rattle.event_loop.specs.declared.order.Turns.{Turns}

@@ -30,7 +30,7 @@ use Rattle.event_loop.proofs.Slots.{Slots}
 use Rattle.event_loop.specs.Accepts.{Accepts, after_accept, after_taken, more}
 use Rattle.event_loop.specs.Numbers.{AreBelow}
 use Rattle.event_loop.specs.Tables.{Admits, LetsIn, HaveEntries, IsTried, IsWithoutEntry, slot_at, ComeEach, Comes}
-use Rattle.event_loop.specs.Tables.{join_of, joins_of, refusals_in, refusals_of}
+use Rattle.event_loop.specs.Tables.{TableStands, join_of, joins_of, refusals_in, refusals_of}
 use Rattle.event_loop.specs.Tables.AdmitsEach.{Nobody, OneMore}
 use Rattle.event_loop.specs.declared.listener.AcceptAnswer.{AcceptAnswer}
 use Rattle.event_loop.specs.declared.listener.AcceptAnswer.TheVariants.{Taken, Blocked, Failed}
@@ -112,13 +112,6 @@ module _ {T : Type 0} where
 -- ---- a connection that comes
 
 module _ {T D : Type 0} {g : Ghosts D} where
-  -- what holds of a hub, the number of the next session and a table
-  pub record TableStands (hub : Hub D g) (next : ℕ) (slots : Slots T) : Type 0 where
-    pub stands : Stands hub
-    pub sessions : HaveSessions hub slots
-    pub numbers : AreBelow next slots
-    pub entries : HaveEntries hub slots
-
   module _ (hub later : Hub D g) (next then : ℕ) (slots new : Slots T) where
     -- a session was to join, or nothing was to happen
     tried_table : (later ≡ hub) ⊎ IsTried hub later next → TableStands hub next slots → TableStands later next slots

@@ -28,11 +28,11 @@ use Rattle.stream_driver.specs.declared.entries.Entry.{Entry}
 use Rattle.stream_driver.specs.declared.entries.EntryState.TheVariants.{Gone}
 use Rattle.event_loop.proofs.Present.{joins_not, joins_other, joins_same}
 use Rattle.event_loop.proofs.Slots.{Slots}
-use Rattle.event_loop.proofs.Tables.{TableStands, admits_table}
+use Rattle.event_loop.proofs.Tables.{admits_table}
 use Rattle.event_loop.specs.Numbers.{AreBelow}
 use Rattle.event_loop.specs.Sockets.{IsNewSocket, SocketsTell, traffic_of}
 use Rattle.event_loop.specs.TableBytes.{HaveBytes, KeepBytes, SpeaksFor}
-use Rattle.event_loop.specs.Tables.{Admits, AdmitsEach, LetsIn, join_of, join_tried, joins_of, slot_at}
+use Rattle.event_loop.specs.Tables.{Admits, AdmitsEach, LetsIn, TableStands, join_of, join_tried, joins_of, slot_at}
 use Rattle.event_loop.specs.Tables.AdmitsEach.{Nobody, OneMore}
 use Rattle.event_loop.specs.Turns.{Accepted, IsGivenBack, accepted_joins}
 use Rattle.event_loop.specs.declared.server.EventLoop.{EventLoop}

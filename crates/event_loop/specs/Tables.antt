@@ -13,14 +13,15 @@ use Rattle.sessions.specs.declared.events.Outcome.{Outcome}
 use Rattle.sessions.specs.declared.events.Outcome.TheVariants.{Done}
 use Rattle.sessions.specs.declared.events.Status.TheVariants.{Absent}
 use Rattle.sessions.specs.declared.hub.Hub.{Hub}
-use Rattle.stream_driver.specs.Entries.{EndsDrive, is_over}
-use Rattle.stream_driver.specs.Sessions.{Adds, Leads}
+use Rattle.stream_driver.specs.Entries.{EndsDrive, HaveSessions, is_over}
+use Rattle.stream_driver.specs.Sessions.{Adds, Leads, Stands}
 use Rattle.stream_driver.specs.Traffic.{Traffic}
 use Rattle.stream_driver.specs.declared.buffered.BufferedStream.{BufferedStream}
 use Rattle.stream_driver.specs.declared.entries.Entry.{Entry}
 use Rattle.stream_driver.specs.declared.entries.EntryState.{EntryState}
 use Rattle.stream_driver.specs.declared.entries.EntryState.TheVariants.{Idle, Ready, Gone}
 use Rattle.event_loop.specs.Accepts.{Accepts, TurnAccepts, more}
+use Rattle.event_loop.specs.Numbers.{AreBelow}
 use Rattle.event_loop.specs.declared.connections.Backlog.{Backlog}
 
 -- no session is present, and none has joined
@@ -68,6 +69,13 @@ module _ {T : Type 0} where
     -- a session for which there is no entry, or one that is gone, is absent: each session that is present has an entry
     abbrev pub HaveEntries : Hub D g → List (Option (Entry T)) → Type 0
     HaveEntries hub slots = (s : ℕ) → IsWithoutEntry s slots → status_of hub s ≡ Absent
+
+    -- what holds of a hub, the number of the next session and a table
+    pub record TableStands (hub : Hub D g) (next : ℕ) (slots : List (Option (Entry T))) : Type 0 where
+      pub stands : Stands hub
+      pub sessions : HaveSessions hub slots
+      pub numbers : AreBelow next slots
+      pub entries : HaveEntries hub slots
 
     -- A connection that was turned away: the table is as it was, and no session has joined. Memory, registration or an
     -- option of its socket was refused; or there are 128 entries, or no number is left, or the hub refused its session.

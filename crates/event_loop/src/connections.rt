@@ -3,13 +3,10 @@ ghost use Rattle.std.specs.Prelude.{◌≡◌, ◌<◌, ◌||◌, ℕ, IfSome, O
 ghost use Rattle.mio.specs.Event.{is_priority, is_read_closed};
 ghost use Rattle.mio.specs.Events.{items};
 ghost use Rattle.slab.specs.Slab.{HasRoomFor};
-ghost use Rattle.stream_driver.specs.Sessions.{Stands};
-ghost use Rattle.stream_driver.specs.Entries.{HaveSessions};
 ghost use Rattle.event_loop.specs.Leavings.{EndAll, EndsAt};
 ghost use Rattle.event_loop.specs.Lingerings.{lingers_in};
-ghost use Rattle.event_loop.specs.Numbers.{AreBelow};
 ghost use Rattle.event_loop.specs.Sockets.{IsNewSocket, SocketsTell, traffic_of};
-ghost use Rattle.event_loop.specs.Tables.{AcceptsInto, Comes, EachEnds, HaveEntries, after_poll, is_any_ready};
+ghost use Rattle.event_loop.specs.Tables.{AcceptsInto, Comes, EachEnds, TableStands, after_poll, is_any_ready};
 ghost use Rattle.event_loop.specs.Tables.{is_ready as is_ready_in, slot_at, told};
 
 use crate::lingering::Lingering;
@@ -141,16 +138,10 @@ pub fn accept_some<D: Sectors, L: Listener>(
     refused: &mut u64,
     table: &mut Slab<Entry<BufferedStream<Socket>>>,
 ) -> Backlog
-    requires stands { Stands hub.old }
-    requires sessions { HaveSessions hub.old table.old.slots }
-    requires numbers { AreBelow next.old table.old.slots }
-    requires entries { HaveEntries hub.old table.old.slots }
+    requires { TableStands hub.old next.old table.old.slots }
     ensures accepts { AcceptsInto IsNewSocket hub.old next.old table.old.slots refused.old (L.accepts listener.old) result
         hub.new next.new table.new.slots refused.new (L.accepts listener.new) }
-    ensures stands { Stands hub.new }
-    ensures sessions { HaveSessions hub.new table.new.slots }
-    ensures numbers { AreBelow next.new table.new.slots }
-    ensures entries { HaveEntries hub.new table.new.slots }
+    ensures table { TableStands hub.new next.new table.new.slots }
 {
     hub.runs_follow();
     for _accepted in 0..SESSIONS_MAX {

@@ -5,7 +5,7 @@ use Rattle.event_loop.specs.Sockets.{IsNewSocket}
 
 pub loop-accepted-init : goal.loop-accepted-init
 loop-accepted-init g c = (
-  record { stands = c.requires.stands; sessions = c.requires.sessions; numbers = c.requires.numbers; entries = c.requires.entries },
+  c.requires,
   taken_none (g.L.Listener.accepts c.args.listener.now),
   none_come IsNewSocket c.args.hub.now c.args.next.now c.args.table.now.slots c.args.refused.now c.runs_follow.ensures.none,
 )

@@ -1,9 +1,8 @@
 use Rattle.event_loop.proofs.connections.accept_some.Given as goal
 use Rattle.std.proofs.Common.{◌≡◌}
-use Rattle.event_loop.proofs.Tables.{TableStands}
 use Rattle.event_loop.specs.Accepts.{after_taken}
 use Rattle.event_loop.specs.Sockets.{IsNewSocket}
-use Rattle.event_loop.specs.Tables.{ComeEach}
+use Rattle.event_loop.specs.Tables.{ComeEach, TableStands}
 
 abbrev pub invariant-loop-accepted : goal.invariant-loop-accepted
 invariant-loop-accepted g l =
