@@ -1,5 +1,6 @@
--- The words that a command line has.
+-- The words that a command line has, and what is answered at them.
 use Rattle.std.specs.Prelude.{ℕ, List, map}
+pub use Rattle.command_line.specs.Asking.{AnswersTo}
 use Rattle.commands.specs.declared.system.CommandLine.{CommandLine}
 
 abbrev pub words_of : CommandLine → List (List ℕ)

@@ -1,6 +1,12 @@
 //! The commands over the system.
-use crate::ports::SystemPorts;
-use commands::{Around, CommandLine, SystemFiles, run_command};
+ghost use Rattle.system.specs.CommandLines.{RunsWords};
+
+use crate::ports::{SystemPorts, SystemServer};
+use commands::{
+    Around, CommandLine, DataFiles, Lines, Ports, Scripts, SystemFiles, Turns, run_command,
+};
+use sector::FileSectors;
+use sessions::Hub;
 use std::alloc::Global;
 use std::fs::File;
 use std::io::{Read, Write};
@@ -12,27 +18,33 @@ use std::time::Clock;
 /// that was refused, `BAD_LINE` for a line of a script that was, `FAULT` otherwise. What went wrong is written on `err`.
 ///
 /// It takes the memory of the command and of reading the words. Lines of progress are for a terminal alone: `run_watched` tells them.
-pub fn run<R: Files<File = File> + Net + Clock, I: Read + Drop, O: Write, E: Write>(
-    rt: &R,
+pub fn run<'a, R: Files<File = File> + Net + Clock, I: Read + Drop, O: Write, E: Write>(
+    rt: &'a R,
     alloc: Global,
     words: &[&str],
     reader: I,
     out: &mut O,
     err: &mut E,
-) -> u8 {
+) -> u8
+    ensures { RunsWords ⟦<SystemFiles<'a, R> as DataFiles>⟧ ⟦<SystemPorts<'a, R> as Ports<Hub<FileSectors>>>⟧ ⟦<SystemServer as Turns>⟧
+        ⟦<I as Scripts<&'a mut O>>⟧ ⟦<&'a mut O as Lines>⟧ ⟦<&'a mut E as Lines>⟧ words.now reader out.old err.old result }
+{
     run_watched(rt, alloc, words, reader, out, err, false)
 }
 
 /// As `run`; where `err` is a terminal, it also tells there how far a command is that takes long.
-pub fn run_watched<R: Files<File = File> + Net + Clock, I: Read + Drop, O: Write, E: Write>(
-    rt: &R,
+pub fn run_watched<'a, R: Files<File = File> + Net + Clock, I: Read + Drop, O: Write, E: Write>(
+    rt: &'a R,
     alloc: Global,
     words: &[&str],
     reader: I,
     out: &mut O,
     err: &mut E,
     is_terminal: bool,
-) -> u8 {
+) -> u8
+    ensures { RunsWords ⟦<SystemFiles<'a, R> as DataFiles>⟧ ⟦<SystemPorts<'a, R> as Ports<Hub<FileSectors>>>⟧ ⟦<SystemServer as Turns>⟧
+        ⟦<I as Scripts<&'a mut O>>⟧ ⟦<&'a mut O as Lines>⟧ ⟦<&'a mut E as Lines>⟧ words.now reader out.old err.old result }
+{
     let mut around = Around {
         files: SystemFiles::new(rt),
         ports: SystemPorts::new(rt),
