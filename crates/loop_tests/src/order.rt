@@ -88,9 +88,15 @@ fn each_has_a_turn<D: Sectors, R: Net + Clock + Abort + AllocGlobal>(
     assert!(rt; asks(rt, events, &mut first, PING, b"+PONG\r\n"));
     assert!(rt; asks(rt, events, &mut second, PING, b"+PONG\r\n"));
     assert!(rt; asks(rt, events, &mut third, PING, b"+PONG\r\n"));
-    first.write_all(&transactions(rt, b"a")).expect(rt, "written");
-    second.write_all(&transactions(rt, b"b")).expect(rt, "written");
-    third.write_all(&transactions(rt, b"c")).expect(rt, "written");
+    first
+        .write_all(&transactions(rt, b"a"))
+        .expect(rt, "written");
+    second
+        .write_all(&transactions(rt, b"b"))
+        .expect(rt, "written");
+    third
+        .write_all(&transactions(rt, b"c"))
+        .expect(rt, "written");
     let mut commits = [0usize; 3];
     for _ in 0..200u32 {
         turn(rt, events);
