@@ -1,4 +1,4 @@
-//! What a command line asks for.
+//! The commands that a command line can ask for, each with its options.
 
 /// The fewest sectors of a device: a head, and a gate that is closed.
 pub(crate) const SECTORS_MIN: u64 = 2;

@@ -1,4 +1,4 @@
-//! The commands as `clap` reads them.
+//! The command line as `clap` takes it: the program, its commands and options, and what help says of each.
 ghost use Rattle.std.specs.Prelude.{◌≡◌, Ok, false};
 ghost use Rattle.clap.specs.Simple.{App, new_app, with_rule, with_subcommand};
 ghost use Rattle.clap.specs.Walk.{rule_of};

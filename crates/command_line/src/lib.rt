@@ -1,4 +1,4 @@
-//! The command line: what its words ask for.
+//! The program's command line: its words are read as a command with its options, or refused with a text that says why.
 #![tactic(auto)]
 
 mod asked;

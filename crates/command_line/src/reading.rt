@@ -1,4 +1,4 @@
-//! Reading a command line.
+//! Reads a command line: a command with numbers in their range, or a refusal.
 ghost use Rattle.std.specs.Prelude.{◌≡◌, ◌⊎◌, ◌≤◌, IfErr, IfOk, IfSome, None, codes, map};
 ghost use Rattle.clap.specs.Matches.{found_of};
 ghost use Rattle.clap.specs.Values.{kind_of};

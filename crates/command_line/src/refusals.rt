@@ -1,4 +1,4 @@
-//! Why a command line asks for no command.
+//! Why no command is run: help was asked for, the words were refused, or memory was refused.
 
 /// Why a command line asks for no command. A text ends with a line feed.
 #[derive(PartialEq, Eq, Debug, Drop)]

@@ -1,4 +1,4 @@
--- Which fault of the log is told as a full one.
+-- Which fault of the log is reported as a full one.
 use Rattle.commit_log.specs.declared.faults.LogFault.TheVariants as logs
 use Rattle.std.proofs.Common.{◌≡◌, refl, subst}
 use Rattle.commit_log.specs.declared.faults.LogFault.{LogFault}

@@ -6,7 +6,7 @@ use Rattle.commands.specs.Printing.{EndsAs, IsToldAs}
 use Rattle.commands.specs.declared.faults.Fault.{Fault}
 use Rattle.commands.specs.declared.faults.Fault.TheVariants.{File}
 
--- an error that is told as a fault of a file
+-- an error that is reported as a fault of a file
 pub ends_as : (outcome : Result (Unit {0}) Error) (result : Result (Unit {0}) Fault)
     → MatchResult outcome (λ done. result ≡ Ok done) (λ error. IsErrAnd result (IsToldAs error File)) → EndsAs outcome result
 ends_as (Ok done) result is = is

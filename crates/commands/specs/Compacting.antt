@@ -31,13 +31,13 @@ copy_count old asked None = old
 copy_count old None (Some needed) = max old needed
 copy_count old (Some asked) (Some needed) = max old asked
 
--- the map needs more than were asked for, or more than a number tells
+-- the map needs more than were asked for, or more than a number can count
 abbrev pub HasTooFew : Option ℕ → Option ℕ → Type 0
 HasTooFew asked None = Unit {0}
 HasTooFew None (Some needed) = ⊥
 HasTooFew (Some asked) (Some needed) = asked < needed
 
--- the log of a map takes so many sectors, if a number tells them
+-- the log of a map takes so many sectors, if a number can count them
 abbrev pub Needs : KeyMap → Option ℕ → Type 0
 Needs map needed = MatchOption needed (2 ^ 64 ≤ copy_size map) (λ n. n ≡ copy_size map)
 
@@ -68,7 +68,7 @@ pub data Copies {D O : Type 0} (g : Ghosts D) (out : Lines O) (device : D) (map 
       → out.writes old (log_line (write_sets_of map) (g.size device)) outcome printed → EndsAs outcome result
       → Copies g out device map old result after printed
 
--- where the error output is a terminal, one line may tell there that the copy is being written
+-- where the error output is a terminal, one line may say there that the copy is being written
 abbrev pub MayTell : {E : Type 0} → (E → List ℕ → Result (Unit {0}) Error → E → Type 0) → Bool → E → E → Type 0
 MayTell tells false err told = told ≡ err
 MayTell tells true err told = (told ≡ err) ⊎ ((outcome : Result (Unit {0}) Error) × tells err copying_line outcome told)

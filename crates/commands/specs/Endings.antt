@@ -1,4 +1,4 @@
--- How a command line ends, and what is told of it, over whatever takes lines.
+-- How a command line ends, and what is reported of it, over whatever takes lines.
 use Rattle.command_line.specs.declared.refusals.Refusal.TheVariants as refusals
 use Rattle.std.specs.Prelude.{◌≡◌, ◌⊎◌, List, ℕ, Bool, true, Result, Ok, Err, is_ok, string_bytes}
 use Rattle.std.specs.declared.io.Error.{Error}
@@ -27,13 +27,13 @@ abbrev pub TellsText : {E : Type 0} → (E → List ℕ → Result (Unit {0}) Er
 TellsText tells text err is_written err' =
     (outcome : Result (Unit {0}) Error) × tells err text outcome err' × (is_written ≡ is_ok outcome)
 
--- this fault is told: its status, and its line
+-- this fault is reported: its status, and its line
 abbrev pub TellsFault : {E : Type 0} → (E → List ℕ → Result (Unit {0}) Error → E → Type 0) → Fault → E → Told → E
     → Type 0
 TellsFault tells fault err told err' =
     (told.status ≡ status_of fault) × TellsText tells (line_of fault) err told.is_written err'
 
--- help was asked for: it was taken by the output, or couldn't be written and that is told as a fault of a file
+-- help was asked for: it was taken by the output, or couldn't be written and that is reported as a fault of a file
 abbrev pub TellsHelp : {O E : Type 0} → (O → List ℕ → Result (Unit {0}) Error → O → Type 0)
     → (E → List ℕ → Result (Unit {0}) Error → E → Type 0)
     → List ℕ → O → E → Told → O → E → Type 0
@@ -41,7 +41,7 @@ TellsHelp writes tells text out err told out' err' =
     ((done : Unit {0}) × writes out text (Ok done) out' × (told.status ≡ 0) × (told.is_written ≡ true) × (err' ≡ err))
     ⊎ ((error : Error) × writes out text (Err error) out' × TellsFault tells File err told err')
 
--- what is told of an ending: the calls of the output and of the error output, and the status
+-- what is reported of an ending: the calls of the output and of the error output, and the status
 abbrev pub Tells : {O E : Type 0} → (O → List ℕ → Result (Unit {0}) Error → O → Type 0)
     → (E → List ℕ → Result (Unit {0}) Error → E → Type 0)
     → Ending → O → E → Told → O → E → Type 0

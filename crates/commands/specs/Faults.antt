@@ -67,13 +67,13 @@ text_of (Crowded number) = codes "line " ++ decimal number ++ codes ": crowded"
 abbrev pub line_of : Fault → List ℕ
 line_of fault = text_of fault ++ 10 ∷ []
 
--- the exit status that tells a fault
+-- the exit status of a fault
 abbrev pub status_of : Fault → ℕ
 status_of (BadLine number) = 2
 status_of (Crowded number) = 2
 status_of other = 3
 
--- `Device` is told exactly where a call of the device failed
+-- `Device` is reported exactly where a call of the device failed
 abbrev pub DeviceIs : {T : Type 0} → ℕ → ℕ → Result T Fault → Type 0
 DeviceIs before now result =
     MatchResult result (λ _. now ≡ before) (λ e. (e ≡ Device → Rose before now) × ((e ≡ Device → ⊥) → now ≡ before))

@@ -12,7 +12,7 @@ abbrev pub IsToldAs : Error → Fault → Fault → Type 0
 IsToldAs error fault told =
     ((error_kind error ≡ OutOfMemory) × (told ≡ Memory)) ⊎ ((error_kind error ≢ OutOfMemory) × (told ≡ fault))
 
--- an outcome of printing is the command's: an error is told as one of a file
+-- an outcome of printing is the command's: an error is reported as one of a file
 abbrev pub EndsAs : Result (Unit {0}) Error → Result (Unit {0}) Fault → Type 0
 EndsAs (Ok done) result = result ≡ Ok done
 EndsAs (Err error) result = IsErrAnd result (IsToldAs error File)

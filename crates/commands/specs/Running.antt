@@ -1,4 +1,4 @@
--- What a command line does, call by call, over whatever tells what is asked, opens and makes files, listens, plays
+-- What a command line does, call by call, over whatever says what is asked, opens and makes files, listens, plays
 -- scripts and takes lines.
 use Rattle.std.specs.Prelude.{◌≡◌, ℕ, Result, Ok, Err}
 use Rattle.sector.specs.declared.device.Sectors.{Ghosts}
@@ -46,7 +46,7 @@ module _ {F P S O E D V : Type 0} {g : Ghosts D} (files : DataFiles F D) (ports 
         × (ended ≡ of_played played)
         × (new ≡ record old { out = new.out })
 
-    -- how a command line ended: what was asked for was done, if its words ask for a command, and the ending is told
+    -- how a command line ended: what was asked for was done, if its words ask for a command, and the ending is reported
     abbrev pub EndsLine : S → Around F P O E → Result Asked Refusal → Told → Around F P O E → Type 0
     EndsLine scripts old (Err refusal) told new =
         Tells out.writes err.writes (of_refusal refusal) old.out old.err told new.out new.err
@@ -56,7 +56,7 @@ module _ {F P S O E D V : Type 0} {g : Ghosts D} (files : DataFiles F D) (ports 
         × Tells out.writes err.writes (of_outcome ended) done.out done.err told new.out new.err
         × (new ≡ record done { out = new.out; err = new.err })
 
-    -- A command line is run: the words tell what is asked, and the status is that of the ending.
+    -- A command line is run: the words say what is asked, and the status is that of the ending.
     abbrev pub Runs : {W : Type 0} → (W → Result Asked Refusal → Type 0) → W → S → Around F P O E → ℕ → Around F P O E
         → Type 0
     Runs asks words scripts old status new =

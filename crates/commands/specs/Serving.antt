@@ -57,7 +57,7 @@ pub data Opening {F P D V : Type 0} {g : Ghosts D} (files : DataFiles F D) (list
       → listens ports address hub (Ok server) listened
       → Opening files listens name listen old ports (Ok server) opened listened
 
--- After a turn that left the store stopped or not: where it is and that was not told, it is told now, by one line; else
+-- After a turn that left the store stopped or not: where it is and that was not reported, it now is, by one line; else
 -- nothing is done.
 abbrev pub TellsStop : {E : Type 0} → (E → List ℕ → Result (Unit {0}) Error → E → Type 0) → Bool → Bool → E → Bool → E
     → Type 0
@@ -66,8 +66,8 @@ TellsStop writes false true err told' err' =
 TellsStop writes false false err told' err' = (told' ≡ false) × (err' ≡ err)
 TellsStop writes true stopped err told' err' = (told' ≡ true) × (err' ≡ err)
 
--- so many turns that did not fail, one after the other, behind each of which it was told that the store has stopped,
--- unless that was told
+-- so many turns that did not fail, one after the other, after each of which it was reported that the store has stopped,
+-- if it has, unless that was reported
 pub data TakesTurns {V E : Type 0} (turns : V → Result (Unit {0}) Error → V → Type 0) (stops : V → Bool
     → Type 0) (writes : E → List ℕ → Result (Unit {0}) Error → E → Type 0)
     (first : V) (err : E) : ℕ → V → Bool → E → Type 0 where

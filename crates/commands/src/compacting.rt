@@ -1,4 +1,4 @@
-//! Copying the map of a data file into a new one.
+//! `compact`: copies the map of a data file into a new one.
 ghost use Rattle.std.specs.Prelude.{◌≡◌, ◌<◌, ◌≤◌, ◌⊎◌, ◌↔◌, Ok, OnOk, IfOk, IfErr, IsErrOf};
 ghost use Rattle.commit_log.specs.Copying.{write_sets_of, copy_size, IsCopyFault};
 ghost use Rattle.commit_log.specs.Reading.{FaultIs};
@@ -80,8 +80,8 @@ fn may_tell<C: Clock, E: Lines>(clock: &C, begun: Option<Instant>, is_terminal: 
     }
 }
 
-/// How many sectors a copy is given: as many as the old device has, as were asked for, and as the map needs. `LogFull` exactly where
-/// the map needs more than were asked for, or more than a number tells. Takes no memory.
+/// How many sectors a copy is given: as many as the old device has, as were asked for, and as the map needs. `LogFull` exactly where the
+/// map needs more than were asked for, or more than a number can count. Takes no memory.
 pub fn copy_count(old: u64, asked: Option<u64>, needed: Option<u64>) -> Result<u64, Fault>
     ensures errors { IfErr result (λ fault. fault ≡ Fault.LogFull) }
     ensures full { IsErrOf result Fault.LogFull ↔ HasTooFew asked needed }

@@ -1,4 +1,4 @@
-//! Making and checking a data file.
+//! `create` and `check`: makes an empty data file, and counts what one holds.
 ghost use Rattle.std.specs.Prelude.{◌≡◌, ◌≢◌, ◌<◌, ◌≤◌, ◌⊎◌, ◌↔◌, [], length, OnOk, IfErr, IsErrOf};
 ghost use Rattle.sector.specs.Failures.{Stayed};
 ghost use Rattle.commit_log.specs.declared.formats.LogFormat.{LogFormat};

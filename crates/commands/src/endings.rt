@@ -1,4 +1,4 @@
-//! How a command line ends, and what is reported of it. Each line leaves in one write.
+//! How a command line ends: what is printed, each text in one write, and the exit status.
 ghost use Rattle.std.specs.Prelude.{◌≡◌, ◌++◌, ◌≤◌, length};
 ghost use Rattle.commands.specs.Faults.{line_of, status_of};
 ghost use Rattle.commands.specs.Endings.{Tells, TellsFault};
@@ -96,7 +96,7 @@ pub fn report<E: Lines>(fault: Fault, err: &mut E) -> Told
     }
 }
 
-// The exit status that tells a fault.
+// The exit status of a fault.
 fn status(fault: Fault) -> u8
     ensures { result ≡ status_of fault }
 {

@@ -1,4 +1,4 @@
-//! Why a command ends early.
+//! The faults that end a command early.
 ghost use Rattle.commands.specs.Printing.{IsToldAs};
 
 use commit_log::LogFault;

@@ -1,4 +1,5 @@
-//! The commands, each over traits for what it calls: words, files, ports, scripts and lines.
+//! The program's commands, each over traits for what it uses of the system: words, files, ports, scripts and outputs. So a command's
+//! contract names each call that it makes.
 #![tactic(auto)]
 
 mod compacting;

@@ -1,4 +1,4 @@
-//! Lines in a row of bytes that they always fit.
+//! The lines that are printed, each built in a fixed buffer that the longest of them fits.
 ghost use Rattle.std.specs.Prelude.{◌≡◌, ◌≤◌, ◌+◌, ◌++◌, length, decimal};
 
 use arrayvec::ArrayVec;
@@ -12,6 +12,7 @@ pub(crate) fn push_text(line: &mut Line, text: &[u8])
     requires { length line.old.items + length text.now ≤ 128 }
     ensures { line.new.items ≡ line.old.items ++ text.now }
 {
+    // It can't fail: the contract asks for the room.
     let _fits = line.try_extend_from_slice(text);
 }
 

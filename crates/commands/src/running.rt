@@ -1,4 +1,4 @@
-//! The command that a line names.
+//! Runs a command line: reads it, runs the command that it names, and reports how that ended.
 ghost use Rattle.commands.specs.Running.{Does, Runs};
 ghost use Rattle.commands.specs.Serving.{TakesOpened};
 ghost use Rattle.command_line.specs.Ranges.{IsInRange};
@@ -14,10 +14,10 @@ use sessions::Hub;
 use std::alloc::Global;
 use std::time::Clock;
 
-/// Runs the command that the words ask for, over whatever tells what is asked, opens and makes files, listens, plays scripts and takes
+/// Runs the command that the words ask for, over whatever says what is asked, opens and makes files, listens, plays scripts and takes
 /// lines, and answers the exit status: `DONE`, `REFUSED` for a command line that was refused, `BAD_LINE` for a line of a script that was,
-/// `FAULT` otherwise. What went wrong is written on the error output. It does nothing else: its contract names each call of these, in
-/// their order, and the status.
+/// `FAULT` otherwise. What went wrong is written on the error output. It does nothing else: its contract names each call of these, in their
+/// order, and the status.
 ///
 /// It takes the memory of the command and of reading the words.
 pub fn run_command<

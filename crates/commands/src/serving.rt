@@ -1,4 +1,4 @@
-//! Serving a data file.
+//! `serve`: opens a data file, listens, prints the address, and takes turns until one fails.
 ghost use Rattle.commands.specs.Notices.{listening_line};
 ghost use Rattle.commands.specs.Printing.{Prints};
 ghost use Rattle.commands.specs.Serving.{EndsServing, EndsTurns, Opening, TakesOpened, TellsStop};
@@ -11,7 +11,7 @@ use std::io;
 use std::net::SocketAddr;
 
 /// Opens a data file, listens at an address, prints `listening` and the address that the system gave, and takes turns until one fails. It
-/// tells once, on the error output, that the store has stopped. It does nothing else: its contract names each call of the files, the
+/// reports once, on the error output, that the store has stopped. It does nothing else: its contract names each call of the files, the
 /// ports, the server and the outputs, in their order. It ends without a fault once it has taken 2^64 - 1 turns, as `serve_turns` does.
 ///
 /// A fault is `Listen`, which for a text that is no address comes before the file is opened, `File`, the log's, `Poll`, or `Memory`.
@@ -33,7 +33,7 @@ pub fn serve<F: DataFiles, P: Ports<Hub<F::Device>>, O: Lines, E: Lines>(
     serve_turns(&mut server, &mut around.err)
 }
 
-/// Takes turns until one fails, and tells once, on `err`, that the store has stopped: after the first turn that leaves it so. Where that
+/// Takes turns until one fails, and reports once, on `err`, that the store has stopped: after the first turn that leaves it so. Where that
 /// can't be written, nothing more is done. It counts its turns, and ends without a fault after 2^64 - 1 of them, which takes more than five
 /// centuries at a turn a nanosecond.
 ///
@@ -51,7 +51,7 @@ pub fn serve_turns<S: Turns, E: Lines>(server: &mut S, err: &mut E) -> Result<()
     Ok(())
 }
 
-// After a turn: tells that the store has stopped, in one write, unless that was told.
+// After a turn: reports that the store has stopped, in one write, unless that was reported.
 fn tell_stopped<E: Lines>(told: &mut bool, is_stopped: bool, err: &mut E)
     ensures { TellsStop E.writes told.old is_stopped err.old told.new err.new }
 {

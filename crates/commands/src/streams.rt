@@ -1,4 +1,4 @@
-//! The descriptors of the standard streams, which no file of the program's own may get.
+//! Fills the descriptors of standard streams that are closed, so that no file of the program's own gets one of them.
 ghost use Rattle.std.specs.Prelude.{IfOk};
 ghost use Rattle.commands.specs.Openings.{KeepsLow};
 
@@ -18,7 +18,7 @@ pub trait Opener {
     /// A file, which is closed where it is dropped.
     type File: AsRawFd + Drop;
 
-    /// Relates it before it opened a file, that file, and it afterwards.
+    /// `opens before file after`: one call of `open` that opened this file.
     ghost opens: { Self → Self.File → Self → Type 0 } = { λ _ _ _. ⊤ };
 
     /// Opens a file. Its descriptor is the lowest that is free.

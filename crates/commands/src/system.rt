@@ -11,14 +11,14 @@ use std::net::SocketAddr;
 use std::rt::Files;
 use std::time::Clock;
 
-/// What tells which command is asked for.
+/// What says which command is asked for.
 pub trait Words {
     ghost use Rattle.std.specs.Prelude.{⊤, Result, IfOk};
     ghost use Rattle.command_line.specs.Ranges.{IsInRange};
     ghost use Rattle.command_line.specs.declared.asked.Asked.{Asked};
     ghost use Rattle.command_line.specs.declared.refusals.Refusal.{Refusal};
 
-    /// Relates it to what it tells.
+    /// `asks words answer`: one call of `asked`.
     ghost asks: { Self → Result Asked Refusal → Type 0 } = { λ _ _. ⊤ };
 
     /// The command that is asked for, with numbers in its range, or why there is none.
@@ -35,19 +35,19 @@ pub trait DataFiles {
     /// A data file.
     type Device: Sectors + Drop;
 
-    /// Relates it before it opened a file, the file's name, how that came out, and it afterwards.
+    /// `opens before name result after`: one call of `open`.
     ghost opens: { Self → List ℕ → Result Self.Device Error → Self → Type 0 } = { λ _ _ _ _. ⊤ };
 
-    /// The same of a file that is to be read alone.
+    /// `reads before name result after`: one call of `open_to_read`.
     ghost reads: { Self → List ℕ → Result Self.Device Error → Self → Type 0 } = { λ _ _ _ _. ⊤ };
 
-    /// The same of a file that is to be checked.
+    /// `checks before name result after`: one call of `open_to_check`.
     ghost checks: { Self → List ℕ → Result Self.Device Error → Self → Type 0 } = { λ _ _ _ _. ⊤ };
 
-    /// Relates it before it made a file, the file's name, its number of sectors, how that came out, and it afterwards.
+    /// `makes before name sectors result after`: one call of `create`.
     ghost makes: { Self → List ℕ → ℕ → Result Self.Device Error → Self → Type 0 } = { λ _ _ _ _ _. ⊤ };
 
-    /// Relates it before it closed a file, the file as it was closed, and it afterwards.
+    /// `closes before file after`: one call of `close`, of a file as it then was.
     ghost closes: { Self → Self.Device → Self → Type 0 } = { λ _ _ _. ⊤ };
 
     /// Opens a data file.
@@ -78,13 +78,13 @@ pub trait Turns {
     ghost use Rattle.std.specs.declared.io.Error.{Error};
     ghost use Rattle.std.specs.declared.net.socket_addr.SocketAddr.{SocketAddr};
 
-    /// Relates it before a turn, how that came out, and it afterwards.
+    /// `turns before result after`: one call of `next_turn`.
     ghost turns: { Self → Result (Unit {0}) Error → Self → Type 0 } = { λ _ _ _. ⊤ };
 
-    /// Relates it to whether its store has stopped.
+    /// `stops server answer`: one call of `is_stopped`.
     ghost stops: { Self → Bool → Type 0 } = { λ _ _. ⊤ };
 
-    /// Relates it to the address that it listens at, or to why that can't be told.
+    /// `is_at server result`: one call of `address`.
     ghost is_at: { Self → Result SocketAddr Error → Type 0 } = { λ _ _. ⊤ };
 
     /// One turn: it waits until there is something to do, and does it. An error is the wait's.
@@ -112,7 +112,7 @@ pub trait Ports<H> {
     /// The hubs that it takes.
     ghost takes: { H → Type 0 } = { λ _. ⊤ };
 
-    /// Relates it before it listened, the address, the hub, how that came out, and it afterwards.
+    /// `listens before address hub result after`: one call of `listen`.
     ghost listens: { Self → SocketAddr → H → Result Self.Server Error → Self → Type 0 } = { λ _ _ _ _ _. ⊤ };
 
     /// Listens at an address for the sessions of a hub.
@@ -126,7 +126,7 @@ pub trait Scripts<O> {
     ghost use Rattle.std.specs.Prelude.{⊤, ◌≤◌, ℕ, Result};
     ghost use Rattle.scripts.specs.declared.faults.ScriptFault.{ScriptFault};
 
-    /// Relates it, a number of sectors, the output before it played, how that came out, and the output afterwards.
+    /// `plays script sectors out result after`: one call of `play`, with the output before and after it.
     ghost plays: { Self → ℕ → O → Result (Unit {0}) ScriptFault → O → Type 0 } = { λ _ _ _ _ _. ⊤ };
 
     /// Plays a script over a device in memory of so many sectors.
@@ -142,7 +142,7 @@ pub trait Lines {
     ghost use Rattle.std.specs.Prelude.{⊤, ℕ, List, Result};
     ghost use Rattle.std.specs.declared.io.Error.{Error};
 
-    /// Relates it before a line was written, the line, how that came out, and it afterwards.
+    /// `writes before line result after`: one call of `write_line`.
     ghost writes: { Self → List ℕ → Result (Unit {0}) Error → Self → Type 0 } = { λ _ _ _ _. ⊤ };
 
     /// Writes a line, and flushes.

@@ -22,10 +22,17 @@ use Rattle.commit_log.specs.Copying.{log_sectors, open_record, ReadsFrom, Leaves
 use Rattle.commit_log.specs.Copying.{LeavesSteps, puts, write_sets_of}
 use Rattle.commit_log.specs.Format.{current, head_sector}
 use Rattle.commit_log.specs.LogImage.{IsLogImage, span, last_digest, next_index}
-use Rattle.commit_log.specs.LogState.{IsSameBefore, KeepsBefore, OnlyWrites}
+use Rattle.commit_log.specs.LogState.{IsSameBefore, OnlyWrites}
 use Rattle.commit_log.specs.Reading.{LeavesAsBefore, OnlyReads}
 use Rattle.commit_log.specs.RecordFormat.{closed_gate, first_digest, open_gate, sectors_for, body_sectors}
 use Rattle.commit_log.specs.RecordFormat.{padded_body, record_body, record_digest}
+
+-- What stands before this sector stays: reads give no more of it than before, and a crash at any moment leaves it as
+-- before.
+pub record KeepsBefore {D : Type 0} (g : Ghosts D) (at : ℕ) (old new : D) : Type 0 where
+  pub others : (i : ℕ) (s : List ℕ) → i < at → g.may_read new i s → g.may_read old i s
+  pub crash : LeavesNoMore (IsSameBefore at (g.may_leave old)) (g.may_leave new)
+  pub time : LeavesOnly g.moment g.left_since old new (IsSameBefore at (g.may_leave old))
 
 as_before : (at n : ℕ) (base : List (List ℕ) → Type 0) (c : List (List ℕ)) → base c → FollowsWrites at n base c
 as_before at n base c left = (c, left, record { size = refl; before = refl; behind = refl })

@@ -126,13 +126,13 @@ pub record FailsToCopy {D : Type 0} (g : Ghosts D) (map : KeyMap) (old new : D) 
     pub unchanged : IsErrOf result Full ⊎ IsErrOf result Memory → new ≡ old
     pub untouched : g.keeps_model → IsErrOf result NotEmpty → OnlyReads g old new
 
--- the first sector held zeros where the call succeeds, and something else where it tells so, in an image that the
+-- the first sector held zeros where the call succeeds, and something else where it reports so, in an image that the
 -- device might have held
 pub record FindsFirst {D T : Type 0} (g : Ghosts D) (device : D) (result : Result T LogFault) : Type 0 where
   pub empty : OnOk result (MightHold g device IsBlank)
   pub not_empty : IsErrOf result NotEmpty → MightHold g device (λ image. IsBlank image → ⊥)
 
--- so many records are told of a copy as there are write sets, which give the map
+-- as many records are reported of a copy as there are write sets, which give the map
 pub record CopiesPairs (map : KeyMap) (result : Result ℕ LogFault) : Type 0 where
   pub number : IfOk result (λ n. n ≡ set_count (length map))
   pub lists : length (write_sets_of map) ≡ set_count (length map)

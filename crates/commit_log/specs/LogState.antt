@@ -100,13 +100,6 @@ OnlyAppends {g = g} old new writes =
 abbrev pub IsSameBefore : ℕ → (List (List ℕ) → Type 0) → List (List ℕ) → Type 0
 IsSameBefore at may_leave c = (d : List (List ℕ)) × may_leave d × (take at c ≡ take at d)
 
--- What stands before this sector stays: reads give no more of it than before, and a crash at any moment leaves it as
--- before.
-pub record KeepsBefore {D : Type 0} (g : Ghosts D) (at : ℕ) (old new : D) : Type 0 where
-  pub others : (i : ℕ) (s : List ℕ) → i < at → g.may_read new i s → g.may_read old i s
-  pub crash : LeavesNoMore (IsSameBefore at (g.may_leave old)) (g.may_leave new)
-  pub time : LeavesOnly g.moment g.left_since old new (IsSameBefore at (g.may_leave old))
-
 -- The image while a device is made an empty log: one of these but for sector 1, or, with the closed gate there, but for
 -- sector 0.
 abbrev pub IsBeingMade : (List (List ℕ) → Type 0) → List (List ℕ) → Type 0

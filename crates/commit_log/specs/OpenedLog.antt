@@ -46,7 +46,7 @@ pub record IsRefused {D : Type 0} (g : Ghosts D) (device : D) (unopened : Unopen
   pub fault : IsOpenFault unopened.fault
   pub cause : TellsFailure (g.failures device) (g.failures unopened.device) unopened.fault
 
--- of a device, how opening what is on it came out, and which fault each error tells
+-- of a device, how opening what is on it came out, and which fault each error reports
 module _ {D R E : Type 0} (g : Ghosts D) (device : D) (result : Result R E) (fault_of : E → LogFault) where
   -- the fault is this one, the device's or memory's
   abbrev pub FailsWith : LogFault → Type 0

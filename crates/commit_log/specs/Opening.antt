@@ -17,14 +17,14 @@ use Rattle.commit_log.specs.declared.formats.LogFormat.TheVariants.{One}
 use Rattle.commit_log.specs.declared.read.Found.{Found}
 use Rattle.commit_log.specs.declared.read.Record.{Record}
 
--- it tells of the records of these write sets
+-- it reports the records of these write sets
 pub record TellsOf (lists : List (List KeyWrite)) (found : Found) : Type 0 where
   pub gate : found.gate ≡ 1 + span lists
   pub records : found.records ≡ length lists
   pub digest : found.digest.bytes ≡ last_digest lists 0 first_digest
   pub map : found.map ≡ map_after [] lists
 
--- it tells of the records that these sectors hold
+-- it reports the records that these sectors hold
 pub record IsFound (f : LogFormat) (rest : List (List ℕ)) (found : Found) : Type 0 where
   pub lists : List (List KeyWrite)
   pub holds : HoldsRecords f lists 0 first_digest rest
@@ -82,7 +82,7 @@ pub record IsFitRecord (f : LogFormat) (index : ℕ) (before : List ℕ) (at cou
   pub proper : IsWriteSet f found.writes.items
   pub digest : found.digest.bytes ≡ record_digest before index found.writes.items
 
--- it stands there in the image, in as many sectors as it tells
+-- it stands there in the image, in as many sectors as it says
 pub record IsRecordFound (f : LogFormat) (index : ℕ) (before : List ℕ) (at : ℕ) (image : List (List ℕ))
     (found : Record) : Type 0 where
   pub stands : IsRecordIn f index before at image found
@@ -101,7 +101,7 @@ HoldsHead g device head image = Holds g device image × BeginsWith head image
 abbrev pub ReadsRecords : LogFormat → Result Found LogFault → List (List ℕ) → Type 0
 ReadsRecords f result image = MatchResult result (IsFound f (drop 1 image)) (IsReadFault f (drop 1 image))
 
--- it tells of this image, which reads give now and is all that a crash may leave
+-- it reports on this image, which reads give now and is all that a crash may leave
 pub record IsOpened {D : Type 0} (g : Ghosts D) (f : LogFormat) (device : D) (found : Found) (image : List (List ℕ)) :
     Type 0 where
   pub lists : List (List KeyWrite)
@@ -109,7 +109,7 @@ pub record IsOpened {D : Type 0} (g : Ghosts D) (f : LogFormat) (device : D) (fo
   pub tells : TellsOf lists found
   pub settled : Holds g device image
 
--- what reading a log came to: it is told of one image that the device might have held, but for the faults of the device
+-- what reading a log came to: it reports on one image that the device might have held, but for the faults of the device
 -- and of memory
 abbrev pub ReadsLog : {D : Type 0} → Ghosts D → D → D → Result Found LogFault → Type 0
 ReadsLog g old new result = MatchResult result (λ found. MightHold g old (IsOpened g current new found))

@@ -11,7 +11,7 @@ use Rattle.commit_log.specs.declared.faults.LogFault.TheVariants.{Device}
 abbrev pub TellsFailure : ℕ → ℕ → LogFault → Type 0
 TellsFailure before now e = (e ≡ Device → Rose before now) × ((e ≡ Device → ⊥) → now ≡ before)
 
--- `Device` is told exactly where a call of the device failed
+-- `Device` is reported exactly where a call of the device failed
 abbrev pub FaultIs : {T : Type 0} → ℕ → ℕ → Result T LogFault → Type 0
 FaultIs before now result = MatchResult result (λ _. now ≡ before) (TellsFailure before now)
 

@@ -1,4 +1,5 @@
-//! Copying a map into a log of its own.
+//! Writes a new log of a map, for `compact`. The head is written last: over a durable first sector of zeros a crash leaves the whole log or
+//! none.
 ghost use Rattle.std.specs.Prelude.{◌≡◌, ◌⊎◌, ◌≤◌, ◌+◌, ◌/◌, ◌^◌, [], length, vec_capacity, OnOk, IfOk, IfErr};
 ghost use Rattle.std.specs.Prelude.{IfSome};
 ghost use Rattle.std.specs.Prelude.{IfNone};
@@ -139,11 +140,11 @@ fn settle_zeros<D: Sectors>(device: &mut D) -> Result<(), LogFault>
 /// records there are. The device is synced, and its first sector read. Then each sector of the log but the first is written once, and
 /// settled; the head is written last, and settled.
 ///
-/// Faults come in this order: `Full` exactly where the device has fewer sectors than `copy_sectors` tells; `Memory` where the memory
-/// for one record is refused; `Device` where the sync or the read of the first sector fails; `NotEmpty` where that isn't all zeros;
-/// `Device` where a later call of the device fails. After `Full` and `Memory` the device wasn't called, and after `NotEmpty` it holds what
-/// it held. After `Device` its first sector may hold anything if the head was being written, and else what it held. What stands behind the
-/// log's sectors is left as it is. All memory is made before the first call of the device.
+/// Faults come in this order: `Full` exactly where the device has fewer sectors than `copy_sectors` says; `Memory` where the memory for one
+/// record is refused; `Device` where the sync or the read of the first sector fails; `NotEmpty` where that isn't all zeros; `Device` where
+/// a later call of the device fails. After `Full` and `Memory` the device wasn't called, and after `NotEmpty` it holds what it held. After
+/// `Device` its first sector may hold anything if the head was being written, and else what it held. What stands behind the log's sectors
+/// is left as it is. All memory is made before the first call of the device.
 ///
 /// A crash at any moment leaves the finished log but for the first sector, or a first sector as one before could have left it. Where that
 /// was settled and held zeros, it leaves the finished log, or no log.
@@ -153,7 +154,7 @@ pub fn copy_into<D: Sectors>(alloc: Global, device: &mut D, map: &Map) -> Result
     ensures fault { FaultIsCounted (D.failures device.old) (D.failures device.new) result }
     ensures size { D.size device.new ≡ D.size device.old }
 
-    // `NotEmpty` is told of an image that the device might have held, by its first sector.
+    // `NotEmpty` is reported of an image that the device might have held, by its first sector.
     ensures first { D.keeps_model → FindsFirst D.Sectors device.old result }
 
     // The records, and the map that they give.

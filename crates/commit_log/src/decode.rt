@@ -1,4 +1,4 @@
-//! The bytes of a record, read back.
+//! Decodes the body of a record. Its index, its digest, the zeros behind its payload and each of its writes are checked.
 ghost use Rattle.std.specs.Prelude.{◌≡◌, ◌<◌, ◌≤◌, ◌+◌, ◌*◌, ◌^◌, ◌++◌, ◌-◌, [], ◌∷◌, ℕ, List, true, false};
 ghost use Rattle.std.specs.Prelude.{slice_index, EachIndex, Option, length, IfOk, IfSome, IfNone};
 ghost use Rattle.std.specs.Option.{option_map};

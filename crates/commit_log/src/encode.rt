@@ -1,4 +1,4 @@
-//! The bytes of a record.
+//! Encodes the body of a record: length, index, digest, payload, and zeros up to the end of a sector.
 ghost use Rattle.std.specs.Prelude.{◌≡◌, ◌<◌, ◌≤◌, ◌+◌, ◌-◌, ◌*◌, ◌/◌, ◌++◌, length, vec_len, vec_capacity};
 ghost use Rattle.std.specs.Prelude.{option_copied, IfOk, IfSome, take, drop, replicate};
 ghost use Rattle.std.specs.List.{flat_map};

@@ -1,4 +1,4 @@
-//! Why a call of the log gave up.
+//! Why a call of the log fails, and the device that an opening which failed gives back.
 ghost use Rattle.std.specs.Prelude.{◌≡◌};
 ghost use Rattle.commit_log.specs.declared.faults.LogFault.TheVariants.{Memory};
 

@@ -1,4 +1,4 @@
-//! The formats of the log.
+//! The two formats of the log: their heads and their limits.
 ghost use Rattle.std.specs.Prelude.{◌≡◌};
 ghost use Rattle.model.specs.Bounds.{body_bound};
 ghost use Rattle.commit_log.specs.Format.{value_bound, version_byte, format_number};

@@ -1,4 +1,4 @@
-//! Making an empty log.
+//! Makes a device an empty log: first a closed gate, then the head.
 ghost use Rattle.std.specs.Prelude.{◌≡◌, ◌≢◌, ◌<◌, ◌≤◌, ◌↔◌, [], List, ℕ, OnOk, IsErrOf, IfErr};
 ghost use Rattle.sector.specs.SectorModel.{LeavesOnly};
 ghost use Rattle.sector.specs.Failures.{IsCounted};

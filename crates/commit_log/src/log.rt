@@ -1,4 +1,4 @@
-//! The log. It is read once, when it is opened, and from then on only appended to.
+//! An opened log. It is read once, when it is opened, and from then on only appended to.
 ghost use Rattle.std.specs.Prelude.{◌≡◌, ◌≢◌, ◌⊎◌, MatchResult, IsErrAnd, ◌<◌, ◌≤◌, ◌^◌, ◌-◌, ◌+◌, ◌↔◌, true, false};
 ghost use Rattle.std.specs.Prelude.{[], ◌∷◌, ◌++◌, IfOk, IfErr, OnOk, IsErrOf};
 
@@ -78,7 +78,7 @@ impl<D: Sectors> Log<D> {
         ensures runs { IfOk result (λ r. RunsOver device r.0) }
         ensures faults { IfErr result IsOpenFault }
 
-        // `Device` is told only where a call has failed: the device then counts more failures.
+        // `Device` is reported only where a call has failed: the device then counts more failures.
         ensures cause { IfErr result (λ e. e ≡ LogFault.Device → (after : D) × Rose (D.failures device) (D.failures after)) }
         ensures short { D.size device < 2 → IsErrAnd result (λ e. (e ≡ LogFault.NotALog) ⊎ (e ≡ LogFault.Device)) }
 

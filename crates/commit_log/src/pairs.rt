@@ -1,4 +1,4 @@
-//! The bytes of a record that puts pairs of a map, in memory that is there.
+//! Encodes records that put the pairs of a map, in one buffer that has room for each.
 ghost use Rattle.std.specs.Prelude.{◌≡◌, ◌≤◌, ◌+◌, ◌*◌, ◌++◌, take, drop, vec_len, vec_capacity};
 ghost use Rattle.std.specs.List.{flat_map};
 ghost use Rattle.model.specs.Bounds.{value_max, payload_bound, body_bound};

@@ -1,4 +1,4 @@
-//! Reading records back.
+//! Recovery: reads the head, and then each record up to the first closed gate, and makes the map of their writes.
 ghost use Rattle.std.specs.Prelude.{All, ◌≡◌, ◌⊎◌, ◌<◌, ◌≤◌, ◌*◌, ◌^◌, OnOk, IfOk, IfErr, IsErrAnd, IfSome, IfNone};
 ghost use Rattle.model.specs.Map.{after_writes};
 ghost use Rattle.commit_log.specs.declared.formats.LogFormat.{LogFormat};
@@ -239,7 +239,7 @@ pub(crate) fn read_log<D: Sectors>(alloc: Global, device: &mut D) -> Result<Foun
     // During the call a crash leaves what one before it could have left.
     ensures during { D.keeps_model → LeavesAsBefore D.Sectors device.old device.new }
 
-    // The call tells of one image that the device might have held.
+    // The call reports on one image that the device might have held.
     ensures tells { D.keeps_model → ReadsLog D.Sectors device.old device.new result }
 {
     let (head, count) = settle_and_read_head(device)?;
@@ -265,7 +265,7 @@ pub fn read_map<D: Sectors>(alloc: Global, device: &mut D) -> Result<(Map, u8), 
     // During the call a crash leaves what one before it could have left.
     ensures during { D.keeps_model → LeavesAsBefore D.Sectors device.old device.new }
 
-    // The call tells of one image that the device might have held; at `Ok` the device holds it, and nothing else.
+    // The call reports on one image that the device might have held; at `Ok` the device holds it, and nothing else.
     ensures map { D.keeps_model → IfOk result (λ r. MightHold D.Sectors device.old (HoldsMapOf D.Sectors device.new r.0 r.1)) }
     ensures refused { D.keeps_model → IfErr result (λ e. IsDeviceOrMemory e ⊎ MightHold D.Sectors device.old (λ c. IsMapRefusal c e)) }
 {

@@ -1,4 +1,4 @@
-//! The order in which a record reaches the device.
+//! The order in which a record becomes durable: its body and the next closed gate, a sync, its open gate, a sync.
 ghost use Rattle.std.specs.Prelude.{◌≡◌, ◌<◌, ◌+◌, ◌/◌, length};
 ghost use Rattle.sector.specs.Failures.{IsCounted};
 ghost use Rattle.commit_log.specs.RecordFormat.{open_gate, closed_gate};
@@ -6,7 +6,6 @@ ghost use Rattle.commit_log.specs.LogState.{AtOk, FitsBehind, HoldsBoth, LeavesE
 ghost use Rattle.commit_log.specs.LogState.{OfStaged};
 ghost use Rattle.commit_log.specs.LogState.{OnlyWrites};
 
-use crate::blocks::write_sectors;
 use sector::{DeviceFault, SECTOR_SIZE, Sector, Sectors};
 
 pub fn closed_gate() -> Sector
@@ -37,7 +36,7 @@ fn stage<D: Sectors>(device: &mut D, gate: u64, body: &[u8]) -> Result<(), Devic
     ensures alone { D.keeps_model → OnlyWrites D.Sectors (gate + 1) (length body.now / 512 + 1) device.old device.new }
 {
     let next = gate + 1 + (body.len() / SECTOR_SIZE) as u64;
-    write_sectors(device, gate + 1, body)?;
+    device.write_sectors(gate + 1, body)?;
     device.write(next, &closed_gate())?;
     device.sync()?;
     Ok(())

@@ -1,4 +1,4 @@
-//! What a log tells of itself.
+//! What an opened log says of itself: its records, used sectors and room, and whether it has stopped.
 ghost use Rattle.std.specs.Prelude.{◌≡◌, ◌<◌, ◌+◌, ◌↔◌, true, IsTrue};
 
 use crate::encode::sectors_for;

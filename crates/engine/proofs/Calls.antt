@@ -60,16 +60,16 @@ pub running_if : (b c : Bool) → (IsTrue b ↔ (c ≡ true)) → b ≡ false �
 running_if b c h e = false_from_ne_true c (iff_false h e)
 
 module _ {D : Type 0} {g : Ghosts D} where
-  abbrev pub Held : (e : Engine D g) (m : State) → StandsFor e m → View → Running → Type 0
-  Held e m h t r = IsRunning e.history.committed.facts h.held m.base m.history t r
+  abbrev pub Active : (e : Engine D g) (m : State) → StandsFor e m → View → Running → Type 0
+  Active e m h t r = IsRunning e.history.committed.facts h.active m.base m.history t r
 
   -- the state with other open transactions
-  stands_with : (e e' : Engine D g) (m : State) (es : List (ℕ × View)) (rs : List (ℕ × Running)) (held : ℕ → Bool) → IsSameStore e e' → StandsFor e m
+  stands_with : (e e' : Engine D g) (m : State) (es : List (ℕ × View)) (rs : List (ℕ × Running)) (active : ℕ → Bool) → IsSameStore e e' → StandsFor e m
       → IsReached (record m { running = rs })
-      → HistoryStandsFor e.history held m.base m.history → e'.running.entries ≡ es → AreRunning e.history.committed.facts held m.base m.history es rs
+      → HistoryStandsFor e.history active m.base m.history → e'.running.entries ≡ es → AreRunning e.history.committed.facts active m.base m.history es rs
       → T (is_sorted nat_cmp rs)
       → length e'.running.entries ≤ 64 → StandsFor e' (record m { running = rs })
-  stands_with e e' m es rs held same h reached history entries running sorted few = grind (arith, common_steps)
+  stands_with e e' m es rs active same h reached history entries running sorted few = grind (arith, common_steps)
 
   -- the same open transactions
   pub stands_same : (e e' : Engine D g) (m : State) → IsSameStore e e' → e'.running.entries ≡ e.running.entries → StandsFor e m → StandsFor e' m
@@ -80,10 +80,10 @@ module _ {D : Type 0} {g : Ghosts D} where
       (stands_same e e' m same entries, stands_same e' e m (record { log = sym same.log; history = sym same.history }) (sym entries))
 
   pub not_open : (e : Engine D g) (m : State) (s : ℕ) → StandsFor e m → entry_of s e ≡ None → running_of m s ≡ None
-  not_open e m s h none = beside_none (Held e m h) s e.running.entries m.running h.running none
+  not_open e m s h none = beside_none (Active e m h) s e.running.entries m.running h.running none
 
-  pub found_open : (e : Engine D g) (m : State) (s : ℕ) (t : View) (h : StandsFor e m) → entry_of s e ≡ Some t → IsFound (Held e m h) s t m.running
-  found_open e m s t h some = beside_some (Held e m h) s t e.running.entries m.running h.running some
+  pub found_open : (e : Engine D g) (m : State) (s : ℕ) (t : View) (h : StandsFor e m) → entry_of s e ≡ Some t → IsFound (Active e m h) s t m.running
+  found_open e m s t h some = beside_some (Active e m h) s t e.running.entries m.running h.running some
 
   -- ---- calls outside a transaction
 
@@ -123,21 +123,21 @@ module _ {D : Type 0} {g : Ghosts D} where
       let run = first_run m in
       let facts = e.history.committed.facts in
       let is = begins e m s h none stopped few in
-      let held : ℕ → Bool = λ n. h.held n || nat_le e.history.versions.last n in
-      let history : HistoryStandsFor e.history held m.base m.history =
-      record { versions = holding e.history.versions h.held held m.base m.history (λ n t. t) h.history.versions; committed = h.history.committed } in
+      let active : ℕ → Bool = λ n. h.active n || nat_le e.history.versions.last n in
+      let history : HistoryStandsFor e.history active m.base m.history =
+      record { versions = holding e.history.versions h.active active m.base m.history (λ n t. t) h.history.versions; committed = h.history.committed } in
       let last_is = h.history.committed.last in
       let within = h.history.versions.within in
       let kept = h.kept in
       let made = fresh (map_at m.base m.history (last m)) (reached_map m (last m) h.reached) in
-      let new : IsRunning facts held m.base m.history (new_view facts.last) run = grind (arith, common_steps, nat_tests) in
-      let wider : (t : View) (r : Running) → IsRunning facts h.held m.base m.history t r → IsRunning facts held m.base m.history t r =
+      let new : IsRunning facts active m.base m.history (new_view facts.last) run = grind (arith, common_steps, nat_tests) in
+      let wider : (t : View) (r : Running) → IsRunning facts h.active m.base m.history t r → IsRunning facts active m.base m.history t r =
       λ t r k. grind (arith, common_steps, or_left) in
-      let others = beside_weaker (Held e m h) (λ t r. IsRunning facts held m.base m.history t r) wider e.running.entries m.running h.running in
-      let running = beside_insert (λ t r. IsRunning facts held m.base m.history t r) s (new_view facts.last) run e.running.entries m.running others new in
+      let others = beside_weaker (Active e m h) (λ t r. IsRunning facts active m.base m.history t r) wider e.running.entries m.running h.running in
+      let running = beside_insert (λ t r. IsRunning facts active m.base m.history t r) s (new_view facts.last) run e.running.entries m.running others new in
       let sorted = is_sorted-put nat_cmp nat_cmp_total s run m.running h.sorted in
       let reached = reached_by m s Begin false _ is h.reached in
-      (with_running m s run, stands_with e e' m _ (put nat_cmp s run m.running) held same h reached history entries running sorted few_after, is)
+      (with_running m s run, stands_with e e' m _ (put nat_cmp s run m.running) active same h reached history entries running sorted few_after, is)
 
   -- memory was refused where there is room
   pub begin_memory : (e e' : Engine D g) (s : ℕ) → IsSameStore e e' → e'.running.entries ≡ e.running.entries → entry_of s e ≡ None → is_stopped e.log ≡ false
@@ -154,10 +154,10 @@ module _ {D : Type 0} {g : Ghosts D} where
   Answered e t t' q None = (t' ≡ t) × WhereSeen e.history.versions t (λ m qs. IsFalse (is_refused (answer m qs q)))
 
   -- the transaction sees the map at its begin
-  pub map_is : (e : Engine D g) (m : State) (t : View) (r : Running) (h : StandsFor e m) → Held e m h t r → map_seen e.history.versions t.begin ≡ snapshot m r
+  pub map_is : (e : Engine D g) (m : State) (t : View) (r : Running) (h : StandsFor e m) → Active e m h t r → map_seen e.history.versions t.begin ≡ snapshot m r
   map_is e m t r h same =
       ap (map_seen e.history.versions) same.begin
-      ∙ h.history.versions.maps r.begin (or_left (h.held r.begin) (nat_le e.history.versions.last r.begin) same.is_held)
+      ∙ h.history.versions.maps r.begin (or_left (h.active r.begin) (nat_le e.history.versions.last r.begin) same.is_active)
 
   own_answered : (e e' : Engine D g) (s : ℕ) (q : Operation) (failed : Bool) (t t' : View) (response : Response)
       → ((m : State) (r : Running) → step_inside m s r q failed ≡ own_step m s r q)
@@ -169,11 +169,11 @@ module _ {D : Type 0} {g : Ghosts D} where
       let is : step m s q failed ≡ own_step m s f.run q = step_is m s q failed _ f.is ∙ own m f.run in
       let run : Running = record { begin = f.run.begin; requests = f.run.requests ++ q ∷ []; replies = f.run.replies ++ (own_step m s f.run q).1 ∷ [] } in
       let made = answered (snapshot m f.run) f.run.requests (map_is e m t f.run h f.same) f.same.made in
-      let here : Held e m h t' run = grind (arith, common_steps) in
-      let running = beside_set (Held e m h) s t t' run e.running.entries m.running h.sorted h.running some here in
+      let here : Active e m h t' run = grind (arith, common_steps) in
+      let running = beside_set (Active e m h) s t t' run e.running.entries m.running h.sorted h.running some here in
       let sorted = is_sorted-put nat_cmp nat_cmp_total s run m.running h.sorted in
       let reached = reached_by m s q failed _ is h.reached in
-      let stands = stands_with e e' m _ (put nat_cmp s run m.running) h.held same h reached h.history entries running sorted
+      let stands = stands_with e e' m _ (put nat_cmp s run m.running) h.active same h reached h.history entries running sorted
       (subst (λ n. n ≤ 64) (sym long) h.few_open) in
       (with_running m s run, stands, is ∙ ap (λ x. (with_running m s run, x)) made.0)
 
@@ -218,10 +218,11 @@ module _ {D : Type 0} {g : Ghosts D} where
 
   pub leave_call : (e e' : Engine D g) (s : ℕ) → Leaves e e' s → (m : State) → StandsFor e m → StandsFor e' (leave m s)
   leave_call e e' s leaves m h =
-      let running = beside_remove (Held e m h) s e.running.entries m.running h.sorted h.running in
+      let running = beside_remove (Active e m h) s e.running.entries m.running h.sorted h.running in
       let sorted = is_sorted-where_key nat_cmp (λ x. not (x == s)) m.running h.sorted in
       let few = h.few_open in let fewer = leaves.fewer in
-      stands_with e e' m _ (where_key nat_cmp (λ x. not (x == s)) m.running) h.held leaves.store h (reached_next m (Quits s) h.reached) h.history leaves.entries
+      stands_with e e' m _ (where_key nat_cmp (λ x. not (x == s)) m.running) h.active leaves.store h (reached_next m (Quits s) h.reached) h.history
+      leaves.entries
       running sorted (omega (arith, few, fewer))
 
   pub abort_call : (e e' : Engine D g) (s : ℕ) (t : View) → entry_of s e ≡ Some t → Leaves e e' s → Leads e e' s Abort false (Some Done)

@@ -33,7 +33,7 @@ use Rattle.pivot_check.specs.Kept.{Facts, CommittedValue, IsInReach}
 use Rattle.pivot_check.specs.StandsFor.{IsRecordOf, IsVerdict, IsClear, IsCleared, StandForSame}
 use Rattle.pivot_check.specs.StandsFor.{StandsFor as CommittedStandsFor}
 use Rattle.pivot_check.specs.declared.verdict.Cleared.{Cleared}
-use Rattle.engine.proofs.Calls.{Held, found_open, leave_call}
+use Rattle.engine.proofs.Calls.{Active, found_open, leave_call}
 use Rattle.engine.proofs.Sessions.{IsFound, beside_weaker}
 use Rattle.engine.proofs.Steps.{step_is, reached_by, store_full, store_fault, store_joined, map_at_next}
 use Rattle.engine.specs.Changes.{entry_of, Leaves, IsWritten, HasLogRoom, IsLogged, IsLogStopped, sectors_taken}
@@ -89,23 +89,23 @@ pub weaker_crash : {D : Type 0} (moment : D → ℕ) (left_since : D → ℕ →
 weaker_crash moment left_since old new P Q f h = grind (arith, common_steps, ⊎_elim)
 
 -- a transaction that runs beside what is kept runs beside what stands for the same histories
-runs_beside : (old new : Facts) (held : ℕ → Bool) (base : KeyMap) (history : List Record) → StandForSame old new → (t : View) (r : Running)
-    → IsRunning old held base history t r → IsRunning new held base history t r
-runs_beside old new held base history same t r is =
-    record { begin = is.begin; made = is.made; in_reach = in_reach_still old new t same is.in_reach; is_held = is.is_held }
+runs_beside : (old new : Facts) (active : ℕ → Bool) (base : KeyMap) (history : List Record) → StandForSame old new → (t : View) (r : Running)
+    → IsRunning old active base history t r → IsRunning new active base history t r
+runs_beside old new active base history same t r is =
+    record { begin = is.begin; made = is.made; in_reach = in_reach_still old new t same is.in_reach; is_active = is.is_active }
 
 module _ {D : Type 0} {g : Ghosts D} where
   -- only memory was made ready
   same_with : (e e' : Engine D g) (m : State) → e'.log ≡ e.log → e'.running.entries ≡ e.running.entries
       → StandForSame e.history.committed.facts e'.history.committed.facts
-      → ((held : ℕ → Bool) (base : KeyMap) (history : List Record) → VersionsStandFor e.history.versions held base history
-      → VersionsStandFor e'.history.versions held base history) → StandsFor e m → StandsFor e' m
+      → ((active : ℕ → Bool) (base : KeyMap) (history : List Record) → VersionsStandFor e.history.versions active base history
+      → VersionsStandFor e'.history.versions active base history) → StandsFor e m → StandsFor e' m
   same_with e e' m log entries same stands h =
       let stopped : is_stopped e'.log ≡ is_stopped e.log = ap (λ (l : Log D g). is_stopped l) log in
       let used : used_sectors e'.log ≡ used_sectors e.log = ap (λ (l : Log D g). used_sectors l) log in
       let count : sector_count e'.log ≡ sector_count e.log = ap (λ (l : Log D g). sector_count l) log in
-      let running = beside_weaker (Held e m h) (λ t r. IsRunning e'.history.committed.facts h.held m.base m.history t r)
-      (runs_beside e.history.committed.facts e'.history.committed.facts h.held m.base m.history same) e.running.entries m.running h.running in
+      let running = beside_weaker (Active e m h) (λ t r. IsRunning e'.history.committed.facts h.active m.base m.history t r)
+      (runs_beside e.history.committed.facts e'.history.committed.facts h.active m.base m.history same) e.running.entries m.running h.running in
       let oldest = same.oldest in
       let kept = h.kept in
       record {
@@ -115,11 +115,11 @@ module _ {D : Type 0} {g : Ghosts D} where
         count = h.count ∙ sym count;
         stored = λ keeps run. subst (λ (l : Log D g). IsStored l (committed_map m)) (sym log) (h.stored keeps (sym stopped ∙ run));
         doubt = λ keeps stop. subst (λ (l : Log D g). IsInDoubt (committed_map m) (g.may_leave (device_of l))) (sym log) (h.doubt keeps (sym stopped ∙ stop));
-        held = h.held;
-        history = record { versions = stands h.held m.base m.history h.history.versions; committed = (same.stands m.history).0 h.history.committed };
+        active = h.active;
+        history = record { versions = stands h.active m.base m.history h.history.versions; committed = (same.stands m.history).0 h.history.committed };
         kept = omega (arith, kept, oldest);
         few = h.few;
-        running = subst (λ (es : List (ℕ × View)). AreRunning e'.history.committed.facts h.held m.base m.history es m.running) (sym entries) running;
+        running = subst (λ (es : List (ℕ × View)). AreRunning e'.history.committed.facts h.active m.base m.history es m.running) (sym entries) running;
         sorted = h.sorted;
         few_open = subst (λ (es : List (ℕ × View)). length es ≤ 64) (sym entries) h.few_open;
       }
@@ -141,7 +141,7 @@ module _ {D : Type 0} {g : Ghosts D} where
       (subst (λ (k : Bytes). IsRefused e s (Overwritten k)) (sym is) (refused d)) leaves refl
 
   refused_if : (e : Engine D g) (s : ℕ) (t : View) (refusal : Refusal) → entry_of s e ≡ Some t
-      → ((m : State) (r : Running) (failed : Bool) (h : StandsFor e m) → Held e m h t r → commit m s r failed ≡ refuse m s refusal) → IsRefused e s refusal
+      → ((m : State) (r : Running) (failed : Bool) (h : StandsFor e m) → Active e m h t r → commit m s r failed ≡ refuse m s refusal) → IsRefused e s refusal
   refused_if e s t refusal entry says m failed h = let at = found_open e m s t h entry in step_is m s Commit failed _ at.is ∙ says m at.run failed h at.same
 
   pub stopped_refuses : (e : Engine D g) (s : ℕ) (t : View) → entry_of s e ≡ Some t → is_stopped e.log ≡ true → IsRefused e s StoreStopped
@@ -153,12 +153,13 @@ module _ {D : Type 0} {g : Ghosts D} where
       let few = h.few in let l = h.history.committed.last in rw (h.stopped ∙ running, eq-eqb (last m) (2 ^ 63 - 1) (omega arith)) refl)
 
   -- the machine's record of the transaction
-  own_record : (e : Engine D g) (m : State) (t : View) (r : Running) (h : StandsFor e m) → HasItsWrites t → Held e m h t r
+  own_record : (e : Engine D g) (m : State) (t : View) (r : Running) (h : StandsFor e m) → HasItsWrites t → Active e m h t r
       → IsRecordOf t (e.history.committed.facts.last + 1) (record_to_commit m r)
   own_record e m t r h made same = grind (arith, common_steps)
 
   -- the machine's commit by its verdict
-  judged : (e : Engine D g) (m : State) (s : ℕ) (t : View) (r : Running) (failed : Bool) (h : StandsFor e m) → Held e m h t r → IsToJudge e s t → HasItsWrites t
+  judged : (e : Engine D g) (m : State) (s : ℕ) (t : View) (r : Running) (failed : Bool) (h : StandsFor e m) → Active e m h t r → IsToJudge e s t
+      → HasItsWrites t
       → (o : Option Refusal) → HasVerdict e.history.committed.facts t o
       → commit m s r failed ≡ store_unless o m s (record_to_commit m r) failed
   judged e m s t r failed h same j made o says =
@@ -170,7 +171,7 @@ module _ {D : Type 0} {g : Ghosts D} where
       ) refl
 
   -- that of what has no conflict
-  cleared : (e : Engine D g) (m : State) (s : ℕ) (t : View) (r : Running) (failed : Bool) (h : StandsFor e m) → Held e m h t r → IsToJudge e s t
+  cleared : (e : Engine D g) (m : State) (s : ℕ) (t : View) (r : Running) (failed : Bool) (h : StandsFor e m) → Active e m h t r → IsToJudge e s t
       → HasItsWrites t
       → (IsInReach e.history.committed.facts t → IsClear e.history.committed.facts t) → commit m s r failed ≡ store m s (record_to_commit m r) t.writes failed
   cleared e m s t r failed h same j made clear =
@@ -189,7 +190,7 @@ module _ {D : Type 0} {g : Ghosts D} where
     pub conflict_refuses : (refusal : Refusal) → HasVerdict committed.facts t (Some refusal) → IsRefused e s refusal
     conflict_refuses refusal says =
         refused_if e s t refusal j.entry
-        (λ m r failed h held. judged e m s t r failed h held j its_writes (Some refusal)
+        (λ m r failed h active. judged e m s t r failed h active j its_writes (Some refusal)
         (subst (λ (x : CommittedValue). HasVerdict x.facts t (Some refusal)) same says))
 
     pub overwritten_refuses : (i : ℕ) (d : KeyWrite) → (IsInReach committed.facts t → IsVerdict committed.facts t (verdicts.Overwritten i))
@@ -203,9 +204,9 @@ module _ {D : Type 0} {g : Ghosts D} where
 
     pub full_refuses : (IsInReach committed.facts t → IsClear committed.facts t) → IsWritten t.writes
         → sector_count e.log ≤ used_sectors e.log + body_sectors t.writes → IsRefused e s FullLog
-    full_refuses clear some full = refused_if e s t FullLog j.entry (λ m r failed h held.
+    full_refuses clear some full = refused_if e s t FullLog j.entry (λ m r failed h active.
         let used = h.used in let count = h.count in
-        cleared e m s t r failed h held j its_writes (is_clear clear)
+        cleared e m s t r failed h active j its_writes (is_clear clear)
         ∙ store_full m s (record_to_commit m r) t.writes failed some (omega (arith, used, count, full)))
 
     pub to_commit : (IsInReach committed.facts t → IsClear committed.facts t) → HasLogRoom (used_sectors e.log) (sector_count e.log) t.writes → IsToCommit e s t
@@ -219,7 +220,7 @@ module _ {D : Type 0} {g : Ghosts D} where
   left_by e e' log history s same leaves m h =
       leave_call (record e { history = history }) (record e' { log = e.log }) s
       (record { store = record { log = refl; history = leaves.store.history }; entries = leaves.entries; fewer = leaves.fewer }) m
-      (same_with e (record e { history = history }) m refl refl same.committed (λ held base history. (same.stands held base history).0) h)
+      (same_with e (record e { history = history }) m refl refl same.committed (λ active base history. (same.stands active base history).0) h)
 
   -- ---- a commit in which the device failed
 
@@ -243,7 +244,7 @@ module _ {D : Type 0} {g : Ghosts D} where
 
   -- the machine's step, whether or not the device failed where nothing was written
   step_joined : (e : Engine D g) (s : ℕ) (t : View) (failed : Bool) → IsToCommit e s t → (IsWritten t.writes → failed ≡ false)
-      → (m : State) (h : StandsFor e m) (at : IsFound (Held e m h) s t m.running)
+      → (m : State) (h : StandsFor e m) (at : IsFound (Active e m h) s t m.running)
       → step m s Commit failed ≡ join_history m s (record_to_commit m at.run) (sectors_taken t.writes)
   step_joined e s t failed j quiet m h at =
       let used = h.used in let count = h.count in
@@ -254,15 +255,15 @@ module _ {D : Type 0} {g : Ghosts D} where
   pub commit_memory : (e e' : Engine D g) (s : ℕ) (t : View) → IsToCommit e s t
       → e'.log ≡ e.log → e'.running.entries ≡ e.running.entries → IsSameHistory e.history e'.history → StandsForSame e e' × IsNotRefused e s Commit
   commit_memory e e' s t j log entries same =
-      let there = λ (m : State). same_with e e' m log entries same.committed (λ held base history. (same.stands held base history).0) in
+      let there = λ (m : State). same_with e e' m log entries same.committed (λ active base history. (same.stands active base history).0) in
       let back = λ (m : State). same_with e' e m (sym log) (sym entries) (stand_back _ _ same.committed)
-      (λ held base history. (same.stands held base history).1) in (
+      (λ active base history. (same.stands active base history).1) in (
         λ m. (there m, back m),
         λ m h. ap (λ (p : State × Response). is_refused p.1) (step_joined e s t false j (λ _. refl) m h (found_open e m s t h j.asked.entry)),
       )
 
   -- the committed map with the transaction's writes
-  map_joined : (e : Engine D g) (s : ℕ) (t : View) (j : IsToCommit e s t) (m : State) (h : StandsFor e m) (at : IsFound (Held e m h) s t m.running)
+  map_joined : (e : Engine D g) (s : ℕ) (t : View) (j : IsToCommit e s t) (m : State) (h : StandsFor e m) (at : IsFound (Active e m h) s t m.running)
       → committed_map (join_history m s (record_to_commit m at.run) (sectors_taken t.writes)).0 ≡ after_writes (committed_map m) t.writes
   map_joined e s t j m h at =
       map_at_next m.base m.history (record_to_commit m at.run) h.history.committed.numbered refl
@@ -292,15 +293,15 @@ module _ {D : Type 0} {g : Ghosts D} where
       let l = left.history.committed.last in let used = h.used in let taken' = logged.used in let log' = leaves.store.log in
       let long : length (m.history ++ r ∷ []) ≡ length m.history + 1 = length-append m.history (r ∷ []) in
       let counted : suc (length m.history) ≡ n = omega arith in
-      let later : (v : View) (x : Running) → IsRunning e'.history.committed.facts left.held m.base m.history v x
-      → IsRunning new.committed.facts left.held m.base (m.history ++ r ∷ []) v x =
+      let later : (v : View) (x : Running) → IsRunning e'.history.committed.facts left.active m.base m.history v x
+      → IsRunning new.committed.facts left.active m.base (m.history ++ r ∷ []) v x =
       λ v x k. grind (arith, common_steps, map_at-append m.base m.history r x.begin) in
-      let running' = beside_weaker (Held (record e' { log = e.log }) (leave m s) left)
-      (λ v x. IsRunning new.committed.facts left.held m.base (m.history ++ r ∷ []) v x) later e'.running.entries (leave m s).running left.running in
+      let running' = beside_weaker (Active (record e' { log = e.log }) (leave m s) left)
+      (λ v x. IsRunning new.committed.facts left.active m.base (m.history ++ r ∷ []) v x) later e'.running.entries (leave m s).running left.running in
       let reached' = reached_by m s Commit failed join is h.reached in
       let stored' = λ (keeps : g.keeps_model). subst (IsStored log) (sym (map_joined e s t j m h at))
       (stored keeps (committed_map m) (h.stored keeps j.asked.running)) in
-      let history' = joins left.held m.base m.history r left.history own.0 own.1 in
+      let history' = joins left.active m.base m.history r left.history own.0 own.1 in
       let numbers = j.asked.numbers in let runs = j.asked.running in
       (join.0, grind (arith, common_steps, both_ways), is ∙ ap (λ k. (join.0, Number k)) counted)
 

@@ -17,7 +17,7 @@ use Rattle.sector.specs.declared.device.Sectors.{Ghosts}
 use Rattle.versions.specs.Meaning.{is_among}
 use Rattle.snapshot.specs.View.{View}
 use Rattle.pivot_check.specs.Kept.{CommittedValue, Facts, HasForgotten}
-use Rattle.engine.specs.HistoryValue.{HistoryValue, KeepsHeld}
+use Rattle.engine.specs.HistoryValue.{HistoryValue, KeepsActive}
 use Rattle.engine.specs.Least.{IsLeast}
 use Rattle.engine.specs.Meaning.{open_begins, HasForgottenOld}
 use Rattle.engine.specs.StandsFor.{StandsFor, AreRunning}
@@ -26,11 +26,11 @@ use Rattle.engine.specs.declared.engine.Engine.{Engine}
 abbrev pub begins_of : List (ℕ × View) → List ℕ
 begins_of es = map (λ t. t.begin) (values_of es)
 
-module _ (facts : Facts) (held : ℕ → Bool) (base : KeyMap) (history : List Record) where
+module _ (facts : Facts) (active : ℕ → Bool) (base : KeyMap) (history : List Record) where
   still_running : (facts' : Facts) (bs : List ℕ) (oldest : ℕ) → facts'.last ≡ facts.last → facts'.oldest ≡ max facts.oldest oldest
       → (es : List (ℕ × View)) (rs : List (ℕ × Running)) → AllByRecursion (λ t. oldest ≤ t.begin) (values_of es)
-      → ((n : ℕ) → is_among (begins_of es) n ≡ true → is_among bs n ≡ true) → AreRunning facts held base history es rs
-      → AreRunning facts' (λ n. held n && is_among bs n) base history es rs
+      → ((n : ℕ) → is_among (begins_of es) n ≡ true → is_among bs n ≡ true) → AreRunning facts active base history es rs
+      → AreRunning facts' (λ n. active n && is_among bs n) base history es rs
   still_running facts' bs oldest l o [] [] low among h = tt
   still_running facts' bs oldest l o (e ∷ es) (r ∷ rs) low among h =
       let own = among e.1.begin (or_left (e.1.begin == e.1.begin) (is_among (begins_of es) e.1.begin) (eq-eqb e.1.begin e.1.begin refl)) in
@@ -38,18 +38,18 @@ module _ (facts : Facts) (held : ℕ → Bool) (base : KeyMap) (history : List R
       grind (arith, common_steps, and_from)
   still_running facts' bs oldest l o b5 b6 low among h = absurd h
 
-  begins_same : (es : List (ℕ × View)) (rs : List (ℕ × Running)) → AreRunning facts held base history es rs → begins_of es ≡ map (λ r. r.1.begin) rs
+  begins_same : (es : List (ℕ × View)) (rs : List (ℕ × Running)) → AreRunning facts active base history es rs → begins_of es ≡ map (λ r. r.1.begin) rs
   begins_same [] [] h = refl
   begins_same (e ∷ es) (r ∷ rs) h = λ i. h.0.1.begin i ∷ begins_same es rs h.1 i
   begins_same b0 b1 h = absurd h
 
-  begins_held : (es : List (ℕ × View)) (rs : List (ℕ × Running)) → AreRunning facts held base history es rs → (n : ℕ) → is_among (begins_of es) n ≡ true
-      → held n ≡ true
-  begins_held [] rs h n t = cc
-  begins_held (e ∷ es) [] h n t = absurd h
-  begins_held (e ∷ es) (r ∷ rs) h n t = grind (arith, common_steps, nat_tests, begins_held es rs h.1 n)
+  begins_active : (es : List (ℕ × View)) (rs : List (ℕ × Running)) → AreRunning facts active base history es rs → (n : ℕ) → is_among (begins_of es) n ≡ true
+      → active n ≡ true
+  begins_active [] rs h n t = cc
+  begins_active (e ∷ es) [] h n t = absurd h
+  begins_active (e ∷ es) (r ∷ rs) h n t = grind (arith, common_steps, nat_tests, begins_active es rs h.1 n)
 
-  begins_low : (n : ℕ) (es : List (ℕ × View)) (rs : List (ℕ × Running)) → AreRunning facts held base history es rs → AllByRecursion (λ r. n ≤ r.1.begin) rs
+  begins_low : (n : ℕ) (es : List (ℕ × View)) (rs : List (ℕ × Running)) → AreRunning facts active base history es rs → AllByRecursion (λ r. n ≤ r.1.begin) rs
       → AllByRecursion (λ t. n ≤ t.begin) (values_of es)
   begins_low n [] [] h low = tt
   begins_low n (e ∷ es) (r ∷ rs) h low = (subst (λ k. n ≤ k) (sym h.0.1.begin) low.0, begins_low n es rs h.1 low.1)
@@ -58,21 +58,21 @@ module _ (facts : Facts) (held : ℕ → Bool) (base : KeyMap) (history : List R
 module _ {D : Type 0} {g : Ghosts D} (e : Engine D g) (new : HistoryValue) (oldest : ℕ) (bs : List ℕ)
     (least : IsLeast (λ t. t.begin) e.history.committed.facts.last (values e.running) oldest)
     (numbers : length e.running.entries ≤ 64 → bs ≡ begins_of e.running.entries) where
-  pub reclaimed_stands : KeepsHeld e.history new bs → new.committed.facts.last ≡ e.history.committed.facts.last
+  pub reclaimed_stands : KeepsActive e.history new bs → new.committed.facts.last ≡ e.history.committed.facts.last
       → new.committed.facts.oldest ≡ max e.history.committed.facts.oldest oldest → (m : State) → StandsFor e m → StandsFor (record e { history = new }) m
   reclaimed_stands stands l o m h =
       let is = h.history.committed.last in let kept = h.kept in let below = least.below_last in
-      let after = stands h.held m.base m.history h.history in
-      let running = still_running e.history.committed.facts h.held m.base m.history new.committed.facts bs oldest l o e.running.entries m.running
+      let after = stands h.active m.base m.history h.history in
+      let running = still_running e.history.committed.facts h.active m.base m.history new.committed.facts bs oldest l o e.running.entries m.running
       (recursion_from_All (λ t. oldest ≤ t.begin) (values e.running) least.below) (λ n t. subst (λ ns. is_among ns n ≡ true) (sym (numbers h.few_open)) t)
       h.running in
       grind (arith, common_steps)
 
   pub numbers_are : (m : State) → StandsFor e m → bs ≡ open_begins m
-  numbers_are m h = numbers h.few_open ∙ begins_same e.history.committed.facts h.held m.base m.history e.running.entries m.running h.running
+  numbers_are m h = numbers h.few_open ∙ begins_same e.history.committed.facts h.active m.base m.history e.running.entries m.running h.running
 
-  pub are_held : (m : State) → (h : StandsFor e m) → (n : ℕ) → is_among bs n ≡ true → h.held n ≡ true
-  are_held m h n t = begins_held e.history.committed.facts h.held m.base m.history e.running.entries m.running h.running n
+  pub are_active : (m : State) → (h : StandsFor e m) → (n : ℕ) → is_among bs n ≡ true → h.active n ≡ true
+  are_active m h n t = begins_active e.history.committed.facts h.active m.base m.history e.running.entries m.running h.running n
       (subst (λ ns. is_among ns n ≡ true) (numbers h.few_open) t)
 
   pub none_below : (m : State) → StandsFor e m → (facts : Facts) → HasForgotten oldest facts → HasForgottenOld m facts
@@ -81,7 +81,7 @@ module _ {D : Type 0} {g : Ghosts D} (e : Engine D g) (new : HistoryValue) (olde
       let below : n ≤ oldest =
       least.greatest n (omega (arith, is))
       (All-from_recursion (λ t. n
-      ≤ t.begin) (values e.running) (begins_low e.history.committed.facts h.held m.base m.history n e.running.entries m.running h.running each)) in
+      ≤ t.begin) (values e.running) (begins_low e.history.committed.facts h.active m.base m.history n e.running.entries m.running h.running each)) in
       let upto = forgotten.upto in
       record { upto = omega arith; readers = λ k some. (let above = forgotten.readers k some in omega arith) }
 

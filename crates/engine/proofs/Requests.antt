@@ -23,7 +23,7 @@ use Rattle.snapshot.specs.Merged.{after_range}
 use Rattle.snapshot.specs.View.{View, after_get, is_known_get}
 use Rattle.snapshot.specs.declared.faults.SnapshotFault.{SnapshotFault}
 use Rattle.snapshot.specs.declared.faults.SnapshotFault.TheVariants.{FullWrites, FullMarks, Memory}
-use Rattle.engine.proofs.Calls.{Answered, Held, found_open, not_open, made_same, map_is}
+use Rattle.engine.proofs.Calls.{Answered, Active, found_open, not_open, made_same, map_is}
 use Rattle.engine.proofs.Steps.{refused_same}
 use Rattle.engine.specs.Changes.{entry_of}
 use Rattle.engine.specs.Faults.{of_read, of_write}
@@ -105,19 +105,19 @@ module _ {D : Type 0} {g : Ghosts D} (e : Engine D g) (s : ℕ) (m : State) (h :
 -- ---- reads that need no memory
 
 module _ {D : Type 0} {g : Ghosts D} (e : Engine D g) (s : ℕ) (t : View) (some : entry_of s e ≡ Some t) where
-  held_is : (m : State) (h : StandsFor e m) (r : Running) → running_of m s ≡ Some r → Held e m h t r
-  held_is m h r is = let f = found_open e m s t h some in subst (Held e m h t) (some_same (sym f.is ∙ is)) f.same
+  active_is : (m : State) (h : StandsFor e m) (r : Running) → running_of m s ≡ Some r → Active e m h t r
+  active_is m h r is = let f = found_open e m s t h some in subst (Active e m h t) (some_same (sym f.is ∙ is)) f.same
 
   pub known_key : (k : Bytes) → WhereOpen e s (λ m r. IsKnownKey m r k → IsTrue (is_known_get t k))
-  known_key k m h r is known = let held = held_is m h r is in grind (arith, common_steps, any_keys)
+  known_key k m h r is known = let active = active_is m h r is in grind (arith, common_steps, any_keys)
 
   -- what the transaction says of a range that it knows
   pub known_range : {P : Type 0} (vs : ChainsValue) (range : RangeRef) (limit : ℕ) → vs ≡ e.history.versions
       → WhereSeen vs t (λ n qs. IsKnownRange (copy_after (copy_of n) qs) range limit → P)
       → WhereOpen e s (λ m r. IsKnownRange (copy_in m r) range limit → P)
   known_range vs range limit same says m h r is known =
-      let held = held_is m h r is in
-      says (snapshot m r) r.requests (ap (λ (x : ChainsValue). map_seen x t.begin) same ∙ map_is e m t r h held) held.made known
+      let active = active_is m h r is in
+      says (snapshot m r) r.requests (ap (λ (x : ChainsValue). map_seen x t.begin) same ∙ map_is e m t r h active) active.made known
 
 -- a session without a transaction knows nothing
 pub known_nowhere : {D : Type 0} {g : Ghosts D} (e : Engine D g) (s : ℕ) {P : Type 0} → entry_of s e ≡ None → WhereOpen e s (λ _ _. P)

@@ -16,16 +16,17 @@ use Rattle.engine.specs.Recovery.{IsStored, IsInDoubt, committed_map}
 use Rattle.engine.specs.declared.engine.Engine.{Engine}
 
 -- an open transaction of the engine is one of the machine: it sees the map at its begin, and has made the same requests
-pub record IsRunning (facts : Facts) (held : ℕ
+pub record IsRunning (facts : Facts) (active : ℕ
     → Bool) (base : KeyMap) (history : List Record) (t : View) (r : Running) : Type 0 where
   pub begin : t.begin ≡ r.begin
   pub made : HasMade t (map_at base history r.begin) r.requests
   pub in_reach : IsInReach facts t
-  pub is_held : IsTrue (held r.begin)
+  pub is_active : IsTrue (active r.begin)
 
 -- the open transactions by session, one by one
 abbrev pub AreRunning : Facts → (ℕ → Bool) → KeyMap → List Record → List (ℕ × View) → List (ℕ × Running) → Type 0
-AreRunning facts held base history es rs = AllZip (λ e r. (e.0 ≡ r.0) × IsRunning facts held base history e.1 r.1) es rs
+AreRunning facts active base history es rs =
+    AllZip (λ e r. (e.0 ≡ r.0) × IsRunning facts active base history e.1 r.1) es rs
 
 pub record StandsFor {D : Type 0} {g : Ghosts D} (e : Engine D g) (m : State) : Type 0 where
   pub reached : IsReached m
@@ -36,11 +37,11 @@ pub record StandsFor {D : Type 0} {g : Ghosts D} (e : Engine D g) (m : State) : 
   pub stored : g.keeps_model → is_stopped e.log ≡ false → IsStored e.log (committed_map m)
   -- where it has failed, the writes of the COMMIT in which it did may be there too
   pub doubt : g.keeps_model → is_stopped e.log ≡ true → IsInDoubt (committed_map m) (g.may_leave (device_of e.log))
-  -- the numbers at which open transactions began are among those that are held
-  pub held : ℕ → Bool
-  pub history : HistoryStandsFor e.history held m.base m.history
+  -- the numbers with which open transactions began are among the active ones
+  pub active : ℕ → Bool
+  pub history : HistoryStandsFor e.history active m.base m.history
   pub kept : e.history.committed.facts.oldest ≤ length m.history
   pub few : length m.history ≤ 2 ^ 63 - 1
-  pub running : AreRunning e.history.committed.facts held m.base m.history e.running.entries m.running
+  pub running : AreRunning e.history.committed.facts active m.base m.history e.running.entries m.running
   pub sorted : T (is_sorted nat_cmp m.running)
   pub few_open : length e.running.entries ≤ 64

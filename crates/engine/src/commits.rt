@@ -1,4 +1,4 @@
-//! Commits.
+//! COMMIT: the verdict, the memory, the record in the log, and then the new versions, which can't fail any more.
 use crate::engine::Engine;
 use crate::faults::EngineFault;
 use crate::judging::{Judgement, judge};

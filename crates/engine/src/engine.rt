@@ -1,16 +1,16 @@
-//! The engine.
+//! The engine: all its calls but opening, GET, RANGE and COMMIT, which have files of their own.
 ghost use Rattle.model.specs.Bounds.{value_max};
 
 use crate::faults::EngineFault;
 use crate::history::History;
 use crate::reclaiming::{Gathered, gather_begins};
 use commit_log::Log;
-use model::{KeyRef, Refusal, machine_is_serializable};
+use model::{KeyRef, Refusal, law_machine_is_serializable};
 use sector::Sectors;
 use snapshot::Transaction;
 use std::alloc::Global;
 use std::collections::BTreeMap;
-use versions::numbers_change;
+use versions::law_numbers_change;
 
 /// The most open transactions.
 pub(crate) const OPEN_MAX: usize = 64;
@@ -41,7 +41,7 @@ impl<D: Sectors> Engine<D> {
     ghost use Rattle.versions.specs.Meaning.{kept_of, IsReclaimed, IsReclaimedInPart};
     ghost use Rattle.std.specs.List.{AllByRecursion};
     ghost use Rattle.pivot_check.specs.Kept.{IsGivenBack, KeepsNoneUpto, kept_count};
-    ghost use Rattle.engine.specs.HistoryValue.{is_due};
+    ghost use Rattle.engine.specs.HistoryValue.{is_garbage};
     ghost use Rattle.engine.specs.Recovery.{LeavesCommitted};
     ghost use Rattle.engine.specs.Meaning.{StandsFor, Leads, IsReadOnly, KeepsStates, response_to, device_of, log_of};
     ghost use Rattle.engine.specs.Meaning.{is_stopped};
@@ -65,7 +65,7 @@ impl<D: Sectors> Engine<D> {
         if self.running.len() >= OPEN_MAX {
             return Err(EngineFault::Refused(Refusal::FullTransactions));
         }
-        numbers_change();
+        law_numbers_change();
         let last = self.history.committed().last();
         self.running.insert(s, Transaction::new(self.alloc, last))?;
         Ok(())
@@ -122,7 +122,7 @@ impl<D: Sectors> Engine<D> {
 
     /// Does nothing: what the engine stands for once the session was answered a request that needs no call, which is PING or a request
     /// with a fault in its form. Inside a transaction each of them is an own request.
-    pub fn passes(&self, s: u64)
+    pub fn law_passes(&self, s: u64)
         ensures ping { Leads self.now self.now s Ping false (Some Pong) }
         ensures faulty { (refusal : Reason) → Leads self.now self.now s (Faulty refusal) false (Some (Refused refusal)) }
     {}
@@ -130,30 +130,30 @@ impl<D: Sectors> Engine<D> {
     /// Does nothing: what holds of each state that the engine stands for. The machine reaches it; its open transactions see their own
     /// copies alone; and what has committed has a serial order, which gives the same replies and the same final map. The order by places is
     /// one, in which each dependency rises, since there is no dangerous pivot and no two concurrent transactions wrote one key.
-    pub fn is_lawful(&self)
+    pub fn law_is_lawful(&self)
         ensures lawful { (m : State) → StandsFor self.now m → IsReached m × IsIsolated m × IsSerializable m }
         ensures ordered { (m : State) → StandsFor self.now m → IsOrderedByPlace m }
     {
-        machine_is_serializable();
+        law_machine_is_serializable();
     }
 
     /// Does nothing: a crash leaves the map of all that has committed; of a store that is stopped, that or the one with the writes of one
     /// COMMIT more, which the clause `crash` of `commit` names.
-    pub fn is_stored(&self)
+    pub fn law_is_stored(&self)
         ensures { D.keeps_model → (m : State) → StandsFor self.now m → LeavesCommitted m (D.may_leave (device_of self.now)) }
     {}
 
-    /// A step of what `reclaim` does, which is short however much is due. Answers whether it has to be called again until all is done:
-    /// where it needn't be, what holds after `reclaim` holds.
+    /// A step of what `reclaim` does, which is short however much garbage there is. Answers whether it has to be called again until all is
+    /// done: where it needn't be, what holds after `reclaim` holds.
     ///
-    /// What each commit replaced is a list. One is due once no open transaction began with the number under which it stands, and a call
-    /// looks at 2 of those that are due, and at no other. What was kept to check later commits stands in runs, of which a call gives back
-    /// as much as `Committed::forget_step` says. Takes no memory.
+    /// What each commit superseded is a list. It is garbage once no open transaction began with its pin, the number under which it stands,
+    /// and a call looks at 2 garbage lists, and at no other. What was kept to check later commits stands in runs, of which a call frees as
+    /// much as `Committed::forget_step` says. Takes no memory.
     pub fn reclaim_step(&mut self) -> bool
         ensures keeps { KeepsStates self.old self.new }
         ensures versions { (m : State) → StandsFor self.old m
             → IsReclaimedInPart (versions_of self.old) (versions_of self.new) (open_begins m) }
-        ensures still { (m : State) → StandsFor self.old m → result ≡ is_due (open_begins m) self.new.history }
+        ensures still { (m : State) → StandsFor self.old m → result ≡ is_garbage (open_begins m) self.new.history }
         ensures unmixed { (m : State) → StandsFor self.old m → AllByRecursion IsUnmixed (versions_of self.new).groups }
         ensures given_back { IsGivenBack (committed_of self.old) (committed_of self.new) }
         ensures forgotten { (m : State) → StandsFor self.old m → HasForgottenOld m (facts_of self.new) }
@@ -171,7 +171,7 @@ impl<D: Sectors> Engine<D> {
     /// Drops what no open transaction needs: what was kept of transactions that were committed when each open one began, and the versions
     /// that are neither the newest of their keys nor seen from the begin of an open transaction.
     ///
-    /// It looks at all lists of versions that are due, and at all that is kept of commits, so its time grows with both. Takes no memory.
+    /// It looks at all garbage lists of versions, and at all that is kept of commits, so its time grows with both. Takes no memory.
     pub fn reclaim(&mut self)
         ensures keeps { KeepsStates self.old self.new }
         ensures versions { (m : State) → StandsFor self.old m → IsReclaimed (versions_of self.old) (versions_of self.new) (open_begins m) }

@@ -1,4 +1,4 @@
-//! Why a call is refused.
+//! Why a call is refused: with a reply to the client, or since memory was refused.
 use model::{Memory, Refusal};
 use snapshot::SnapshotFault;
 use std::alloc::{AllocError, AllocFailed};

@@ -1,16 +1,17 @@
-//! What has committed.
+//! What has committed: the versions of each key, and what later commits are checked against.
 ghost use Rattle.std.specs.Prelude.{◌≡◌, ◌+◌, ◌-◌, ◌^◌, ◌<◌, ◌≤◌, false, true, [], IfOk, OnOk};
+ghost use Rattle.model.specs.Map.{IsInBounds};
 ghost use Rattle.versions.specs.Meaning.{IsReclaimed, IsReclaimedInPart};
 ghost use Rattle.pivot_check.specs.Kept.{IsEmpty, IsGivenBack, KeepsNoneUpto};
 ghost use Rattle.pivot_check.specs.StandsFor.{IsCleared};
-ghost use Rattle.engine.specs.HistoryValue.{HistoryStandsFor, IsSameHistory, IsReady, Joins, Reclaims, is_due};
+ghost use Rattle.engine.specs.HistoryValue.{HistoryStandsFor, IsSameHistory, IsReady, Joins, Reclaims, is_garbage};
 
 use model::{Map, Memory};
 use pivot_check::{Cleared, Committed};
 use snapshot::Transaction;
 use std::alloc::Global;
 use std::marker::Model;
-use versions::{Versions, read_only_record_follows};
+use versions::{Versions, law_read_only_record_follows};
 
 /// What has committed: the versions of its writes, and what is kept to check later commits.
 #[derive(Drop)]
@@ -35,6 +36,7 @@ impl History {
     pub(crate) fn over(alloc: Global, map: Map) -> Result<History, Memory>
         ensures stands { IfOk result (λ h. HistoryStandsFor h (λ _. true) map []) }
         ensures empty { IfOk result (λ h. IsEmpty h.committed.facts) }
+        ensures in_bounds { IsInBounds map }
     {
         Ok(History {
             versions: Versions::from_map(alloc, map)?,
@@ -77,7 +79,7 @@ impl History {
         let number = self.committed.last() + 1;
         self.committed.note(&transaction, number, cleared);
         let writes = transaction.into_writes();
-        read_only_record_follows();
+        law_read_only_record_follows();
         if !writes.is_empty() {
             self.versions.install(number, writes);
         }
@@ -91,12 +93,12 @@ impl History {
         ensures reclaims { Reclaims begins.now oldest self.old self.new }
         ensures reclaimed { IsReclaimedInPart self.old.versions self.new.versions begins.now }
         ensures given_back { IsGivenBack self.old.committed self.new.committed }
-        ensures still { result ≡ is_due begins.now self.new }
+        ensures still { result ≡ is_garbage begins.now self.new }
         ensures kept { result ≡ false → KeepsNoneUpto self.new.committed.facts.oldest self.new.committed.facts }
     {
-        let versions_due = self.versions.reclaim_step(begins);
-        let runs_due = self.committed.forget_step(oldest);
-        versions_due || runs_due
+        let garbage_versions = self.versions.reclaim_step(begins);
+        let garbage_runs = self.committed.forget_step(oldest);
+        garbage_versions || garbage_runs
     }
 
     /// Drops the versions that are neither the newest of their keys nor seen from one of the numbers, as `Versions::reclaim` does, and what

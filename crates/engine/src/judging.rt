@@ -1,4 +1,4 @@
-//! What becomes of a COMMIT, before it takes any memory and before the device is called.
+//! Validates a COMMIT, before it takes any memory and before the device is called.
 ghost use Rattle.engine.specs.Judgements.{IsJudgedOver, IsWeighedOver};
 
 use crate::history::History;

@@ -1,4 +1,4 @@
-//! Open transactions over one store.
+//! The storage engine: open transactions over one store. Each call is a step of the machine in `model`.
 #![tactic(auto)]
 
 mod commits;

@@ -1,4 +1,4 @@
-//! Reads.
+//! GET and RANGE: they mark what they read, and lend the values.
 use crate::engine::Engine;
 use crate::faults::ReadFault;
 use model::{KeyRef, RangeRef};

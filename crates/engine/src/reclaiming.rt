@@ -1,4 +1,4 @@
-//! What no open transaction needs.
+//! The active begin numbers, those of the open transactions, by which garbage is found.
 ghost use Rattle.std.specs.Prelude.{◌≡◌, ◌≤◌, length, map, take};
 ghost use Rattle.std.specs.BTreeMap.{values};
 ghost use Rattle.engine.specs.Least.{IsLeast};

@@ -1,4 +1,4 @@
-//! What a commit writes to the log, and the memory that is made before.
+//! Takes the memory that a commit needs, and then appends its record to the log.
 ghost use Rattle.std.specs.Prelude.{OnOk};
 ghost use Rattle.model.specs.Map.{after_writes};
 ghost use Rattle.engine.specs.HistoryValue.{IsSameHistory, IsReady};

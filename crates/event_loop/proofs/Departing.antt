@@ -1,4 +1,4 @@
--- What left over the connections stays told before as the loop goes on, and is kept, also where a turn takes a connection out or closes it.
+-- What left over the connections stays answered before as the loop goes on, also where a turn takes a connection out or closes it, and is kept.
 use Rattle.std.proofs.Common.{◌≡◌, ◌≢◌, ◌⊎◌, inl, inr, ℕ, ◌+◌, ◌-◌, ◌||◌, Bool, true, false, List, [], ◌∷◌, ◌++◌}
 use Rattle.std.proofs.Common.{Option, Some, None, length, append_assoc, drop, refl, sym, ap, subst, ◌∙◌, arith}
 use Rattle.std.proofs.Math.Logic.{∥∥₁_map}
@@ -6,23 +6,24 @@ use Rattle.std.proofs.lemmas.Bool.{cases_eq}
 use Rattle.std.proofs.lemmas.List.{append-nil}
 use Rattle.std.proofs.lemmas.List.Elements.{All-drop, All-from_recursion, recursion_from_All}
 use Rattle.std.specs.List.{AllByRecursion}
-use Rattle.mio.specs.Events.{items}
 use Rattle.mio.specs.declared.event.event.Event.{Event}
 use Rattle.model.proofs.Elements.{all-append, all-each}
 use Rattle.model.proofs.Lookups.{some_same}
 use Rattle.sector.specs.declared.device.Sectors.{Ghosts}
 use Rattle.sessions.proofs.LivesLaws.{lose_nothing}
+use Rattle.sessions.proofs.Readings.{runs_have_one_reading}
 use Rattle.sessions.proofs.Runs.{CountsNow, OnlyNow, no_event, ran_parts, ran_stands, ran_then}
-use Rattle.sessions.specs.Laws.{IsLawful, IsSessionStream, IsSound, NoneRuns, Ran}
+use Rattle.sessions.specs.Laws.{IsSessionStream, IsSound, NoneRuns, Ran}
 use Rattle.sessions.specs.Life.{Holds, LosesNothing, MayFind}
 use Rattle.sessions.specs.Lives.{IsOpened, IsServed, Served}
+use Rattle.sessions.specs.Readings.{HasOneReading}
 use Rattle.sessions.specs.SessionStreams.{HubState, HubEvent, Choice, SessionStream, replies_text, run, stream_of}
 use Rattle.sessions.specs.StandsFor.{StandsFor, device}
 use Rattle.sessions.specs.declared.hub.Hub.{Hub}
 use Rattle.stream_driver.proofs.Carry.{run_then}
 use Rattle.stream_driver.proofs.Sends.{all_before, all_since, answered_since, answered_then, begins_through}
 use Rattle.stream_driver.proofs.States.{at_point, point_of}
-use Rattle.stream_driver.specs.Buffers.{held_in, traffic_through}
+use Rattle.stream_driver.specs.Buffers.{buffered_in, traffic_through}
 use Rattle.stream_driver.specs.Entries.{DrivenAll, EndsDrive, HaveSessions, is_over}
 use Rattle.stream_driver.specs.Sends.{AreToldBefore, HasSent, HaveSent, IsAnswered}
 use Rattle.stream_driver.specs.Sessions.{Adds, Point, StandsAt}
@@ -34,30 +35,28 @@ use Rattle.event_loop.proofs.Committed.{answered_committed}
 use Rattle.event_loop.proofs.Entries.{no_entry, polled_sessions}
 use Rattle.event_loop.proofs.Polled.{each_rest, TakesTurns, was_driven, was_polled}
 use Rattle.event_loop.proofs.TableBytes.{driven_was, drives_bytes, finished, polled_bytes}
-use Rattle.event_loop.proofs.WholeTurns.{all_found, each_bytes, new_begins, they_speak}
+use Rattle.event_loop.proofs.WholeTurns.{all_found, each_bytes, new_begins}
 use Rattle.event_loop.specs.Departures.{EntriesTell, HoldsAtEnds, IsCommitted, IsKept, IsServing, IsTold}
-use Rattle.event_loop.specs.Departures.{KeepsWhatLeft, LingerersTell, Serving, Tells, first_state, present_state}
-use Rattle.event_loop.specs.Departures.{AreKept}
+use Rattle.event_loop.specs.Departures.{LingerersTell, Serving, Tells, first_state, present_state}
 use Rattle.event_loop.specs.Leavings.{EndAll, EndEach, LeavesAs, LeavesIf}
 use Rattle.event_loop.specs.Leavings.EndEach.{NoneEnded, OneMore as OneEnded}
-use Rattle.event_loop.specs.Lingerings.{AllTurned, AreTurned, DropsInput, Lingerers, lingers_in, TurnedIf, Leaves}
+use Rattle.event_loop.specs.Lingerings.{AllTurned, AreTurned, DropsInput, Lingerers, TurnedIf, Leaves}
 use Rattle.event_loop.specs.Order.{is_passed}
 use Rattle.event_loop.specs.Sockets.{IsNewSocket, SocketsTell, session_of, traffic_of}
-use Rattle.event_loop.specs.TableBytes.{ConnectionsSpeak, HaveBytes}
+use Rattle.event_loop.specs.TableBytes.{HaveBytes}
 use Rattle.event_loop.specs.Tables.{AdmitsEach, ComeEach, EndsTurn, TableStands, after_poll, joins_of, slot_at}
 use Rattle.event_loop.specs.Tables.AdmitsEach.{Nobody, OneMore}
-use Rattle.event_loop.specs.Turns.{Accepted, DrivesReady, IsTurn, KeepsWhatLeaves, accepts_now}
+use Rattle.event_loop.specs.Turns.{DrivesReady}
 use Rattle.event_loop.specs.declared.order.Turns.{Turns}
 use Rattle.event_loop.specs.declared.lingering.Dropped.{Dropped}
 use Rattle.event_loop.specs.declared.lingering.Lingerer.{Lingerer}
 use Rattle.event_loop.specs.declared.lingering.TheConstants.{LINGERING_BYTES, LINGERING_MAX}
-use Rattle.event_loop.specs.declared.server.EventLoop.{EventLoop}
 use Rattle.event_loop.specs.declared.socket.Socket.{Socket}
 
 abbrev Connection : Type 0
 Connection = Entry (BufferedStream Socket)
 
-abbrev Slots : Type 0
+abbrev pub Slots : Type 0
 Slots = List (Option Connection)
 
 abbrev through : BufferedStream Socket → Traffic
@@ -75,10 +74,10 @@ pub last_sound : {D : Type 0} {g : Ghosts D} (old new : Hub D g) (es : List (Hub
 last_sound old new [] r = r.1
 last_sound old new (e ∷ es) r = last_sound r.1 new es r.3
 
--- what was told to be sent was answered
-sent_answered : (s : ℕ) (h : HubState) (es : List (HubEvent × Choice)) (t : Traffic) → HasSent s h t → IsAnswered s h es t.taken
+-- what was reported as sent was answered
+sent_answered : (s : ℕ) (h : HubState) (es : List (HubEvent × Choice)) (t : Traffic) → HasSent s h t → IsAnswered s h es t.sent
 sent_answered s h es t has =
-    let begins : IsBeginning t.taken (has.stream.sent ++ has.stream.now.pending) = record { rest = has.stream.now.pending; all_is = rw has.taken } in
+    let begins : IsBeginning t.sent (has.stream.sent ++ has.stream.now.pending) = record { rest = has.stream.now.pending; all_is = rw has.sent } in
     record { by = []; since = es; events_are = refl; stream = has.stream; stream_is = has.stream_is; answered = begins }
 
 module _ {D : Type 0} {g : Ghosts D} {hub : Hub D g} (served : Served hub) where
@@ -97,11 +96,11 @@ module _ {D : Type 0} {g : Ghosts D} {hub : Hub D g} (served : Served hub) where
     bytes_on : (slots : Slots) → HaveTheirBytes (run (present_state served) fs) slots → HaveTheirBytes (present_state served_on) slots
     bytes_on slots has = subst (λ (h : HubState). HaveTheirBytes h slots) (sym (run_then (first_state served) served.choices fs)) has
 
-    -- what was told is told still
+    -- what was answered before stays so
     pub tells_on : (s : ℕ) (t : Traffic) → Tells served s t → Tells served_on s t
     tells_on s t e = assumption (
       all_since s (first_state served) ran_then served.first hub later served.choices fs ran t.departed e.told,
-      answered_since s (first_state served) served.choices fs t.taken e.answered,
+      answered_since s (first_state served) served.choices fs t.sent e.answered,
     )
 
     lingerers_on : (all : List Lingerer) → LingerersTell served all → LingerersTell served_on all
@@ -109,17 +108,23 @@ module _ {D : Type 0} {g : Ghosts D} {hub : Hub D g} (served : Served hub) where
 
     -- a stream was called in a drive, or left alone
     driven_tells : (s : ℕ) (t u : Traffic) → u.connection ≡ t.connection → AreToldBefore s (present_state served) hub later fs t u
-        → (u.taken ≡ t.taken) ⊎ IsAnswered s (present_state served) fs u.taken → Tells served s t → Tells served_on s u
+        → (u.sent ≡ t.sent) ⊎ IsAnswered s (present_state served) fs u.sent → Tells served s t → Tells served_on s u
     driven_tells s t u same_number left took e =
         let on = tells_on s t e in
         let told : AllByRecursion (IsTold served_on s) (t.departed ++ left.departures) =
         all-append (IsTold served_on s) t.departed left.departures on.told
         (all_before s (first_state served) ran_then served.first hub later served.choices fs served.ran left.departures left.each) in
-        let answered : IsAnswered s (first_state served) (served.choices ++ fs) u.taken =
-        elim took [ inl same ↦ rw same on.answered | inr since ↦ answered_then s (first_state served) served.choices fs u.taken since ] in
+        let answered : IsAnswered s (first_state served) (served.choices ++ fs) u.sent =
+        elim took [ inl same ↦ rw same on.answered | inr since ↦ answered_then s (first_state served) served.choices fs u.sent since ] in
         record { number = same_number ∙ e.number; told = rw left.departed_are told; answered = answered }
 
--- ---- what a stream holds leaves
+module _ {D : Type 0} {g : Ghosts D} where
+  -- a loop that serves on a run goes on with it: what was told is told still
+  pub record GoesOn {hub : Hub D g} (served : Served hub) (later : Hub D g) (new : Slots) (lingerers : List Lingerer) : Type 0 where
+    pub now : Serving later new lingerers
+    pub told : (s : ℕ) (t : Traffic) → Tells served s t → Tells now.served s t
+
+-- ---- what a stream buffers leaves
 
 -- what begins an answer was answered too
 answered_part : (s : ℕ) (h : HubState) (es : List (HubEvent × Choice)) (less bytes : List ℕ) → IsBeginning less bytes → IsAnswered s h es bytes
@@ -128,11 +133,11 @@ answered_part s h es less bytes begins a =
     search (a.events_are, a.stream_is, begins_through less bytes (a.stream.sent ++ a.stream.now.pending) begins a.answered)
 
 module _ {D : Type 0} {g : Ghosts D} {hub : Hub D g} (served : Served hub) where
-  -- no more has left than the connection took
+  -- no more has left than was written to the connection
   inner_tells : (s : ℕ) (b : BufferedStream Socket) → Tells served s (through b) → Tells served s (traffic_of b.inner)
   inner_tells s b e =
-      assumption (answered_part s (first_state served) served.choices (traffic_of b.inner).taken (through b).taken
-      (record { rest = held_in b.held; all_is = refl }) e.answered)
+      assumption (answered_part s (first_state served) served.choices (traffic_of b.inner).sent (through b).sent
+      (record { rest = buffered_in b.buffered; all_is = refl }) e.answered)
 
   -- the session is that of the number
   own_tells : (s : ℕ) (socket : Socket) → Tells served s (traffic_of socket) → Tells served (session_of socket) (traffic_of socket)
@@ -152,13 +157,13 @@ module _ {D : Type 0} {g : Ghosts D} {hub : Hub D g} (served : Served hub) where
       told = answered_part s (first_state served) served.choices d.bytes took left.1 a;
     }) all
 
-    -- it took nothing, and what left leaves now
-    departs_tells : (s : ℕ) (t u : Traffic) → u.connection ≡ t.connection → u.taken ≡ t.taken → DepartAt moment t u → Tells served s t → Tells served s u
+    -- nothing was written to it, and what left leaves now
+    departs_tells : (s : ℕ) (t u : Traffic) → u.connection ≡ t.connection → u.sent ≡ t.sent → DepartAt moment t u → Tells served s t → Tells served s u
     departs_tells s t u same_number same departs e =
-        let answered : IsAnswered s (first_state served) served.choices u.taken =
+        let answered : IsAnswered s (first_state served) served.choices u.sent =
         subst (λ (bytes : List ℕ). IsAnswered s (first_state served) served.choices bytes) (sym same) e.answered in
         let told : AllByRecursion (IsTold served s) (t.departed ++ departs.departures) =
-        all-append (IsTold served s) t.departed departs.departures e.told (leaves_now s u.taken answered departs.departures departs.each) in
+        all-append (IsTold served s) t.departed departs.departures e.told (leaves_now s u.sent answered departs.departures departs.each) in
         record {
           number = same_number ∙ e.number;
           told = subst (λ (ds : List Departure). AllByRecursion (IsTold served s) ds) (sym departs.departed_are) told;
@@ -171,7 +176,7 @@ module _ {D : Type 0} {g : Ghosts D} {hub : Hub D g} (served : Served hub) where
     end_tells t was entry ends e =
         let f = finished SocketsTell traffic_of moment entry.state was.stream entry.stream ends.stream in
         subst (λ (s : ℕ). Tells served s (through entry.stream)) (sym ends.session)
-        (departs_tells was.session (through was.stream) (through entry.stream) f.connection (f.taken t) (f.departed t) e)
+        (departs_tells was.session (through was.stream) (through entry.stream) f.connection (f.sent t) (f.departed t) e)
 
     -- ---- those that linger
 
@@ -212,7 +217,7 @@ module _ {D : Type 0} {g : Ghosts D} {hub : Hub D g} (served : Served hub) where
     drops_tells : SocketsTell → (old : Lingerer) (dropped : Dropped) (new : Lingerer) → DropsInput moment old dropped new → (s : ℕ)
         → Tells served s (traffic_of old.socket) → Tells served s (traffic_of new.socket)
     drops_tells t old dropped new drops s e =
-        departs_tells s (traffic_of old.socket) (traffic_of new.socket) drops.connection (drops.taken t) (drops.departed t) e
+        departs_tells s (traffic_of old.socket) (traffic_of new.socket) drops.connection (drops.sent t) (drops.departed t) e
 
     all_tell : SocketsTell → (old new : List Lingerer) (more : Bool) → AllTurned moment old new more → LingerersTell served old → LingerersTell served new
     all_tell t [] new more turned tells = subst (λ (l : List Lingerer). LingerersTell served l) (sym turned.0) tells
@@ -233,13 +238,13 @@ module _ {D : Type 0} {g : Ghosts D} {hub : Hub D g} (served : Served hub) where
 -- ---- the drives of a turn
 
 have_sent : (h : HubState) (slots : Slots) → SocketsTell → HaveTheirBytes h slots → HaveSent through h slots
-have_sent h slots t has key entry e alive = let b = has key entry e alive in record { stream = b.0; stream_is = b.1; taken = (b.2 t).1 }
+have_sent h slots t has key entry e alive = let b = has key entry e alive in record { stream = b.0; stream_is = b.1; sent = (b.2 t).1 }
 
 module _ {D : Type 0} {g : Ghosts D} (hub later : Hub D g) (slots new : Slots) (events : List Event) (last next : Turns)
     (d : DrivesReady SocketsTell traffic_of events last hub slots next later new) (sessions : HaveSessions hub slots)
     (old later_all : Lingerers) (left : EndAll (g.moment (device later)) d.driven old new later_all) where
-  taken : TakesTurns slots d.ready events
-  taken key = (is_passed hub next key (after_poll events key (slot_at slots key)), d.told key)
+  turned : TakesTurns slots d.ready events
+  turned key = (is_passed hub next key (after_poll events key (slot_at slots key)), d.turned key)
 
   none_runs : NoneRuns later
   none_runs = no_event later (last_sound hub later d.drives.leads.choices d.drives.leads.ran)
@@ -253,13 +258,13 @@ module _ {D : Type 0} {g : Ghosts D} (hub later : Hub D g) (slots new : Slots) (
         × DrivenAll SocketsTell through (point_of hub (present_state s.served)) d.ready k d.driven)
     to = d.drives.leads.to (point_of hub (present_state s.served)) (at_point hub (present_state s.served) (stands_now s.served))
 
-    -- what the drives told is told still
+    -- what was answered before the drives' departures stays so
     driven_tell : SocketsTell → EntriesTell on d.driven
     driven_tell t key mid e =
         let h = present_state s.served in
         let was = driven_was SocketsTell through (point_of hub h) d.ready to.0 d.driven to.2.1 key mid e in
-        let before = was_polled traffic_of slots d.ready events taken key was.0 was.1 in
-        let sent = have_sent h d.ready t (polled_bytes SocketsTell traffic_of (g.moment (device later)) slots d.ready events taken h s.bytes) in
+        let before = was_polled traffic_of slots d.ready events turned key was.0 was.1 in
+        let sent = have_sent h d.ready t (polled_bytes SocketsTell traffic_of (g.moment (device later)) slots d.ready events turned h s.bytes) in
         subst (λ (n : ℕ). Tells on n (through mid.stream)) (sym was.2)
         (driven_tells s.served later d.drives.leads.choices d.drives.leads.ran was.0.session (through was.0.stream) (through mid.stream) was.3
         (d.drives.telling t h (stands_now s.served) sent key was.0 mid was.1 e) (d.drives.answered t h (stands_now s.served) sent key was.0 mid was.1 e)
@@ -274,16 +279,21 @@ module _ {D : Type 0} {g : Ghosts D} (hub later : Hub D g) (slots new : Slots) (
       served = on;
       bytes = bytes_on s.served later d.drives.leads.choices d.drives.leads.ran new
           (subst (λ (x : HubState). HaveTheirBytes x new) to.2.0.run_is
-          (drives_bytes SocketsTell traffic_of (g.moment (device later)) slots d.ready d.driven new events taken
-          (polled_sessions slots d.ready events taken hub sessions).own d.ended (point_of hub (present_state s.served)) to.0 to.2.1 s.bytes));
+          (drives_bytes SocketsTell traffic_of (g.moment (device later)) slots d.ready d.driven new events turned
+          (polled_sessions slots d.ready events turned hub sessions).own d.ended (point_of hub (present_state s.served)) to.0 to.2.1 s.bytes));
       tells = λ t key entry e.
           let was = was_driven SocketsTell traffic_of (g.moment (device later)) (slot_at d.driven key) (slot_at new key) entry (d.ended key) e in
           end_tells on none_runs (g.moment (device later)) refl t was.0 entry was.2 (driven_tell t key was.0 was.1);
       lingerers_tell = λ t. each_lingers on none_runs (g.moment (device later)) refl t left.each (driven_tell t) (lingered t);
     }
 
+    pub driven_goes : GoesOn s.served later new later_all.all
+    unfolding driven_serves
+    driven_goes = record { now = driven_serves; told = tells_on s.served later d.drives.leads.choices d.drives.leads.ran }
+
     -- so it is of each connection as the turn leaves it
-    pub ends_tell : SocketsTell → HoldsAtEnds (Tells on) (g.moment (device later)) d.driven old.all later_all.all
+    pub ends_tell : SocketsTell → HoldsAtEnds (Tells driven_goes.now.served) (g.moment (device later)) d.driven old.all later_all.all
+    unfolding driven_goes driven_serves
     ends_tell t = record {
       entries = λ key was entry e ends. inner_tells on entry.session entry.stream
           (end_tells on none_runs (g.moment (device later)) refl t was entry ends (driven_tell t key was e));
@@ -299,18 +309,34 @@ module _ {D : Type 0} {g : Ghosts D} (hub later : Hub D g) (slots new : Slots) (
 -- ---- those that linger are turned, or closed
 
 module _ {D : Type 0} {g : Ghosts D} (hub : Hub D g) (slots : Slots) where
-  relingers : (old new : List Lingerer) → (SocketsTell → (served : Served hub) → LingerersTell served old → LingerersTell served new) → IsServing hub slots old
-      → IsServing hub slots new
-  relingers old new f some =
-      ∥∥₁_map some (λ s. record { served = s.served; bytes = s.bytes; tells = s.tells; lingerers_tell = λ t. f t s.served (s.lingerers_tell t) })
+  relinger : (old new : List Lingerer) → (SocketsTell → (served : Served hub) → LingerersTell served old → LingerersTell served new) → Serving hub slots old
+      → Serving hub slots new
+  relinger old new f s = record { served = s.served; bytes = s.bytes; tells = s.tells; lingerers_tell = λ t. f t s.served (s.lingerers_tell t) }
 
-  pub turns_serve : (moment : ℕ) → moment ≡ g.moment (device hub) → (is_told : Bool) (old new : Lingerers) → AreTurned moment is_told old new
+  turns_on : (moment : ℕ) → moment ≡ g.moment (device hub) → (is_reported : Bool) (old new : Lingerers) → AreTurned moment is_reported old new
+      → Serving hub slots old.all → Serving hub slots new.all
+  turns_on moment now is_reported old new turned = relinger old.all new.all (λ t served.
+      turned_tell served (no_event hub (last_sound served.first hub served.choices served.ran)) moment now t (is_reported || old.has_more) old new turned)
+
+  pub turned_goes : (is_reported : Bool) (old new : Lingerers) → AreTurned (g.moment (device hub)) is_reported old new → (s : Serving hub slots old.all)
+      → GoesOn s.served hub slots new.all
+  unfolding turns_on relinger
+  turned_goes is_reported old new turned s =
+      record { now = turns_on (g.moment (device hub)) refl is_reported old new turned s; told = λ n t e. e }
+
+  pub turns_serve : (moment : ℕ) → moment ≡ g.moment (device hub) → (is_reported : Bool) (old new : Lingerers) → AreTurned moment is_reported old new
       → IsServing hub slots old.all → IsServing hub slots new.all
-  turns_serve moment now is_told old new turned = relingers old.all new.all (λ t served.
-      turned_tell served (no_event hub (last_sound served.first hub served.choices served.ran)) moment now t (is_told || old.has_more) old new turned)
+  turns_serve moment now is_reported old new turned some = ∥∥₁_map some (turns_on moment now is_reported old new turned)
+
+  closed_on : (old new : List Lingerer) → new ≡ [] → Serving hub slots old → Serving hub slots new
+  closed_on old new is = relinger old new (λ t served tells. rw is tt)
+
+  pub closed_goes : (old : List Lingerer) (s : Serving hub slots old) → GoesOn s.served hub slots []
+  unfolding closed_on relinger
+  closed_goes old s = record { now = closed_on old [] refl s; told = λ n t e. e }
 
   pub closed_serves : (old new : List Lingerer) → new ≡ [] → IsServing hub slots old → IsServing hub slots new
-  closed_serves old new is = relingers old new (λ t served tells. rw is tt)
+  closed_serves old new is some = ∥∥₁_map some (closed_on old new is)
 
 -- ---- connections come
 
@@ -346,16 +372,16 @@ new_tells served slots t has key entry e fresh alive =
     record {
       number = ap (λ (x : Socket). session_of x) fresh.2.inner_is ∙ fresh.1.counts.5;
       told = subst (λ (ds : List Departure). AllByRecursion (IsTold served entry.session) ds) (sym none) tt;
-      answered = subst (λ (es : List (HubEvent × Choice)). IsAnswered entry.session (first_state served) es (through entry.stream).taken)
+      answered = subst (λ (es : List (HubEvent × Choice)). IsAnswered entry.session (first_state served) es (through entry.stream).sent)
           (append-nil served.choices)
-          (answered_then entry.session (first_state served) served.choices [] (through entry.stream).taken
+          (answered_then entry.session (first_state served) served.choices [] (through entry.stream).sent
           (sent_answered entry.session (present_state served) [] (through entry.stream) (have_sent (present_state served) slots t has key entry e alive)));
     }
 
 module _ {D : Type 0} {g : Ghosts D} (hub later : Hub D g) (next then count refused counted : ℕ) (slots new : Slots) (lingerers : List Lingerer)
     (holds : TableStands hub next slots) (come : ComeEach IsNewSocket hub next slots refused count later then new counted) where
-  pub accepts_serve : IsServing hub slots lingerers → IsServing later new lingerers
-  accepts_serve some = ∥∥₁_map some (λ s.
+  accepts_on : Serving hub slots lingerers → Serving later new lingerers
+  accepts_on s =
       let h = present_state s.served in
       let leads = come.1 in
       let to = leads.to (point_of hub h) (at_point hub h (stands_now s.served)) in
@@ -372,18 +398,32 @@ module _ {D : Type 0} {g : Ghosts D} (hub later : Hub D g) (next then count refu
           | inr (fresh, alive) ↦ new_tells (served_on s.served later leads.choices leads.ran) new t bytes key entry e fresh alive
         ];
         lingerers_tell = λ t. lingerers_on s.served later leads.choices leads.ran lingerers (s.lingerers_tell t);
-      })
+      }
+
+  pub accepts_goes : (s : Serving hub slots lingerers) → GoesOn s.served later new lingerers
+  unfolding accepts_on
+  accepts_goes s = record { now = accepts_on s; told = tells_on s.served later come.1.choices come.1.ran }
+
+  pub accepts_serve : IsServing hub slots lingerers → IsServing later new lingerers
+  accepts_serve some = ∥∥₁_map some accepts_on
 
 -- ---- it rests, and begins
 
 module _ {D : Type 0} {g : Ghosts D} (hub later : Hub D g) (ran : Ran hub later []) (slots : Slots) (lingerers : List Lingerer) where
-  pub rest_serves : IsServing hub slots lingerers → IsServing later slots lingerers
-  rest_serves some = ∥∥₁_map some (λ s. record {
+  rests_on : Serving hub slots lingerers → Serving later slots lingerers
+  rests_on s = record {
     served = served_on s.served later [] ran;
     bytes = bytes_on s.served later [] ran slots s.bytes;
     tells = λ t key entry e. tells_on s.served later [] ran entry.session (through entry.stream) (s.tells t key entry e);
     lingerers_tell = λ t. lingerers_on s.served later [] ran lingerers (s.lingerers_tell t);
-  })
+  }
+
+  pub rests_goes : (s : Serving hub slots lingerers) → GoesOn s.served later slots lingerers
+  unfolding rests_on
+  rests_goes s = record { now = rests_on s; told = tells_on s.served later [] ran }
+
+  pub rest_serves : IsServing hub slots lingerers → IsServing later slots lingerers
+  rest_serves some = ∥∥₁_map some rests_on
 
 pub begins_serving : {D : Type 0} {g : Ghosts D} (hub : Hub D g) → IsOpened hub → NoneRuns hub → (slots : Slots) → slots ≡ [] → (lingerers : List Lingerer)
     → lingerers ≡ [] → IsServing hub slots lingerers
@@ -401,15 +441,6 @@ module _ {D : Type 0} {g : Ghosts D} (hub : Hub D g) (slots : Slots) (lingerers 
   pub is_served : IsServed hub
   is_served = ∥∥₁_map some (λ s. s.served)
 
-  pub connections_speak : ((h : HubState) → StandsFor hub h → IsLawful h) → SocketsTell → ConnectionsSpeak hub slots
-  connections_speak laws t =
-      ∥∥₁_map some (λ s. (let lawful = laws (present_state s.served) (stands_now s.served) in (
-        present_state s.served,
-        stands_now s.served,
-        lawful,
-        they_speak (present_state s.served) slots lawful s.bytes t,
-      )))
-
   module _ (crash : LosesNothing hub) (only_now : OnlyNow D g) (counts_now : CountsNow D g) where
     -- what was answered begins the texts of the machine's replies
     texts_begin : (served : Served hub) (by since : List (HubEvent × Choice)) → served.choices ≡ by ++ since → (s : ℕ) (st : SessionStream)
@@ -419,7 +450,7 @@ module _ {D : Type 0} {g : Ghosts D} (hub : Hub D g) (slots : Slots) (lingerers 
         let parts = ran_parts served.first hub by since (subst (λ (es : List (HubEvent × Choice)). Ran served.first hub es) is served.ran) in
         let stands = ran_stands served.first parts.0 by parts.1 (first_state served) served.start.begins.stands in
         let lawful = (last_sound served.first parts.0 by parts.1).lawful (run (first_state served) by) stands in
-        let stream : IsSessionStream st = all_found s (run (first_state served) by).present st lawful.present there in
+        let stream : IsSessionStream st = all_found IsSessionStream s (run (first_state served) by).present st lawful.present there in
         subst (λ (all : List ℕ). IsBeginning bytes all) (sym stream.output) begins
 
     is_kept : (served : Served hub) (s : ℕ) (d : Departure) → IsTold served s d → IsKept served s d
@@ -429,10 +460,14 @@ module _ {D : Type 0} {g : Ghosts D} (hub : Hub D g) (slots : Slots) (lingerers 
         (crash keeps served.first t.hub hub t.before t.since t.came t.goes_on (first_state served) served.start.begins.stands refl c
         (subst (λ (m : ℕ). g.left_since (device hub) m c) t.moment_is l)) in
         let events : t.before ≡ t.told.by ++ t.told.since = t.told.events_are in
+        let since = t.told.since ++ t.since in
+        let all : served.choices ≡ t.told.by ++ since = t.events_are ∙ ap (λ (es : List (HubEvent × Choice)). es ++ t.since) events
+        ∙ append_assoc t.told.by t.told.since t.since in
         record {
           told = t;
-          texts = texts_begin served t.told.by (t.told.since ++ t.since) (t.events_are ∙ ap (λ (es : List (HubEvent × Choice)). es ++ t.since) events
-              ∙ append_assoc t.told.by t.told.since t.since) s t.told.stream t.told.stream_is d.bytes t.told.answered;
+          texts = texts_begin served t.told.by since all s t.told.stream t.told.stream_is d.bytes t.told.answered;
+          reading = all_found HasOneReading s (run (first_state served) t.told.by).present t.told.stream
+              (runs_have_one_reading hub served t.told.by since all).present t.told.stream_is;
           committed = subst (λ (es : List (HubEvent × Choice)). AllByRecursion (IsCommitted (run (first_state served) es).machine.history)
               t.told.stream.replies) (sym events)
               (answered_committed (first_state served) t.told.by t.told.since s t.told.stream refl t.told.stream_is);
@@ -445,16 +480,9 @@ module _ {D : Type 0} {g : Ghosts D} (hub : Hub D g) (slots : Slots) (lingerers 
     pub all_kept : (served : Served hub) (s : ℕ) (ds : List Departure) → AllByRecursion (IsTold served s) ds → AllByRecursion (IsKept served s) ds
     all_kept served s ds all = all-each (IsTold served s) (IsKept served s) ds (is_kept served s) all
 
-    pub keeps_what_left : SocketsTell → KeepsWhatLeft hub slots lingerers
-    keeps_what_left t = ∥∥₁_map some (λ s. (
-      s.served,
-      λ key entry e. (let told = s.tells t key entry e in (told.number, all_kept s.served entry.session (through entry.stream).departed told.told)),
-      all-each _ _ lingerers (λ l told. all_kept s.served (session_of l.socket) (traffic_of l.socket).departed told.told) (s.lingerers_tell t),
-    ))
-
 -- ---- what leaves in a turn
 
-holds_map : (P Q : ℕ → Traffic → Type 0) → ((s : ℕ) (t : Traffic) → P s t → Q s t)
+pub holds_map : (P Q : ℕ → Traffic → Type 0) → ((s : ℕ) (t : Traffic) → P s t → Q s t)
     → (moment : ℕ) (driven : List (Option (Entry (BufferedStream Socket)))) (lingered turned : List Lingerer) → HoldsAtEnds P moment driven lingered turned
     → HoldsAtEnds Q moment driven lingered turned
 holds_map P Q f moment driven lingered turned x = record {
@@ -462,32 +490,3 @@ holds_map P Q f moment driven lingered turned x = record {
   linger = all-each _ _ lingered (λ l p. f (session_of l.socket) (traffic_of l.socket) p) x.linger;
   ends = all-each _ _ turned (λ l p dropped later drops. f (session_of l.socket) (traffic_of later.socket) (p dropped later drops)) x.ends;
 }
-
-module _ {D : Type 0} {g : Ghosts D} where
-  -- the joins of the accepts are a run
-  joins_ran : (driven accepted : EventLoop D g) → NoneRuns driven.hub → (due : Bool) → Accepted due driven accepted
-      → (fs : List (HubEvent × Choice)) × Ran driven.hub accepted.hub fs
-  joins_ran driven accepted none true accepts = (accepts.became.1.choices, accepts.became.1.ran)
-  joins_ran driven accepted none false untouched = ([], subst (λ (h : Hub D g). Ran driven.hub h []) (sym untouched.hub) none)
-
-  module _ (old new : EventLoop D g) (turn : IsTurn SocketsTell traffic_of old new) (crash : LosesNothing new.hub) (only_now : OnlyNow D g)
-      (counts_now : CountsNow D g) where
-    pub keeps_what_leaves : SocketsTell → KeepsWhatLeaves old new turn
-    keeps_what_leaves t = ∥∥₁_map old.serving (λ s.
-        let d = turn.drives in
-        let leads = d.drives.leads in
-        let moment : ℕ = g.moment (device turn.driven.hub) in
-        let driven : Served turn.driven.hub = served_on s.served turn.driven.hub leads.choices leads.ran in
-        let ends : HoldsAtEnds (Tells driven) moment d.driven old.lingering.queue.items turn.linger.begun.all =
-        ends_tell old.hub turn.driven.hub old.table.slots turn.driven.table.slots (items new.poller.events) old.turns turn.driven.turns d old.sessions
-        (lingers_in old.lingering) turn.linger.begun turn.linger.left s t in
-        let joins = joins_ran turn.driven turn.accepted (no_event turn.driven.hub (last_sound old.hub turn.driven.hub leads.choices leads.ran))
-        (accepts_now old.backlog (items new.poller.events)) turn.accepts in
-        let accepted : Served turn.accepted.hub = served_on driven turn.accepted.hub joins.0 joins.1 in
-        let now : Served new.hub = served_on accepted new.hub [] turn.gives_back.hub.ran in (
-          now,
-          holds_map (Tells driven) (AreKept now)
-              (λ n u e. all_kept new.hub new.table.slots new.lingering.queue.items new.serving crash only_now counts_now now n u.departed
-              (tells_on accepted new.hub [] turn.gives_back.hub.ran n u (tells_on driven turn.accepted.hub joins.0 joins.1 n u e)).told)
-              moment d.driven old.lingering.queue.items turn.linger.begun.all ends,
-        ))

@@ -12,3 +12,4 @@ mod Turned
 pub mod Serving
 mod Committed
 mod Departing
+mod AllThatLeft

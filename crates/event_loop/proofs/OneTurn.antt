@@ -11,7 +11,7 @@ use Rattle.stream_driver.specs.Traffic.{Traffic}
 use Rattle.event_loop.specs.Leavings.{LingerOn}
 use Rattle.event_loop.specs.Lingerings.{Lingerers, lingers_in, unless_failed}
 use Rattle.event_loop.specs.Turns.{Accepted, DrivesReady, IsGivenBack, IsTurn, accepted_joins, accepts_now}
-use Rattle.event_loop.specs.Turns.{is_told_of}
+use Rattle.event_loop.specs.Turns.{is_reported_of}
 use Rattle.event_loop.specs.declared.connections.Backlog.{Backlog}
 use Rattle.event_loop.specs.declared.connections.TheConstants.{LINGERER}
 use Rattle.event_loop.specs.declared.polling.Poller.{Poller}
@@ -26,13 +26,13 @@ module _ {D : Type 0} {g : Ghosts D} (tells : Type 0) (traffic : Socket
     → Traffic) (old driven accepted new : EventLoop D g) (turns_are : new.turns ≡ driven.turns) (next_is : driven.next ≡ old.next) (port_is : driven.port
     ≡ old.port) (backlog_is : driven.backlog ≡ old.backlog)
     (refused_is : driven.refused ≡ old.refused) (lingerers_are : lingers_in accepted.lingering
-    ≡ unless_failed accepted.backlog (lingers_in driven.lingering)) (given : IsGivenBack accepted new) where
+    ≡ unless_failed accepted.backlog (lingers_in driven.lingering)) (received : IsGivenBack accepted new) where
   abbrev Drives : Poller → Type 0
   Drives poller = DrivesReady tells traffic (items poller.events) old.turns old.hub old.table.slots driven.turns driven.hub driven.table.slots
 
   abbrev Linger : (poller : Poller) → Drives poller → Bool → Type 0
-  Linger poller drives told =
-      LingerOn (g.moment (device driven.hub)) told drives.driven (lingers_in old.lingering) driven.table.slots (lingers_in driven.lingering)
+  Linger poller drives reported =
+      LingerOn (g.moment (device driven.hub)) reported drives.driven (lingers_in old.lingering) driven.table.slots (lingers_in driven.lingering)
 
   abbrev IsRun : (poller : Poller) → Drives poller → (b : Bool) → Accepted b driven accepted → Type 0
   IsRun poller drives b accepts =
@@ -40,10 +40,10 @@ module _ {D : Type 0} {g : Ghosts D} (tells : Type 0) (traffic : Socket
       × Adds k (accepted_joins b driven accepted accepts) l)
 
   pub turned_by : (poller : Poller) → new.poller ≡ poller → (b : Bool) → accepts_now old.backlog (items new.poller.events) ≡ b
-      → (told : Bool) → told ≡ is_told_of LINGERER (items poller.events) → (drives : Drives poller) → Linger poller drives told
+      → (reported : Bool) → reported ≡ is_reported_of LINGERER (items poller.events) → (drives : Drives poller) → Linger poller drives reported
       → (accepts : Accepted b driven accepted) → IsRun poller drives b accepts → IsTurn tells traffic old new
-  turned_by poller same b due told told_is drives linger accepts run =
-      subst (λ (poller : Poller). (drives : Drives poller) → Linger poller drives (is_told_of LINGERER (items poller.events))
+  turned_by poller same b due reported reported_is drives linger accepts run =
+      subst (λ (poller : Poller). (drives : Drives poller) → Linger poller drives (is_reported_of LINGERER (items poller.events))
       → (accepts : Accepted b driven accepted) → IsRun poller drives b accepts → IsTurn tells traffic old new) same
       (λ drives linger accepts run. subst (λ (b : Bool). (accepts : Accepted b driven accepted) → IsRun new.poller drives b accepts
       → IsTurn tells traffic old new) due (λ accepts run. record {
@@ -58,6 +58,6 @@ module _ {D : Type 0} {g : Ghosts D} (tells : Type 0) (traffic : Socket
         accepted = accepted;
         accepts = accepts;
         lingerers_are = lingerers_are;
-        gives_back = given;
+        gives_back = received;
         run = run;
-      }) accepts run) drives (subst (Linger poller drives) told_is linger) accepts run
+      }) accepts run) drives (subst (Linger poller drives) reported_is linger) accepts run

@@ -59,18 +59,19 @@ next_as waits then same last next (inl first) = inl (record {
 })
 next_as waits then same last next (inr none) = inr (none.0, λ key in_key. sym (same key) ∙ none.1 key in_key)
 
--- as the poll told, and then as their turns are
-module _ {T D : Type 0} {g : Ghosts D} (hub : Hub D g) (last next : Turns) (old polled : Slots (BufferedStream T)) (events : List Event) (told : (key : ℕ)
+-- as the poll reported, and then as their turns are
+module _ {T D : Type 0} {g : Ghosts D} (hub : Hub D g) (last next : Turns) (old polled : Slots (BufferedStream T)) (events : List Event) (reported : (key : ℕ)
     → slot_at polled key ≡ after_poll events key (slot_at old key)) where
-  pub polled_taken : (ready : Slots (BufferedStream T)) → ((key : ℕ) → slot_at ready key ≡ turned_slot hub next key (slot_at polled key)) → (key : ℕ)
+  pub polled_turned : (ready : Slots (BufferedStream T)) → ((key : ℕ) → slot_at ready key ≡ turned_slot hub next key (slot_at polled key)) → (key : ℕ)
       → slot_at ready key ≡ turned_slot hub next key (after_poll events key (slot_at old key))
-  polled_taken ready turned key = turned key ∙ ap (turned_slot hub next key) (told key)
+  polled_turned ready turned key = turned key ∙ ap (turned_slot hub next key) (reported key)
 
   pub polled_next : AreNext hub (slot_at polled) last next → AreNext hub (λ key. after_poll events key (slot_at old key)) last next
   polled_next are = record {
-    next = next_as (λ key. waits_as hub Any (slot_at polled key)) _ (λ key. ap (waits_as hub Any) (told key)) last.next next.next are.next;
-    kind = are.kind ∙ ap (λ slot. cond (writes_in hub slot) Reader Writer) (told next.next);
-    beside = next_as (λ key. waits_as hub next.kind (slot_at polled key)) _ (λ key. ap (waits_as hub next.kind) (told key)) last.beside next.beside are.beside;
+    next = next_as (λ key. waits_as hub Any (slot_at polled key)) _ (λ key. ap (waits_as hub Any) (reported key)) last.next next.next are.next;
+    kind = are.kind ∙ ap (λ slot. cond (writes_in hub slot) Reader Writer) (reported next.next);
+    beside = next_as (λ key. waits_as hub next.kind (slot_at polled key)) _ (λ key. ap (waits_as hub next.kind) (reported key)) last.beside next.beside
+        are.beside;
   }
 
 -- ---- the places of the table
@@ -123,7 +124,7 @@ ready_at Ready is = refl
 ready_at Idle is = absurd (cc)
 ready_at Gone is = absurd (cc)
 
--- what the poll told of was there before
+-- what the poll reported was there before
 was_told : {T : Type 0} (events : List Event) (key : ℕ) (slot : Option (Entry (BufferedStream T))) (entry : Entry (BufferedStream T))
     → after_poll events key slot ≡ Some entry
     → (before : Entry (BufferedStream T)) × (slot ≡ Some before)
@@ -204,18 +205,18 @@ module _ {D : Type 0} {g : Ghosts D} (tells : Type 0) (traffic : Socket
   module _ (nearer : (waits : ℕ → Bool) (last next key : ℕ)
       → ComesNearer waits last next key) (entry : Entry (BufferedStream Socket)) (is : polled ≡ Some entry) (ready : entry.state ≡ Ready) (place : key
       < 128) where
-    told : slot_at turn.drives.ready key ≡ after_turn (is_passed old.hub turn.driven.turns key (Some entry)) (Some entry)
-    told = turn.drives.told key ∙ ap (λ slot. after_turn (is_passed old.hub turn.driven.turns key slot) slot) is
+    turned : slot_at turn.drives.ready key ≡ after_turn (is_passed old.hub turn.driven.turns key (Some entry)) (Some entry)
+    turned = turn.drives.turned key ∙ ap (λ slot. after_turn (is_passed old.hub turn.driven.turns key slot) slot) is
 
     by_passed : (b : Bool) → is_passed old.hub turn.driven.turns key (Some entry) ≡ b → Soon
-    by_passed false not_passed = inl (ap is_ready_slot (told ∙ ap (λ b. after_turn b (Some entry)) not_passed) ∙ driven tells traffic 0 entry ready)
+    by_passed false not_passed = inl (ap is_ready_slot (turned ∙ ap (λ b. after_turn b (Some entry)) not_passed) ∙ driven tells traffic 0 entry ready)
     by_passed true is_so =
         let another = key == turn.driven.turns.next || (key == turn.driven.turns.beside && is_of old.hub turn.driven.turns.kind entry) in
         let parts = and_parts (not another) (is_of old.hub Any entry) is_so in
         let waits : waits_as old.hub Any polled ≡ true = ap (waits_as old.hub Any) is ∙ ap (λ s. is_ready s && is_of old.hub Any entry) ready ∙ parts.1 in
         let differs : (key == turn.driven.turns.next) ≡ false = not_first (key == turn.driven.turns.next) _ parts.0 in
         let after = passed tells traffic 0 entry ready in
-        let ends = still_ready after.0 (told ∙ ap (λ b. after_turn b (Some entry)) is_so ∙ after.1) after.2 after.3 in
+        let ends = still_ready after.0 (turned ∙ ap (λ b. after_turn b (Some entry)) is_so ∙ after.1) after.2 after.3 in
         elim (nearer (λ other. waits_as old.hub Any (after_poll (items new.poller.events) other (slot_at old.table.slots other))) old.turns.next
         turn.driven.turns.next key turn.drives.turn_of.next old.next_place place waits) [
           | inl same ↦ absurd (apart key turn.driven.turns.next differs same)
@@ -225,7 +226,7 @@ module _ {D : Type 0} {g : Ghosts D} (tells : Type 0) (traffic : Socket
     pub soon : IsDrivenSoon tells traffic old new turn key
     soon = record { soon = by_passed (is_passed old.hub turn.driven.turns key (Some entry)) refl; bound = behind_few old.turns.next key place }
 
-  -- who is ready once the poll told stands at a place of the table
+  -- who is ready once the poll reported stands at a place of the table
   polled_place : (entry : Entry (BufferedStream Socket)) → polled ≡ Some entry → key < 128
   polled_place entry is =
       let before = was_told (items new.poller.events) key (slot_at old.table.slots key) entry is in

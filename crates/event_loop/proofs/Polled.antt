@@ -22,7 +22,7 @@ use Rattle.event_loop.specs.Leavings.EndEach.{NoneEnded, OneMore}
 use Rattle.event_loop.specs.Lingerings.{Lingerers}
 use Rattle.event_loop.specs.Order.{after_turn}
 use Rattle.event_loop.specs.Sockets.{SocketsTell, traffic_of}
-use Rattle.event_loop.specs.Tables.{EndsTurn, after_event, after_poll, slot_at, told, told_slot}
+use Rattle.event_loop.specs.Tables.{EndsTurn, after_event, after_poll, slot_at, reported, reported_slot}
 use Rattle.event_loop.specs.declared.socket.Socket.{Socket}
 
 mapped_some : {A B : Type 0} (f : A → B) (o p : Option A) (y : A) → option_map f p ≡ option_map f o → p ≡ Some y → (x : A) × (o ≡ Some x) × (f y ≡ f x)
@@ -45,7 +45,7 @@ was_gone Idle false gone = gone
 pub gone_as : (a b : EntryState) → is_gone a ≡ is_gone b → a ≡ Gone → b ≡ Gone
 gone_as a b same gone = gone_at b (sym same ∙ ap is_gone gone)
 
--- each slot is as the poll told, or passed over
+-- each slot is as the poll reported, or passed over
 abbrev pub TakesTurns : {T : Type 0} → (old new : Slots (BufferedStream T)) → List Event → Type 0
 TakesTurns old new events = (key : ℕ) → (passed : Bool) × (slot_at new key ≡ after_turn passed (after_poll events key (slot_at old key)))
 
@@ -59,54 +59,54 @@ module _ {T : Type 0} where
       → slot_at (set slots key (Some entry)) key ≡ Some entry
   put_there slots key old entry e = get_or-set_same slots key (Some entry) None (below slots key old e)
 
-  -- a slot was told of, and the others are as they were
-  poll_step : (slots new : Slots (BufferedStream T)) (t : ℕ) (on : Bool) → slot_at new t ≡ told_slot true on (slot_at slots t)
+  -- a slot was reported, and the others are as they were
+  poll_step : (slots new : Slots (BufferedStream T)) (t : ℕ) (on : Bool) → slot_at new t ≡ reported_slot true on (slot_at slots t)
       → ((other : ℕ) → other ≢ t → slot_at new other ≡ slot_at slots other)
-      → (key : ℕ) → slot_at new key ≡ told_slot (t == key) on (slot_at slots key)
+      → (key : ℕ) → slot_at new key ≡ reported_slot (t == key) on (slot_at slots key)
   poll_step slots new t on here others key = grind (arith, common_steps, others key)
 
   module _ {R : Type 0} (now : R
       → Event) (yielded : List R) (event : R) (initial slots : Slots (BufferedStream T)) (t : ℕ) (names : t ≡ (event_token (now event)).0)
       (before : (key : ℕ) → slot_at slots key ≡ after_poll (map now yielded) key (slot_at initial key)) where
     more : (on : Bool) → on ≡ (is_priority (now event) || is_read_closed (now event)) → (key : ℕ) (new : Slots (BufferedStream T))
-        → slot_at new key ≡ told_slot (t == key) on (slot_at slots key)
+        → slot_at new key ≡ reported_slot (t == key) on (slot_at slots key)
         → slot_at new key ≡ after_poll (map now (yielded ++ event ∷ [])) key (slot_at initial key)
     more on on_is key new step =
         rw (step, before key, names, on_is, poll_more)
 
     pub polled_more_some : (on : Bool) → on ≡ (is_priority (now event) || is_read_closed (now event)) → (entry marked : Entry (BufferedStream T))
-        → slot_at slots t ≡ Some entry → marked ≡ told on entry
+        → slot_at slots t ≡ Some entry → marked ≡ reported on entry
         → (key : ℕ) → slot_at (set slots t (Some marked)) key ≡ after_poll (map now (yielded ++ event ∷ [])) key (slot_at initial key)
     polled_more_some on on_is entry marked is same key =
-        let here : slot_at (set slots t (Some marked)) t ≡ told_slot true on (slot_at slots t) =
-        put_there slots t entry marked is ∙ ap (λ (x : Entry (BufferedStream T)). Some x) same ∙ ap (told_slot true on) (sym is) in
+        let here : slot_at (set slots t (Some marked)) t ≡ reported_slot true on (slot_at slots t) =
+        put_there slots t entry marked is ∙ ap (λ (x : Entry (BufferedStream T)). Some x) same ∙ ap (reported_slot true on) (sym is) in
         more on on_is key (set slots t (Some marked))
         (poll_step slots (set slots t (Some marked)) t on here (λ other differs. get_or-set_other slots t other (Some marked) None differs) key)
 
     pub polled_more_none : slot_at slots t ≡ None → (key : ℕ) → slot_at slots key ≡ after_poll (map now (yielded ++ event ∷ [])) key (slot_at initial key)
     polled_more_none is key =
         let on = is_priority (now event) || is_read_closed (now event) in
-        more on refl key slots (poll_step slots slots t on (is ∙ ap (told_slot true on) (sym is)) (λ other differs. refl) key)
+        more on refl key slots (poll_step slots slots t on (is ∙ ap (reported_slot true on) (sym is)) (λ other differs. refl) key)
 
   -- what a poll leaves of an entry: its session, whether it is gone, and what its stream has moved
   module _ (traffic : T → Traffic) where
     abbrev left : Entry (BufferedStream T) → ℕ × Bool × Traffic
     left entry = (entry.session, is_gone entry.state, traffic_through traffic entry.stream)
 
-    told_left : (b on : Bool) (slot : Option (Entry (BufferedStream T))) → option_map left (told_slot b on slot) ≡ option_map left slot
-    told_left b on slot = grind arith
+    reported_left : (b on : Bool) (slot : Option (Entry (BufferedStream T))) → option_map left (reported_slot b on slot) ≡ option_map left slot
+    reported_left b on slot = grind arith
 
     poll_left : (events : List Event) (key : ℕ) (slot : Option (Entry (BufferedStream T))) → option_map left (after_poll events key slot) ≡ option_map left slot
     poll_left [] key slot = refl
     poll_left (event ∷ events) key slot =
-        poll_left events key (after_event event key slot) ∙ told_left ((event_token event).0 == key) (is_priority event || is_read_closed event) slot
+        poll_left events key (after_event event key slot) ∙ reported_left ((event_token event).0 == key) (is_priority event || is_read_closed event) slot
 
     turn_left : (passed : Bool) (slot : Option (Entry (BufferedStream T))) → option_map left (after_turn passed slot) ≡ option_map left slot
     turn_left passed slot = grind arith
 
-    taken_left : (events : List Event) (key : ℕ) (passed : Bool) (slot new : Option (Entry (BufferedStream T)))
+    sent_left : (events : List Event) (key : ℕ) (passed : Bool) (slot new : Option (Entry (BufferedStream T)))
         → new ≡ after_turn passed (after_poll events key slot) → option_map left new ≡ option_map left slot
-    taken_left events key passed slot new e = ap (option_map left) e ∙ turn_left passed (after_poll events key slot) ∙ poll_left events key slot
+    sent_left events key passed slot new e = ap (option_map left) e ∙ turn_left passed (after_poll events key slot) ∙ poll_left events key slot
 
     -- so one entry is as the other was, or will be
     pub record IsLeft (entry other : Entry (BufferedStream T)) : Type 0 where
@@ -135,12 +135,12 @@ module _ {T : Type 0} where
       pub was_polled : (key : ℕ) (entry : Entry (BufferedStream T)) → slot_at new key ≡ Some entry
           → (before : Entry (BufferedStream T)) × (slot_at old key ≡ Some before) × IsLeft entry before
       was_polled key entry e =
-          is_left (slot_at old key) (slot_at new key) entry (taken_left events key (polled key).0 (slot_at old key) (slot_at new key) (polled key).1) e
+          is_left (slot_at old key) (slot_at new key) entry (sent_left events key (polled key).0 (slot_at old key) (slot_at new key) (polled key).1) e
 
       pub then_polled : (key : ℕ) (entry : Entry (BufferedStream T)) → slot_at old key ≡ Some entry
           → (after : Entry (BufferedStream T)) × (slot_at new key ≡ Some after) × IsLeft entry after
       then_polled key entry e =
-          is_left (slot_at new key) (slot_at old key) entry (sym (taken_left events key (polled key).0 (slot_at old key) (slot_at new key) (polled key).1)) e
+          is_left (slot_at new key) (slot_at old key) entry (sym (sent_left events key (polled key).0 (slot_at old key) (slot_at new key) (polled key).1)) e
 
   -- ---- the end of a turn
 

@@ -5,7 +5,7 @@ use Rattle.std.proofs.lemmas.Bool.{cases_eq}
 use Rattle.std.proofs.lemmas.List.{append-nil, map-append}
 use Rattle.std.specs.Result.{result_ok}
 use Rattle.socket_calls.specs.HappenedCalls.{WasReceived, WasSent}
-use Rattle.socket_calls.specs.OpenFacts.{departed, given, latest, moved, next, taken}
+use Rattle.socket_calls.specs.OpenFacts.{departed, bytes_received, latest, moved, next, bytes_sent}
 use Rattle.socket_calls.specs.declared.counted.CountedSocket.{CountedSocket}
 use Rattle.stream_driver.proofs.Buffering.{none_departed}
 use Rattle.stream_driver.specs.Buffers.{IsNew}
@@ -38,45 +38,48 @@ module _ {E : Type 0} (old mid new : CountedSocket) (bytes : List ℕ) (outcome 
   ]
 
   module _ (happened : old.calls ≢ 2 ^ 64 - 1 → WasReceived old went) where
-    pub given_read : (answer : ReadAnswer) → bytes_read answer ≡ moved outcome → SocketsTell → given new ≡ given old ++ take (bytes_read answer) bytes
-    given_read answer count tells =
-        by_calls (λ s gone. given s ≡ given old ++ gone) (sym (append-nil (given old))) (λ fewer. (tells.received old went (happened fewer)).0)
-        ∙ ap (λ n. given old ++ take n bytes) (sym count)
+    pub received_read : (answer : ReadAnswer) → bytes_read answer ≡ moved outcome → SocketsTell → bytes_received new ≡ bytes_received old
+        ++ take (bytes_read answer) bytes
+    received_read answer count tells =
+        by_calls (λ s gone. bytes_received s ≡ bytes_received old ++ gone) (sym (append-nil (bytes_received old)))
+        (λ fewer. (tells.received old went (happened fewer)).0)
+        ∙ ap (λ n. bytes_received old ++ take n bytes) (sym count)
 
     none_left : SocketsTell → departed new ≡ departed old
     none_left tells = by_calls (λ s gone. departed s ≡ departed old) refl (λ fewer. (tells.received old went (happened fewer)).1)
 
-    pub taken_read : SocketsTell → taken new ≡ taken old
-    taken_read tells = ap (λ l. latest [] l) (none_left tells)
+    pub sent_read : SocketsTell → bytes_sent new ≡ bytes_sent old
+    sent_read tells = ap (λ l. latest [] l) (none_left tells)
 
     pub departed_read : (moment : ℕ) (before after : Traffic) → before.departed ≡ map departure_of (departed old)
         → after.departed ≡ map departure_of (departed new) → SocketsTell → DepartAt moment before after
     departed_read moment before after was is tells = none_departed (is ∙ ap (λ l. map departure_of l) (none_left tells) ∙ sym was)
 
   module _ (moment : ℕ) (happened : old.calls ≢ 2 ^ 64 - 1 → WasSent old went moment) where
-    pub given_written : SocketsTell → given new ≡ given old
-    given_written tells = by_calls (λ s gone. given s ≡ given old) refl (λ fewer. (tells.sent old went moment (happened fewer)).0)
+    pub received_written : SocketsTell → bytes_received new ≡ bytes_received old
+    received_written tells = by_calls (λ s gone. bytes_received s ≡ bytes_received old) refl (λ fewer. (tells.sent old went moment (happened fewer)).0)
 
-    all_taken : SocketsTell → taken new ≡ taken old ++ went
-    all_taken tells = by_calls (λ s gone. taken s ≡ taken old ++ gone) (sym (append-nil (taken old))) (λ fewer.
-        ap (λ l. latest [] l) (tells.sent old went moment (happened fewer)).1 ∙ latest-append [] (departed old) (taken old ++ went, moment))
+    all_sent : SocketsTell → bytes_sent new ≡ bytes_sent old ++ went
+    all_sent tells = by_calls (λ s gone. bytes_sent s ≡ bytes_sent old ++ gone) (sym (append-nil (bytes_sent old))) (λ fewer.
+        ap (λ l. latest [] l) (tells.sent old went moment (happened fewer)).1 ∙ latest-append [] (departed old) (bytes_sent old ++ went, moment))
 
     pub departed_written : (before after : Traffic) → before.departed ≡ map departure_of (departed old) → after.departed ≡ map departure_of (departed new)
-        → after.taken ≡ taken new → SocketsTell → DepartAt moment before after
+        → after.sent ≡ bytes_sent new → SocketsTell → DepartAt moment before after
     departed_written before after was is took tells =
-        by_calls (λ s gone. after.departed ≡ map departure_of (departed s) → after.taken ≡ taken old ++ gone → DepartAt moment before after)
+        by_calls (λ s gone. after.departed ≡ map departure_of (departed s) → after.sent ≡ bytes_sent old ++ gone → DepartAt moment before after)
         (λ is took. none_departed (is ∙ sym was))
         (λ fewer is took. record {
-          departures = departure_of (taken old ++ went, moment) ∷ [];
+          departures = departure_of (bytes_sent old ++ went, moment) ∷ [];
           departed_are =
               is ∙ ap (λ l. map departure_of l) (tells.sent old went moment (happened fewer)).1
-              ∙ map-append departure_of (departed old) ((taken old ++ went, moment) ∷ [])
-              ∙ ap (λ l. l ++ departure_of (taken old ++ went, moment) ∷ []) (sym was);
-          each = ((refl, record { rest = []; all_is = took ∙ sym (append-nil (taken old ++ went)) }), tt);
-        }) is (took ∙ all_taken tells)
+              ∙ map-append departure_of (departed old) ((bytes_sent old ++ went, moment) ∷ [])
+              ∙ ap (λ l. l ++ departure_of (bytes_sent old ++ went, moment) ∷ []) (sym was);
+          each = ((refl, record { rest = []; all_is = took ∙ sym (append-nil (bytes_sent old ++ went)) }), tt);
+        }) is (took ∙ all_sent tells)
 
-    pub taken_written : (answer : WriteAnswer) → bytes_written answer ≡ moved outcome → SocketsTell → taken new ≡ taken old ++ take (bytes_written answer) bytes
-    taken_written answer count tells = all_taken tells ∙ ap (λ n. taken old ++ take n bytes) (sym count)
+    pub sent_written : (answer : WriteAnswer) → bytes_written answer ≡ moved outcome → SocketsTell → bytes_sent new ≡ bytes_sent old
+        ++ take (bytes_written answer) bytes
+    sent_written answer count tells = all_sent tells ∙ ap (λ n. bytes_sent old ++ take n bytes) (sym count)
 
 -- a stream that was made for a new connection
 pub prepared : {E : Type 0} (key session : ℕ) (inner : Socket) (made : Result (BufferedStream Socket) E) (result : Option (BufferedStream Socket))

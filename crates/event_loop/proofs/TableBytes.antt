@@ -61,8 +61,8 @@ module _ {T : Type 0} (tells : Type 0) (traffic : T → Traffic) where
         runs.last,
         ap (stream_of later.hub) d.session ∙ ap (λ (p : Point). stream_of p.hub old.session) ends ∙ runs.last_is,
         λ t. (
-          d.drove.carried.given t ∙ ap (λ l. l ++ history.received) ((has.2 t).0 ∙ ap (λ (x : SessionStream). x.received) same) ∙ sym history.received_is,
-          d.drove.carried.taken t ∙ ap (λ l. l ++ history.sent) ((has.2 t).1 ∙ ap (λ (x : SessionStream). x.sent) same) ∙ sym history.sent_is,
+          d.drove.carried.received t ∙ ap (λ l. l ++ history.received) ((has.2 t).0 ∙ ap (λ (x : SessionStream). x.received) same) ∙ sym history.received_is,
+          d.drove.carried.sent t ∙ ap (λ l. l ++ history.sent) ((has.2 t).1 ∙ ap (λ (x : SessionStream). x.sent) same) ∙ sym history.sent_is,
         ),
       )
   entry_bytes _ earlier old later new d alive has =
@@ -147,27 +147,27 @@ module _ {T : Type 0} (tells : Type 0) (traffic : T → Traffic) where
   -- ---- the table alone changes
 
   kept_bytes : (h : HubState) (before entry : Entry T) → entry.session ≡ before.session
-      → (tells → ((traffic entry.stream).given ≡ (traffic before.stream).given) × ((traffic entry.stream).taken ≡ (traffic before.stream).taken))
+      → (tells → ((traffic entry.stream).received ≡ (traffic before.stream).received) × ((traffic entry.stream).sent ≡ (traffic before.stream).sent))
       → HasItsBytes tells traffic h before → HasItsBytes tells traffic h entry
   kept_bytes h before entry session moved has = (has.0, ap (stream_of h) session ∙ has.1, λ t. ((moved t).0 ∙ (has.2 t).0, (moved t).1 ∙ (has.2 t).1))
 
--- ---- streams that hold bytes
+-- ---- streams that buffer bytes
 
 module _ {T : Type 0} (tells : Type 0) (traffic : T → Traffic) (moment : ℕ) where
   abbrev through : BufferedStream T → Traffic
   through = traffic_through traffic
 
-  -- what the end of a drive leaves of a stream: it took nothing, and what left leaves now
+  -- what the end of a drive leaves of a stream: nothing was written to it, and what left leaves now
   pub record IsFinished (old new : BufferedStream T) : Type 0 where
     pub connection : (through new).connection ≡ (through old).connection
-    pub given : tells → (through new).given ≡ (through old).given
-    pub taken : tells → (through new).taken ≡ (through old).taken
+    pub received : tells → (through new).received ≡ (through old).received
+    pub sent : tells → (through new).sent ≡ (through old).sent
     pub departed : tells → DepartAt moment (through old) (through new)
 
   still_finished : (old new : BufferedStream T) → new ≡ fresh old → IsFinished old new
   still_finished old new same =
       subst (λ (b : BufferedStream T). IsFinished old b) (sym same)
-      (record { connection = refl; given = λ t. refl; taken = λ t. refl; departed = λ t. none_departed refl })
+      (record { connection = refl; received = λ t. refl; sent = λ t. refl; departed = λ t. none_departed refl })
 
   pub finished : (state : EntryState) (old new : BufferedStream T) → EndsIn tells traffic moment state old new → IsFinished old new
   finished Idle old new ends = still_finished old new ends
@@ -175,8 +175,8 @@ module _ {T : Type 0} (tells : Type 0) (traffic : T → Traffic) (moment : ℕ) 
     | inl same ↦ still_finished old new same.1
     | inr y ↦ record {
       connection = flushed_same traffic (fresh old) new y.1 y.2.why;
-      given = y.2.kept.given;
-      taken = y.2.kept.taken;
+      received = y.2.kept.received;
+      sent = y.2.kept.sent;
       departed = y.2.kept.departed;
     }
   ]
@@ -187,7 +187,7 @@ module _ {T : Type 0} (tells : Type 0) (traffic : T → Traffic) (moment : ℕ) 
       → HaveBytes tells through h slots → HaveBytes tells through h ready
   polled_bytes slots ready events polled h has key entry e alive =
       let b = was_polled traffic slots ready events polled key entry e in
-      kept_bytes tells through h b.0 entry b.2.session (λ t. (ap (λ (x : Traffic). x.given) b.2.through, ap (λ (x : Traffic). x.taken) b.2.through))
+      kept_bytes tells through h b.0 entry b.2.session (λ t. (ap (λ (x : Traffic). x.received) b.2.through, ap (λ (x : Traffic). x.sent) b.2.through))
       (has key b.0 b.1 (λ gone. alive (gone_as b.0.state entry.state (sym b.2.gone) gone)))
 
   module _ (slots ready driven new : Slots (BufferedStream T)) (events : List Event) (polled : TakesTurns slots ready events)
@@ -196,6 +196,6 @@ module _ {T : Type 0} (tells : Type 0) (traffic : T → Traffic) (moment : ℕ) 
     drives_bytes h k d has key entry e alive =
         let b = was_driven tells traffic moment (slot_at driven key) (slot_at new key) entry (ended key) e in
         let f = finished entry.state b.0.stream entry.stream b.2.stream in
-        kept_bytes tells through k.hub b.0 entry b.2.session (λ t. (f.given t, f.taken t))
+        kept_bytes tells through k.hub b.0 entry b.2.session (λ t. (f.received t, f.sent t))
         (driven_bytes tells through h ready k driven d own (polled_bytes slots ready events polled h.hub has) key b.0 b.1
         (λ gone. alive (b.2.state ∙ gone_at_end b.0.state (has_had_share b.0.stream) gone)))

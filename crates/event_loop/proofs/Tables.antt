@@ -27,13 +27,13 @@ use Rattle.stream_driver.specs.declared.entries.Entry.{Entry}
 use Rattle.stream_driver.specs.declared.entries.EntryState.TheVariants.{Ready, Gone}
 use Rattle.event_loop.proofs.Present.{joins_other, joins_same, joins_not}
 use Rattle.event_loop.proofs.Slots.{Slots}
-use Rattle.event_loop.specs.Accepts.{Accepts, after_accept, after_taken, more}
+use Rattle.event_loop.specs.Accepts.{Accepts, after_accept, after_accepted, more}
 use Rattle.event_loop.specs.Numbers.{AreBelow}
-use Rattle.event_loop.specs.Tables.{Admits, LetsIn, HaveEntries, IsTried, IsWithoutEntry, slot_at, ComeEach, Comes}
+use Rattle.event_loop.specs.Tables.{Admits, LetsIn, IsTried, IsWithoutEntry, slot_at, ComeEach, Comes}
 use Rattle.event_loop.specs.Tables.{TableStands, join_of, joins_of, refusals_in, refusals_of}
 use Rattle.event_loop.specs.Tables.AdmitsEach.{Nobody, OneMore}
 use Rattle.event_loop.specs.declared.listener.AcceptAnswer.{AcceptAnswer}
-use Rattle.event_loop.specs.declared.listener.AcceptAnswer.TheVariants.{Taken, Blocked, Failed}
+use Rattle.event_loop.specs.declared.listener.AcceptAnswer.TheVariants.{Accepted, Blocked, Failed}
 
 -- a session was to join
 module _ {D : Type 0} {g : Ghosts D} (hub later : Hub D g) (s : ℕ) (outcome : Outcome) (leads : HubLeads hub later (Joins s) outcome) (some : Stands hub) where
@@ -170,22 +170,22 @@ more_none c = none_yet (2 ^ 64 - 1) c
 more_more : (m n c : ℕ) → more n (more m c) ≡ more (m + n) c
 more_more m n c = with_top (2 ^ 64 - 1) c m n
 
-pub taken_none : (a : Accepts) → a ≡ after_taken 0 a
-taken_none a =
-    ap (λ n. record a { asked = n }) (more_none a.asked) ∙ ap (λ t. record a { asked = more 0 a.asked; taken = t }) (more_none a.taken)
+pub accepted_none : (a : Accepts) → a ≡ after_accepted 0 a
+accepted_none a =
+    ap (λ n. record a { asked = n }) (more_none a.asked) ∙ ap (λ t. record a { asked = more 0 a.asked; accepted = t }) (more_none a.accepted)
 
-pub taken_one : (n : ℕ) (a b c : Accepts) → b ≡ after_taken n a → c ≡ record b { asked = one_more b.asked; taken = one_more b.taken }
-    → c ≡ after_taken (n + 1) a
-taken_one n a b c is step =
-    step ∙ ap (λ (b : Accepts). record b { asked = one_more b.asked; taken = one_more b.taken }) is
-    ∙ ap (λ m. record a { asked = m; taken = one_more (more n a.taken) }) (more_more n 1 a.asked)
-    ∙ ap (λ t. record a { asked = more (n + 1) a.asked; taken = t }) (more_more n 1 a.taken)
+pub accepted_one : (n : ℕ) (a b c : Accepts) → b ≡ after_accepted n a → c ≡ record b { asked = one_more b.asked; accepted = one_more b.accepted }
+    → c ≡ after_accepted (n + 1) a
+accepted_one n a b c is step =
+    step ∙ ap (λ (b : Accepts). record b { asked = one_more b.asked; accepted = one_more b.accepted }) is
+    ∙ ap (λ m. record a { asked = m; accepted = one_more (more n a.accepted) }) (more_more n 1 a.asked)
+    ∙ ap (λ t. record a { asked = more (n + 1) a.asked; accepted = t }) (more_more n 1 a.accepted)
 
 -- an accept was asked and answered so
 module _ (answer : AcceptAnswer) (a : Accepts) (asked counted : ℕ) where
-  pub taken_counted : (stream : AcceptedSocket) → answer ≡ Taken stream → asked ≡ one_more a.asked → counted ≡ one_more a.taken
-      → record a { asked = asked; taken = counted } ≡ after_accept answer a
-  taken_counted stream is once more = rw (is, once, more) refl
+  pub accepted_counted : (stream : AcceptedSocket) → answer ≡ Accepted stream → asked ≡ one_more a.asked → counted ≡ one_more a.accepted
+      → record a { asked = asked; accepted = counted } ≡ after_accept answer a
+  accepted_counted stream is once more = rw (is, once, more) refl
 
   pub blocked_counted : answer ≡ Blocked → asked ≡ one_more a.asked → counted ≡ one_more a.blocked
       → record a { asked = asked; blocked = counted } ≡ after_accept answer a

@@ -1,4 +1,4 @@
--- Drives, accepts and turns keep the bytes of the connections those of their sessions, and so does a hub that rests as it gives back what nobody needs.
+-- Drives, accepts and turns keep the bytes of the connections those of their sessions, and so does a hub that rests as it frees what nobody needs.
 use Rattle.std.proofs.Common.{◌≡◌, ◌≢◌, ◌⊎◌, inl, inr, ℕ, ◌<◌, List, [], ◌++◌, Some, IfSome, sym, ap, subst, ◌∙◌}
 use Rattle.std.proofs.Common.{arith, Bool, true, false, refl}
 use Rattle.std.proofs.lemmas.Bool.{cases_eq}
@@ -42,7 +42,7 @@ use Rattle.event_loop.specs.declared.socket.Socket.{Socket}
 
 module _ {T D : Type 0} {g : Ghosts D} (tells : Type 0) (traffic : T → Traffic) (IsNew : ℕ → ℕ → T → Type 0)
     (begins : (key s : ℕ) (stream : T) → IsNew key s stream → tells
-    → ((traffic stream).given ≡ []) × ((traffic stream).taken ≡ [])) where
+    → ((traffic stream).received ≡ []) × ((traffic stream).sent ≡ [])) where
   module _ (hub later : Hub D g) (next then : ℕ) (slots new : Slots T) (h : HubState) (stands : StandsFor hub h) (numbers : AreBelow next slots)
       (has : HaveBytes tells traffic h slots) where
     in_bytes : (l : LetsIn IsNew hub next slots later then new) → HaveBytes tells traffic (hub_step h (Joins next) l.joined.0).0 new
@@ -98,26 +98,25 @@ module _ {T D : Type 0} {g : Ghosts D} (tells : Type 0) (traffic : T → Traffic
 
 -- nothing has moved through a new connection
 pub new_begins : (key s : ℕ) (b : BufferedStream Socket) → IsNewSocket key s b → SocketsTell
-    → ((traffic_through traffic_of b).given ≡ []) × ((traffic_through traffic_of b).taken ≡ [])
+    → ((traffic_through traffic_of b).received ≡ []) × ((traffic_through traffic_of b).sent ≡ [])
 new_begins key s b n t = (
-  ap (λ (s : Socket). (traffic_of s).given) n.2.inner_is ∙ n.1.given t,
-  ap (λ l. (traffic_of b.inner).taken ++ l) n.2.nothing ∙ append-nil (traffic_of b.inner).taken ∙ ap (λ (s : Socket). (traffic_of s).taken) n.2.inner_is
-      ∙ n.1.taken t,
+  ap (λ (s : Socket). (traffic_of s).received) n.2.inner_is ∙ n.1.received t,
+  ap (λ l. (traffic_of b.inner).sent ++ l) n.2.nothing ∙ append-nil (traffic_of b.inner).sent ∙ ap (λ (s : Socket). (traffic_of s).sent) n.2.inner_is
+      ∙ n.1.sent t,
 )
 
 -- ---- what the connections say
 
-pub all_found : (s : ℕ) (es : List (ℕ × SessionStream)) (st : SessionStream) → AllByRecursion (λ e. IsSessionStream e.1) es → lookup (test s) es ≡ Some st
-    → IsSessionStream st
-all_found s es st all e =
-    subst (λ o. IfSome o IsSessionStream) e (All-lookup IsSessionStream (test s) es (All-from_recursion (λ x. IsSessionStream x.1) es all))
+pub all_found : (P : SessionStream → Type 0) (s : ℕ) (es : List (ℕ × SessionStream)) (st : SessionStream) → AllByRecursion (λ e. P e.1) es
+    → lookup (test s) es ≡ Some st → P st
+all_found P s es st all e = subst (λ o. IfSome o P) e (All-lookup P (test s) es (All-from_recursion (λ x. P x.1) es all))
 
 pub they_speak : (h : HubState) (slots : Slots (BufferedStream Socket)) → IsLawful h → HaveBytes SocketsTell (traffic_through traffic_of) h slots → SocketsTell
     → (key : ℕ) (entry : Entry (BufferedStream Socket)) → slot_at slots key ≡ Some entry → entry.state ≢ Gone
     → (st : SessionStream) × (stream_of h entry.session ≡ Some st) × SpeaksFor entry.stream st
 they_speak h slots lawful bytes tells key entry e alive =
     let has = bytes key entry e alive in
-    let is : IsSessionStream has.0 = all_found entry.session h.present has.0 lawful.present has.1 in
+    let is : IsSessionStream has.0 = all_found IsSessionStream entry.session h.present has.0 lawful.present has.1 in
     let carried = has.2 tells in (
       has.0,
       has.1,
@@ -161,10 +160,10 @@ module _ {D : Type 0} {g : Ghosts D} (follow : Follow D g) (old : Hub D g) (driv
       (subst (λ (x : Hub D g). KeepBytes old slots x driven.table.slots) (sym untouched.hub) keeps)
 
 -- what led to the hub before it rested leads to it
-module _ {D : Type 0} {g : Ghosts D} (follow : Follow D g) (old : Hub D g) (accepted new : EventLoop D g) (given : IsGivenBack accepted new) where
+module _ {D : Type 0} {g : Ghosts D} (follow : Follow D g) (old : Hub D g) (accepted new : EventLoop D g) (received : IsGivenBack accepted new) where
   pub rest_leads : (P : Point → Point → Type 0) → Leads old accepted.hub P → Leads old new.hub P
   rest_leads P leads =
-      leads_then follow old accepted.hub new.hub P _ P leads (leads_rest given.hub.ran) (λ h k l stands p same. subst (λ (x : Point). P h x) (sym same) p)
+      leads_then follow old accepted.hub new.hub P _ P leads (leads_rest received.hub.ran) (λ h k l stands p same. subst (λ (x : Point). P h x) (sym same) p)
 
   pub rest_keeps : (slots : Slots (BufferedStream Socket)) → KeepBytes old slots accepted.hub accepted.table.slots → KeepBytes old slots new.hub new.table.slots
-  rest_keeps slots keeps = subst (λ (t : Slab (Entry (BufferedStream Socket))). KeepBytes old slots new.hub t.slots) (sym given.table) (rest_leads _ keeps)
+  rest_keeps slots keeps = subst (λ (t : Slab (Entry (BufferedStream Socket))). KeepBytes old slots new.hub t.slots) (sym received.table) (rest_leads _ keeps)

@@ -8,6 +8,7 @@ use Rattle.model.specs.Operations.Response.{Number}
 use Rattle.sector.specs.declared.device.Sectors.{Ghosts}
 use Rattle.sessions.specs.Life.{Holds, MayFind}
 use Rattle.sessions.specs.Lives.{FollowOn, Life, LoseNothing, Served}
+use Rattle.sessions.specs.Readings.{HasOneReading}
 use Rattle.sessions.specs.SessionStreams.{HubState, hub_over, replies_text, run}
 use Rattle.sessions.specs.StandsFor.{device}
 use Rattle.sessions.specs.declared.hub.Hub.{Hub}
@@ -44,12 +45,12 @@ module _ {D : Type 0} {g : Ghosts D} {hub : Hub D g} (served : Served hub) where
   abbrev pub IsTold : ℕ → Departure → Type 0
   IsTold s d = IsToldBefore s (first_state served) served.first hub served.choices d
 
-  -- So it is of each departure of the session's stream, which has its number. All that the stream has taken was
-  -- answered, so what it holds may leave later.
+  -- So it is of each departure of the session's stream, which has its number. All that was written to the stream was
+  -- answered, so what it buffers may leave later.
   pub record Tells (s : ℕ) (t : Traffic) : Type 0 where
     pub number : t.connection ≡ s
     pub told : AllByRecursion (IsTold s) t.departed
-    pub answered : IsAnswered s (first_state served) served.choices t.taken
+    pub answered : IsAnswered s (first_state served) served.choices t.sent
 
   -- so it is of each entry, gone or not
   abbrev pub EntriesTell : List (Option (Entry (BufferedStream Socket))) → Type 0
@@ -60,13 +61,14 @@ module _ {D : Type 0} {g : Ghosts D} {hub : Hub D g} (served : Served hub) where
   abbrev pub LingerersTell : List Lingerer → Type 0
   LingerersTell all = AllByRecursion (λ l. Tells (session_of l.socket) (traffic_of l.socket)) all
 
-  -- What left begins the texts of the machine's replies, and each number among these is that of a transaction committed
-  -- by then. A crash at the moment of the departure or since leaves no map that is older than the one committed there.
-  -- So whatever lives follow, the first begins with such a map, and each other with one that the life before it may
-  -- have left.
+  -- What left begins the texts of the machine's replies, which have one reading, and each number among these is that of
+  -- a transaction committed by then. A crash at the moment of the departure or since leaves no map that is older than
+  -- the one committed there. So whatever lives follow, the first begins with such a map, and each other with one that
+  -- the life before it may have left.
   pub record IsKept (s : ℕ) (d : Departure) : Type 0 where
     pub told : IsTold s d
     pub texts : IsBeginning d.bytes (replies_text told.told.stream)
+    pub reading : HasOneReading told.told.stream
     pub committed : AllByRecursion (IsCommitted (run (first_state served) told.before).machine.history)
         told.told.stream.replies
     pub left : g.keeps_model → (c : List (List ℕ)) → g.left_since (device hub) d.moment c
@@ -75,7 +77,7 @@ module _ {D : Type 0} {g : Ghosts D} {hub : Hub D g} (served : Served hub) where
         → LoseNothing (MayFind (first_state served) served.choices (length told.before)) lives
 
 -- The hub is on a run from an opening. In the state to which it has come each connection has the bytes of its session;
--- what left over each is told before.
+-- what left over each was answered before.
 pub record Serving {D : Type 0} {g : Ghosts D} (hub : Hub D g) (slots : List (Option (Entry (BufferedStream Socket))))
     (lingerers : List Lingerer) : Type 0 where
   pub served : Served hub
@@ -86,18 +88,6 @@ pub record Serving {D : Type 0} {g : Ghosts D} (hub : Hub D g) (slots : List (Op
 abbrev pub IsServing : {D : Type 0} {g : Ghosts D} → Hub D g → List (Option (Entry (BufferedStream Socket)))
     → List Lingerer → Type 0
 IsServing hub slots lingerers = ∥ Serving hub slots lingerers ∥₁
-
--- There is a run from an opening to this hub in which each departure of each connection is kept: of each in the table,
--- which is that of its session, and of each that lingers, as one of the session that it had.
-abbrev pub KeepsWhatLeft : {D : Type 0} {g : Ghosts D} → Hub D g → List (Option (Entry (BufferedStream Socket)))
-    → List Lingerer → Type 0
-KeepsWhatLeft hub slots lingerers =
-    ∥ ((served : Served hub)
-    × ((key : ℕ) (entry : Entry (BufferedStream Socket)) → slot_at slots key ≡ Some entry
-    → (session_of entry.stream.inner ≡ entry.session)
-    × AllByRecursion (IsKept served entry.session) (traffic_of entry.stream.inner).departed)
-    × AllByRecursion (λ l. AllByRecursion (IsKept served (session_of l.socket)) (traffic_of l.socket).departed)
-    lingerers) ∥₁
 
 -- This holds of each session and of what its connection has moved, as a turn leaves it: of each entry after its drive,
 -- whether it stays or is taken out; of each connection that lingered before the turn; and of each that was turned,

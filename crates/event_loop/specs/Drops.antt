@@ -8,7 +8,7 @@ use Rattle.event_loop.specs.declared.lingering.Dropped.TheVariants.{Blocked, All
 abbrev pub Rose : ℕ → ℕ → Type 0
 Rose old new = one_more old ≤ new
 
--- so many bytes were given to a reader that asked for no more than `most`
+-- so many bytes were read, `most` at most
 abbrev pub GivesAtMost : Dropped → ℕ → ℕ → ℕ → Type 0
 GivesAtMost (Blocked n) most before after = after ≡ before + n
 GivesAtMost All most before after = after ≡ before + most

@@ -42,8 +42,8 @@ module _ (moment : ℕ) where
     pub each : EndEach slots old keys new later
 
   -- first the drives end, and then those that linger are turned
-  pub record LingerOn (is_told : Bool) (slots : List (Option (Entry (BufferedStream Socket)))) (old : Lingerers)
+  pub record LingerOn (is_reported : Bool) (slots : List (Option (Entry (BufferedStream Socket)))) (old : Lingerers)
       (new : List (Option (Entry (BufferedStream Socket)))) (later : Lingerers) : Type 0 where
     pub begun : Lingerers
     pub left : EndAll slots old new begun
-    pub turned : AreTurned moment is_told begun later
+    pub turned : AreTurned moment is_reported begun later

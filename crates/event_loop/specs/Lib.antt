@@ -1,4 +1,5 @@
 pub mod Accepts
+pub mod AllThatLeft
 pub mod Departures
 pub mod Drops
 pub mod Leavings

@@ -13,7 +13,7 @@ use Rattle.event_loop.specs.declared.lingering.Lingering.{Lingering}
 use Rattle.event_loop.specs.declared.lingering.TheConstants.{LINGERING_MAX, LINGERING_BYTES, LINGERING_BYTES_A_TURN}
 use Rattle.event_loop.specs.declared.socket.Socket.{Socket}
 
--- those that linger, oldest first; whether there may be input of which no poll will tell; and how often the system
+-- those that linger, oldest first; whether there may be input that no poll will report; and how often the system
 -- refused to let one linger
 pub record Lingerers : Type 0 where
   pub all : List Lingerer
@@ -40,7 +40,8 @@ with_one_more socket old =
     }
 
 -- A connection whose session has left lingers, if it is in order and the system doesn't refuse, which is counted, and
--- else is closed. One that lingers is shut down for writing, and the poll tells under the token of those that linger.
+-- else is closed. One that lingers is shut down for writing, and the poll reports it under the token of those that
+-- linger.
 abbrev pub Leaves : Socket → Lingerers → Lingerers → Type 0
 Leaves socket old new =
     ((IsInOrder (traffic_of socket) → ⊥) × (new ≡ old))
@@ -56,9 +57,9 @@ most_of lingerer = min lingerer.left LINGERING_BYTES_A_TURN
 
 -- what came in was dropped, at this moment of the device
 pub record DropsInput (moment : ℕ) (old : Lingerer) (dropped : Dropped) (new : Lingerer) : Type 0 where
-  pub given : SocketsTell → GivesAtMost dropped (most_of old) (length (traffic_of old.socket).given)
-      (length (traffic_of new.socket).given)
-  pub taken : SocketsTell → (traffic_of new.socket).taken ≡ (traffic_of old.socket).taken
+  pub received : SocketsTell → GivesAtMost dropped (most_of old) (length (traffic_of old.socket).received)
+      (length (traffic_of new.socket).received)
+  pub sent : SocketsTell → (traffic_of new.socket).sent ≡ (traffic_of old.socket).sent
   pub departed : SocketsTell → DepartAt moment (traffic_of old.socket) (traffic_of new.socket)
   pub connection : (traffic_of new.socket).connection ≡ (traffic_of old.socket).connection
   pub why : WhyDropped dropped (most_of old) (traffic_of old.socket) (traffic_of new.socket)
@@ -87,8 +88,8 @@ module _ (moment : ℕ) where
       ⊎ ((dropped : Dropped) × (later : Lingerer) × Stays first dropped later
       × (new ≡ record old { all = others ++ later ∷ []; has_more = old.has_more || is_all dropped }))
 
-  -- Each ends or stays, and those that stay keep their order. Of them there may be more input, of which no poll will
-  -- tell, where as much was dropped of one as was asked for.
+  -- Each ends or stays, and those that stay keep their order. Of them there may be more input, which no poll will
+  -- report, where as much was dropped of one as was asked for.
   abbrev pub AllTurned : List Lingerer → List Lingerer → Bool → Type 0
   AllTurned [] new more = (new ≡ []) × (more ≡ false)
   AllTurned (first ∷ others) new more =
@@ -102,9 +103,9 @@ module _ (moment : ℕ) where
   TurnedIf false old new = new ≡ old
   TurnedIf true old new = AllTurned old.all new.all new.has_more × (new.refused ≡ old.refused)
 
-  -- they are read where the poll told of them, or there may be input of which it won't tell
+  -- they are read where the poll reported them, or there may be input that it won't report
   abbrev pub AreTurned : Bool → Lingerers → Lingerers → Type 0
-  AreTurned is_told old new = TurnedIf (is_told || old.has_more) old new
+  AreTurned is_reported old new = TurnedIf (is_reported || old.has_more) old new
 
 -- ---- where an accept failed
 

@@ -18,8 +18,7 @@ pub record HasItsSessions {D : Type 0} {g : Ghosts D} (events : EventLoop D g) :
   pub have : HaveSessions events.hub events.table.slots
   pub all : HaveEntries events.hub events.table.slots
 
--- It listens at this address, and the poll tells under the listener's token of connections that wait, and of nothing
--- else.
+-- It listens at this address, and the poll reports under the listener's token that connections wait, and nothing else.
 pub record ListensFor {D : Type 0} {g : Ghosts D} (events : EventLoop D g) (address : SocketAddr) : Type 0 where
   pub listens : ListensAt events.port.listener address
   pub told : TellsOfAccepts events.port.listener LISTENER read_interests

@@ -1,4 +1,4 @@
--- What the system's answers to calls that don't wait are told as.
+-- What the system's answers to calls that don't wait are reported as.
 use Rattle.std.specs.IoError.{error_kind}
 use Rattle.std.specs.Prelude.{◌≡◌, ◌≢◌, ◌⊎◌, ◌<◌, ℕ, Result, Ok, Err}
 use Rattle.std.specs.declared.io.Error.{Error}
@@ -11,7 +11,7 @@ use Rattle.stream_driver.specs.declared.answers.WriteAnswer.{WriteAnswer}
 use Rattle.stream_driver.specs.declared.answers.WriteAnswer.TheVariants.{Moved as Wrote, Blocked as WriteBlocked}
 use Rattle.stream_driver.specs.declared.answers.WriteAnswer.TheVariants.{Failed as WriteFailed}
 use Rattle.event_loop.specs.declared.listener.AcceptAnswer.{AcceptAnswer}
-use Rattle.event_loop.specs.declared.listener.AcceptAnswer.TheVariants.{Taken, Blocked as AcceptBlocked}
+use Rattle.event_loop.specs.declared.listener.AcceptAnswer.TheVariants.{Accepted, Blocked as AcceptBlocked}
 use Rattle.event_loop.specs.declared.listener.AcceptAnswer.TheVariants.{Failed as AcceptFailed}
 
 -- a call that would have waited blocked, and any other that gave an error failed
@@ -32,5 +32,5 @@ WritesAs (Ok n) answer = MovesAs n WriteFailed (Wrote n) answer
 WritesAs (Err error) answer = ErrsAs error WriteBlocked WriteFailed answer
 
 abbrev pub AcceptsAs : Result (AcceptedSocket × SocketAddr) Error → AcceptAnswer → Type 0
-AcceptsAs (Ok taken) answer = answer ≡ Taken taken.0
+AcceptsAs (Ok accepted) answer = answer ≡ Accepted accepted.0
 AcceptsAs (Err error) answer = ErrsAs error AcceptBlocked AcceptFailed answer

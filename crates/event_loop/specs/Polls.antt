@@ -9,19 +9,19 @@ use Rattle.socket_calls.specs.declared.polled.CountedPoll.{CountedPoll}
 use Rattle.stream_driver.specs.Traffic.{one_more}
 use Rattle.event_loop.specs.declared.polling.Poller.{Poller}
 
--- how often it told, be it of no event, how often it failed, and of what kind the last call's fault was, none where
--- that told
+-- how often it succeeded, even with no event, how often it failed, and of what kind the last call's fault was, none
+-- where that succeeded
 pub record Polls : Type 0 where
-  pub told : ℕ
+  pub succeeded : ℕ
   pub failed : ℕ
   pub fault : Option ErrorKind
 
 abbrev pub polls_of : Poller → Polls
-polls_of poller = record { told = poller.told; failed = poller.failed; fault = poller.fault }
+polls_of poller = record { succeeded = poller.succeeded; failed = poller.failed; fault = poller.fault }
 
 -- the counts after one call that answered so
 abbrev pub after_wait : {A : Type 0} → Result A Error → Polls → Polls
-after_wait (Ok told) polls = record polls { told = one_more polls.told; fault = None }
+after_wait (Ok done) polls = record polls { succeeded = one_more polls.succeeded; fault = None }
 after_wait (Err fault) polls = record polls { failed = one_more polls.failed; fault = Some (error_kind fault) }
 
 -- the system's poll was asked once, to wait so long

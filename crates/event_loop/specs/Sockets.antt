@@ -6,7 +6,7 @@ use Rattle.mio.specs.declared.interest.Interest.{Interest}
 use Rattle.mio.specs.declared.token.Token.{Token}
 use Rattle.socket_calls.specs.HappenedCalls.{AsksWhetherThere, EndedWriting, SendsAtOnce, WasAnswered}
 use Rattle.socket_calls.specs.HappenedCalls.{WasReceived, WasRegistered, WasReregistered, WasSent}
-use Rattle.socket_calls.specs.OpenFacts.{departed, given, taken, next}
+use Rattle.socket_calls.specs.OpenFacts.{departed, bytes_received, bytes_sent, next}
 use Rattle.socket_calls.specs.declared.counted.CountedSocket.{CountedSocket}
 use Rattle.stream_driver.specs.Buffers.{IsNew}
 use Rattle.stream_driver.specs.Counts.{counted_with}
@@ -15,14 +15,15 @@ use Rattle.stream_driver.specs.declared.buffered.BufferedStream.{BufferedStream}
 use Rattle.event_loop.specs.declared.socket.Socket.{Socket}
 
 -- Nothing has moved over a connection of which no call was made, and each call that the run really made of one moved
--- the bytes that it gave or took, and no others; those that a write took left at the moment of the device that it was
--- shown. It is neither claimed nor denied: which bytes moved, and which calls were made, is open.
+-- the bytes that it read or wrote, and no others; those of a write left at the moment of the device that it was shown.
+-- It is neither claimed nor denied: which bytes moved, and which calls were made, is open.
 pub record SocketsTell : Type 0 where
-  pub begins : (s : CountedSocket) → s.calls ≡ 0 → (given s ≡ []) × (departed s ≡ [])
+  pub begins : (s : CountedSocket) → s.calls ≡ 0 → (bytes_received s ≡ []) × (departed s ≡ [])
   pub received : (s : CountedSocket) (bytes : List ℕ) → WasReceived s bytes
-      → (given (next s) ≡ given s ++ bytes) × (departed (next s) ≡ departed s)
+      → (bytes_received (next s) ≡ bytes_received s ++ bytes) × (departed (next s) ≡ departed s)
   pub sent : (s : CountedSocket) (bytes : List ℕ) (moment : ℕ) → WasSent s bytes moment
-      → (given (next s) ≡ given s) × (departed (next s) ≡ departed s ++ (taken s ++ bytes, moment) ∷ [])
+      → (bytes_received (next s) ≡ bytes_received s)
+      × (departed (next s) ≡ departed s ++ (bytes_sent s ++ bytes, moment) ∷ [])
 
 abbrev pub departure_of : List ℕ × ℕ → Departure
 departure_of d = record { bytes = d.0; moment = d.1 }
@@ -33,10 +34,11 @@ session_of s = s.socket.connection
 
 -- the bytes of a socket's connection, what left at which moment, its counts, its last call, and its number
 abbrev pub traffic_of : Socket → Traffic
-traffic_of s = counted_with s.counts (given s.socket) (taken s.socket) (map departure_of (departed s.socket))
+traffic_of s = counted_with s.counts (bytes_received s.socket) (bytes_sent s.socket)
+    (map departure_of (departed s.socket))
     s.socket.connection
 
--- It sends what it takes at once. A peer that is silent for two minutes is probed, and again each half minute, and
+-- It sends at once what is written. A peer that is silent for two minutes is probed, and again each half minute, and
 -- where it answers none of four probes the connection ends.
 pub record HasItsOptions (s : CountedSocket) : Type 0 where
   pub sends_at_once : SendsAtOnce s
@@ -46,12 +48,12 @@ pub record HasItsOptions (s : CountedSocket) : Type 0 where
 abbrev pub all_interests : Interest
 all_interests = record { priority = true; writable = true; readable = true }
 
--- The poll tells of it under the key of its place in the table.
+-- The poll reports it under the key of its place in the table.
 abbrev pub HasItsPlace : ℕ → CountedSocket → Type 0
 HasItsPlace key s = WasRegistered s (record { 0 = key }) all_interests
 
--- the stream at this place of the table of a connection for this session, of which no call was made, of which nothing
--- is held, and which has its options
+-- the stream at this place of the table of a connection for this session, of which no call was made, which buffers
+-- nothing, and which has its options
 abbrev pub IsNewSocket : (key session : ℕ) → BufferedStream Socket → Type 0
 IsNewSocket key session b =
     (inner : Socket) × IsUncalled SocketsTell session (traffic_of inner) × IsNew inner b × HasItsOptions inner.socket
@@ -65,7 +67,7 @@ read_interests = record { priority = false; writable = false; readable = true }
 abbrev pub IsRefused : Type 0
 IsRefused = (error : Error) × WasAnswered error
 
--- It was shut down for writing, and from then on the poll tells under this token of what comes in, and of nothing else.
+-- It was shut down for writing, and from then on the poll reports under this token what comes in, and nothing else.
 pub record IsHalfClosed (token : Token) (s : CountedSocket) : Type 0 where
   pub ended : EndedWriting s
   pub registered : WasReregistered s token read_interests

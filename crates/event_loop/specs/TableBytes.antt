@@ -2,9 +2,7 @@
 use Rattle.std.specs.Prelude.{◌≡◌, ◌≢◌, ℕ, ◌++◌, List, Option, Some}
 use Rattle.model.specs.Map.{Bytes}
 use Rattle.sector.specs.declared.device.Sectors.{Ghosts}
-use Rattle.sessions.specs.Laws.{IsLawful}
 use Rattle.sessions.specs.SessionStreams.{HubState, SessionStream, replies_text, requests_text, stream_of}
-use Rattle.sessions.specs.StandsFor.{StandsFor}
 use Rattle.sessions.specs.declared.events.Status.TheVariants.{Open}
 use Rattle.sessions.specs.declared.hub.Hub.{Hub}
 use Rattle.stream_driver.specs.Buffers.{traffic_through}
@@ -18,9 +16,9 @@ use Rattle.event_loop.specs.Tables.{slot_at}
 use Rattle.event_loop.specs.declared.socket.Socket.{Socket}
 
 module _ {T : Type 0} (tells : Type 0) (traffic : T → Traffic) where
-  -- all that the stream gave was received, and all that was sent the stream took
+  -- what was read from the stream is what came in, and what was written to it is what was reported as sent
   abbrev pub IsCarried : T → SessionStream → Type 0
-  IsCarried stream st = tells → ((traffic stream).given ≡ st.received) × ((traffic stream).taken ≡ st.sent)
+  IsCarried stream st = tells → ((traffic stream).received ≡ st.received) × ((traffic stream).sent ≡ st.sent)
 
   -- so it is of the entry's session, which is present
   abbrev pub HasItsBytes : HubState → Entry T → Type 0
@@ -40,17 +38,9 @@ KeepBytes hub slots later new =
     → HaveBytes SocketsTell (traffic_through traffic_of) k.hub new)
 
 -- What came in over a connection is the spellings of its session's requests, and the beginning of one; what went over
--- it, with what its stream holds and what is pending, is the texts of the machine's replies to them.
+-- it, with what its stream buffers and what is pending, is the texts of the machine's replies to them.
 pub record SpeaksFor (stream : BufferedStream Socket) (st : SessionStream) : Type 0 where
   pub rest : Bytes
   pub inbox : st.now.status ≡ Open → rest ≡ st.now.inbox
-  pub came : (traffic_through traffic_of stream).given ≡ requests_text st ++ rest
-  pub went : replies_text st ≡ (traffic_through traffic_of stream).taken ++ st.now.pending
-
--- The hub stands for a lawful state, of whose sessions the connections speak.
-abbrev pub ConnectionsSpeak : {D : Type 0} {g : Ghosts D} → Hub D g → List (Option (Entry (BufferedStream Socket)))
-    → Type 0
-ConnectionsSpeak hub slots =
-    ∥ ((h : HubState) × StandsFor hub h × IsLawful h
-    × ((key : ℕ) (entry : Entry (BufferedStream Socket)) → slot_at slots key ≡ Some entry → entry.state ≢ Gone
-    → (st : SessionStream) × (stream_of h entry.session ≡ Some st) × SpeaksFor entry.stream st)) ∥₁
+  pub came : (traffic_through traffic_of stream).received ≡ requests_text st ++ rest
+  pub went : replies_text st ≡ (traffic_through traffic_of stream).sent ++ st.now.pending

@@ -169,23 +169,24 @@ module _ {T D : Type 0} {g : Ghosts D} where
       TurnAccepts (λ n. ComeEach IsNew hub next slots refused n later then new counted) old backlog accepts
 
 module _ {T : Type 0} where
-  -- an entry that the poll told of: one that waited is to be driven, and is it to be read until its stream blocks?
-  abbrev pub told : Bool → Entry (BufferedStream T) → Entry (BufferedStream T)
-  told reads_on entry = record entry {
+  -- an entry that the poll reported: one that waited is to be driven, and is it to be read until its stream blocks?
+  abbrev pub reported : Bool → Entry (BufferedStream T) → Entry (BufferedStream T)
+  reported reads_on entry = record entry {
     state = readied entry.state;
     stream = record entry.stream { reads_on = reads_on || entry.stream.reads_on };
   }
 
-  -- a slot after an event that tells of it, or of another
-  abbrev pub told_slot : Bool → Bool → Option (Entry (BufferedStream T)) → Option (Entry (BufferedStream T))
-  told_slot true reads_on (Some entry) = Some (told reads_on entry)
-  told_slot true reads_on None = None
-  told_slot false reads_on slot = slot
+  -- a slot after an event that reports it, or another
+  abbrev pub reported_slot : Bool → Bool → Option (Entry (BufferedStream T)) → Option (Entry (BufferedStream T))
+  reported_slot true reads_on (Some entry) = Some (reported reads_on entry)
+  reported_slot true reads_on None = None
+  reported_slot false reads_on slot = slot
 
   -- urgent bytes, at which a read ends early, or the end of what comes: the stream is to be read until it blocks or
   -- ends
   abbrev pub after_event : Event → ℕ → Option (Entry (BufferedStream T)) → Option (Entry (BufferedStream T))
-  after_event event key slot = told_slot ((event_token event).0 == key) (is_priority event || is_read_closed event) slot
+  after_event event key slot =
+      reported_slot ((event_token event).0 == key) (is_priority event || is_read_closed event) slot
 
   -- a slot after the events of a poll
   abbrev pub after_poll : List Event → ℕ → Option (Entry (BufferedStream T)) → Option (Entry (BufferedStream T))

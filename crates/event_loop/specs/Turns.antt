@@ -9,7 +9,6 @@ use Rattle.mio.specs.declared.event.event.Event.{Event}
 use Rattle.mio.specs.declared.token.Token.{Token}
 use Rattle.sector.specs.declared.device.Sectors.{Ghosts}
 use Rattle.sessions.specs.Laws.{GivesBack, HasRun}
-use Rattle.sessions.specs.Lives.{Served}
 use Rattle.sessions.specs.SessionStreams.{HubEvent, Choice}
 use Rattle.sessions.specs.StandsFor.{device}
 use Rattle.sessions.specs.declared.hub.Hub.{Hub}
@@ -22,12 +21,11 @@ use Rattle.stream_driver.specs.Traffic.{Traffic}
 use Rattle.stream_driver.specs.declared.buffered.BufferedStream.{BufferedStream}
 use Rattle.stream_driver.specs.declared.entries.Entry.{Entry}
 use Rattle.event_loop.specs.Accepts.{Accepts}
-use Rattle.event_loop.specs.Departures.{AreKept, HoldsAtEnds}
 use Rattle.event_loop.specs.Leavings.{EndAll, LingerOn}
 use Rattle.event_loop.specs.Lingerings.{lingers_in, unless_failed}
 use Rattle.event_loop.specs.Order.{AreNext, after_turn, behind, is_passed, is_ready_slot}
 use Rattle.event_loop.specs.Polls.{WasAskedOnce, after_wait, polls_of}
-use Rattle.event_loop.specs.Sockets.{IsNewSocket, SocketsTell, traffic_of}
+use Rattle.event_loop.specs.Sockets.{IsNewSocket}
 use Rattle.event_loop.specs.Tables.{AcceptsInto, EndsTurn, after_poll, is_any_ready, joins_of, slot_at}
 use Rattle.event_loop.specs.Waits.{nanos_of, own_limit, shorter}
 use Rattle.event_loop.specs.declared.connections.Backlog.{Backlog}
@@ -39,22 +37,22 @@ use Rattle.event_loop.specs.declared.server.EventLoop.{EventLoop}
 use Rattle.event_loop.specs.declared.server.TheConstants.{LISTENER}
 use Rattle.event_loop.specs.declared.socket.Socket.{Socket}
 
--- a slot is ready as the poll told, unless it takes turns and it is another's
+-- a slot is ready as the poll reported, unless it takes turns and it is another's
 abbrev pub IsTurnOf : {T D : Type 0} {g : Ghosts D} → Hub D g → Turns → ℕ
     → (polled ready : Option (Entry (BufferedStream T))) → Type 0
 IsTurnOf hub turns key polled ready = ready ≡ after_turn (is_passed hub turns key polled) polled
 
--- The drives of a turn in which the poll told of these events. The entries that waited and that it told of became
+-- The drives of a turn in which the poll reported these events. The entries that waited and that it reported became
 -- ready. Of those that are ready and take turns, one that writes and one that reads at most have this one, and the
 -- others are passed over. Each other that is ready was driven once, by rising key, and no other event came to the hub.
--- Each of these drives appended one record to the log at most. What their streams hold was written, and those that are
--- over were taken out.
+-- Each of these drives appended one record to the log at most. What their streams buffered was written, and those that
+-- are over were taken out.
 pub record DrivesReady {T D : Type 0} {g : Ghosts D} (tells : Type 0) (traffic : T
     → Traffic) (events : List Event) (last : Turns) (hub : Hub D g) (slots : List (Option (Entry (BufferedStream T))))
     (next : Turns) (later : Hub D g) (new : List (Option (Entry (BufferedStream T)))) : Type 0 where
   pub turn_of : AreNext hub (λ key. after_poll events key (slot_at slots key)) last next
   pub ready : List (Option (Entry (BufferedStream T)))
-  pub told : (key : ℕ) → IsTurnOf hub next key (after_poll events key (slot_at slots key)) (slot_at ready key)
+  pub turned : (key : ℕ) → IsTurnOf hub next key (after_poll events key (slot_at slots key)) (slot_at ready key)
   pub driven : List (Option (Entry (BufferedStream T)))
   pub drives : DrivesTelling (traffic_through traffic) tells hub ready later driven
       (λ h k. DrivenAll tells (traffic_through traffic) h ready k driven)
@@ -64,25 +62,25 @@ pub record DrivesReady {T D : Type 0} {g : Ghosts D} (tells : Type 0) (traffic :
 -- what the listener has answered so far
 abbrev pub answers_of : Port → Accepts
 answers_of port =
-    record { asked = port.listener.accepts; taken = port.taken; blocked = port.blocked; failed = port.failed }
+    record { asked = port.listener.accepts; accepted = port.accepted; blocked = port.blocked; failed = port.failed }
 
 -- the hub, the table, the number of the next session, the listener, those that linger and the refusals are as they
--- were, and so is what is known to be due and who had the last turns
+-- were, and so is whether garbage is known to be left and who had the last turns
 pub record IsUntouched {D : Type 0} {g : Ghosts D} (old new : EventLoop D g) : Type 0 where
   pub hub : new.hub ≡ old.hub
   pub table : new.table ≡ old.table
   pub next : new.next ≡ old.next
   pub port : new.port ≡ old.port
   pub backlog : new.backlog ≡ old.backlog
-  pub due : new.due ≡ old.due
+  pub has_garbage : new.has_garbage ≡ old.has_garbage
   pub lingering : new.lingering ≡ old.lingering
   pub refused : new.refused ≡ old.refused
   pub turns : new.turns ≡ old.turns
 
--- what no open transaction needs has gone, a step of it, and whether more is due is known; but for that all is as it
--- was
+-- what no open transaction needs has gone, a step of it, and whether garbage is left is known; but for that all is as
+-- it was
 pub record IsGivenBack {D : Type 0} {g : Ghosts D} (old new : EventLoop D g) : Type 0 where
-  pub hub : GivesBack old.hub new.hub new.due
+  pub hub : GivesBack old.hub new.hub new.has_garbage
   pub table : new.table ≡ old.table
   pub next : new.next ≡ old.next
   pub port : new.port ≡ old.port
@@ -90,7 +88,7 @@ pub record IsGivenBack {D : Type 0} {g : Ghosts D} (old new : EventLoop D g) : T
   pub lingering : new.lingering ≡ old.lingering
   pub refused : new.refused ≡ old.refused
 
--- where a turn accepts, each connection that it took was let in or turned away, and no other event came to the hub
+-- where a turn accepts, each connection that it accepted was let in or turned away, and no other event came to the hub
 abbrev pub Accepted : {D : Type 0} {g : Ghosts D} → Bool → EventLoop D g → EventLoop D g → Type 0
 Accepted true old new =
     AcceptsInto IsNewSocket old.hub old.next old.table.slots old.refused (answers_of old.port) new.backlog new.hub
@@ -112,20 +110,20 @@ DrivesAndEnds {D} {g} tells traffic old new =
     × EndAll (g.moment (device new.hub)) drives.driven (lingers_in old.lingering) new.table.slots
     (lingers_in new.lingering)
 
--- the poll told of this token
-abbrev pub is_told_of : Token → List Event → Bool
-is_told_of token events = list_any (λ e. (event_token e).0 == token.0) events
+-- the poll reported this token
+abbrev pub is_reported_of : Token → List Event → Bool
+is_reported_of token events = list_any (λ e. (event_token e).0 == token.0) events
 
--- A turn accepts where the listener may hold more, or the poll told of it.
+-- A turn accepts where the listener may hold more, or the poll reported it.
 abbrev pub accepts_now : Backlog → List Event → Bool
-accepts_now Empty events = is_told_of LISTENER events
+accepts_now Empty events = is_reported_of LISTENER events
 accepts_now More events = true
 accepts_now Failed events = true
 
--- One turn: the drives, by the events that the poll told of, then the accepts, and then a step of what no open
--- transaction needs is given back. The events of these drives, followed by the joins of these accepts, are one run of
--- the hub: lawful at each moment, with the device's failures counted, and what a crash leaves known. After the drives
--- it turned those that linger; they were closed where an accept failed.
+-- One turn: the drives, by the events that the poll reported, then the accepts, and then a step of what no open
+-- transaction needs is freed. The events of these drives, followed by the joins of these accepts, are one run of the
+-- hub: lawful at each moment, with the device's failures counted, and what a crash leaves known. After the drives it
+-- turned those that linger; they were closed where an accept failed.
 pub record IsTurn {D : Type 0} {g : Ghosts D} (tells : Type 0) (traffic : Socket
     → Traffic) (old new : EventLoop D g) : Type 0 where
   pub driven : EventLoop D g
@@ -137,7 +135,7 @@ pub record IsTurn {D : Type 0} {g : Ghosts D} (tells : Type 0) (traffic : Socket
   pub backlog_is : driven.backlog ≡ old.backlog
   pub refused_is : driven.refused ≡ old.refused
   pub linger :
-      LingerOn (g.moment (device driven.hub)) (is_told_of LINGERER (items new.poller.events)) drives.driven
+      LingerOn (g.moment (device driven.hub)) (is_reported_of LINGERER (items new.poller.events)) drives.driven
       (lingers_in old.lingering) driven.table.slots (lingers_in driven.lingering)
   pub accepted : EventLoop D g
   pub accepts : Accepted (accepts_now old.backlog (items new.poller.events)) driven accepted
@@ -147,26 +145,13 @@ pub record IsTurn {D : Type 0} {g : Ghosts D} (tells : Type 0) (traffic : Socket
       × DrivenAll tells (traffic_through traffic) h drives.ready k drives.driven
       × Adds k (accepted_joins (accepts_now old.backlog (items new.poller.events)) driven accepted accepts) l)
 
--- There is a run from an opening to the hub after this turn in which each departure over each connection is kept, also
--- where the turn took the connection out or closed it: as its drive ended, or as it was turned.
-abbrev pub KeepsWhatLeaves : {D : Type 0} {g : Ghosts D} (old new : EventLoop D g)
-    → IsTurn SocketsTell traffic_of old new → Type 0
-KeepsWhatLeaves {D} {g} old new turn =
-    ∥ ((served : Served new.hub)
-    × HoldsAtEnds (AreKept served) (g.moment (device turn.driven.hub)) turn.drives.driven old.lingering.queue.items
-    turn.linger.begun.all) ∥₁
-
--- so it is of whatever turn this was
-abbrev pub LeavingsAreKept : {D : Type 0} {g : Ghosts D} → EventLoop D g → EventLoop D g → Type 0
-LeavingsAreKept old new = (turn : IsTurn SocketsTell traffic_of old new) → SocketsTell → KeepsWhatLeaves old new turn
-
 -- what a turn does to its hub is a run of the hub
 abbrev pub TurnsAreRuns : {D : Type 0} {g : Ghosts D} → Type 0 → (Socket → Traffic) → EventLoop D g → Type 0
 TurnsAreRuns {D} {g} tells traffic events = (old new : EventLoop D g) → IsTurn tells traffic old new
     → HasRun old.hub new.hub
 
--- In a turn a session that is ready once the poll told is driven, or it is ready still at the end of the turn, and the
--- next of those that take turns is nearer to it: by at least one place of the 128 of the table.
+-- In a turn a session that is ready once the poll reported is driven, or it is ready still at the end of the turn, and
+-- the next of those that take turns is nearer to it: by at least one place of the 128 of the table.
 pub record IsDrivenSoon {D : Type 0} {g : Ghosts D} (tells : Type 0) (traffic : Socket
     → Traffic) (old new : EventLoop D g) (turn : IsTurn tells traffic old new) (key : ℕ) : Type 0 where
   pub soon : (is_ready_slot (slot_at turn.drives.ready key) ≡ true)
@@ -180,9 +165,9 @@ EachHasItsTurn {D} {g} tells traffic events =
     → is_ready_slot (after_poll (items new.poller.events) key (slot_at old.table.slots key)) ≡ true
     → IsDrivenSoon tells traffic old new turn key
 
--- does the loop know of work: of a step that is due, of input to drop, of a session that is ready?
+-- does the loop know of work: of garbage, of input to drop, of a session that is ready?
 abbrev pub has_work : {D : Type 0} {g : Ghosts D} → EventLoop D g → Bool
-has_work events = events.due || events.lingering.has_more || is_any_ready events.table
+has_work events = events.has_garbage || events.lingering.has_more || is_any_ready events.table
 
 -- how long a turn waits, in nanoseconds: no longer than the caller's timeout, nor than the loop itself may
 abbrev pub turn_waits : {D : Type 0} {g : Ghosts D} → EventLoop D g → Option Duration → Option ℕ
@@ -193,7 +178,7 @@ turn_waits events timeout = shorter (own_limit events.backlog (has_work events))
 pub record Waits {D A : Type 0} {g : Ghosts D} (timeout : Option Duration) (old : EventLoop D g)
     (result : Result A Error)
     (new : EventLoop D g) : Type 0 where
-  pub told : polls_of new.poller ≡ after_wait result (polls_of old.poller)
+  pub polled : polls_of new.poller ≡ after_wait result (polls_of old.poller)
   pub waited : nanos_of new.poller.waited ≡ turn_waits old timeout
   pub asked : WasAskedOnce old.poller.poll new.poller.waited new.poller.poll
   pub room : 128 + 64 + 1 ≤ events_capacity new.poller.events

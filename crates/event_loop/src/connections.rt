@@ -1,4 +1,4 @@
-//! The table of connections: who comes in, who is ready, who goes.
+//! The table of connections: which are admitted, which become ready, and which are taken out.
 ghost use Rattle.std.specs.Prelude.{◌≡◌, ◌<◌, ◌||◌, ℕ, IfSome, OnSome};
 ghost use Rattle.mio.specs.Event.{is_priority, is_read_closed};
 ghost use Rattle.mio.specs.Events.{items};
@@ -7,7 +7,7 @@ ghost use Rattle.event_loop.specs.Leavings.{EndAll, EndsAt};
 ghost use Rattle.event_loop.specs.Lingerings.{lingers_in};
 ghost use Rattle.event_loop.specs.Sockets.{IsNewSocket, SocketsTell, traffic_of};
 ghost use Rattle.event_loop.specs.Tables.{AcceptsInto, Comes, EachEnds, TableStands, after_poll, is_any_ready};
-ghost use Rattle.event_loop.specs.Tables.{is_ready as is_ready_in, slot_at, told};
+ghost use Rattle.event_loop.specs.Tables.{is_ready as is_ready_in, slot_at, reported};
 
 use crate::lingering::Lingering;
 use crate::listener::{AcceptAnswer, Listener};
@@ -62,7 +62,7 @@ fn tells_to_read_on(event: &event::Event) -> bool
 
 // The poll reported an entry: if it waited, it is to be driven.
 fn make_ready(entry: &mut Entry<BufferedStream<Socket>>, reads_on: bool)
-    ensures { entry.new ≡ told reads_on entry.old }
+    ensures { entry.new ≡ reported reads_on entry.old }
 {
     if entry.state == EntryState::Idle {
         entry.state = EntryState::Ready;
@@ -107,8 +107,8 @@ fn end_drive_at<D: Sectors>(
 }
 
 /// Ends the drives of a turn: makes the entries ready again that wait only as their streams have had their share of it, writes what the
-/// streams hold, but for those that wait, and takes the entries out that are gone and whose streams hold nothing or failed, and no others.
-/// Connections that ended in good order linger, and the others are closed. Takes no memory.
+/// streams buffer, but for those that wait, and takes the entries out that are gone and whose streams buffer nothing or failed, and no
+/// others. Connections that ended in good order linger, and the others are closed. Takes no memory.
 pub(crate) fn end_drives<D: Sectors>(
     device: &D,
     poll: &CountedPoll,
@@ -123,12 +123,12 @@ pub(crate) fn end_drives<D: Sectors>(
     }
 }
 
-/// Takes at most `SESSIONS_MAX` connections from a listener, each under the next number, and says what the listener may still hold:
-/// `More` where it took that many, `Empty` where none waits, `Failed` where a call failed.
+/// Accepts at most `SESSIONS_MAX` connections of a listener, each under the next number, and says what the listener may still hold: `More`
+/// where it accepted that many, `Empty` where none waits, `Failed` where a call failed.
 ///
-/// Each connection that it takes is let in with a session that joins, and registered with the poll under its key in the table, or turned
-/// away, and nothing else happens to the hub and the table. One for which there is no place, or that memory or registration is refused
-/// for, is closed, and the refusals are counted. It may grow the table, and takes the memory of the sessions and of their streams.
+/// Each connection that it accepts is let in with a session that joins, and registered with the poll under its key in the table, or turned
+/// away, and nothing else happens to the hub and the table. One for which there is no place, or that memory or registration is refused for,
+/// is closed, and the refusals are counted. It may grow the table, and takes the memory of the sessions and of their streams.
 pub fn accept_some<D: Sectors, L: Listener>(
     alloc: Global,
     poll: &CountedPoll,
@@ -143,10 +143,10 @@ pub fn accept_some<D: Sectors, L: Listener>(
         hub.new next.new table.new.slots refused.new (L.accepts listener.new) }
     ensures table { TableStands hub.new next.new table.new.slots }
 {
-    hub.runs_follow();
+    hub.law_runs_follow();
     for _accepted in 0..SESSIONS_MAX {
         match listener.accept() {
-            AcceptAnswer::Taken(accepted) => {
+            AcceptAnswer::Accepted(accepted) => {
                 admit(alloc, poll, accepted, hub, next, refused, table)
             }
             AcceptAnswer::Blocked => return Backlog::Empty,
@@ -156,8 +156,8 @@ pub fn accept_some<D: Sectors, L: Listener>(
     Backlog::More
 }
 
-// The stream of a connection under this number, of which the poll tells under this key. It wasn't read or written, sends what it takes
-// at once, and ends where its peer vanishes. None where memory, registration or a socket's option is refused.
+// The stream of a connection under this number, which the poll reports under this key. It wasn't read or written, sends what is written at
+// once, and ends where its peer vanishes. None where memory, registration or a socket's option is refused.
 fn prepare(
     alloc: Global,
     poll: &CountedPoll,
@@ -174,7 +174,7 @@ fn prepare(
     BufferedStream::new(alloc, socket).ok()
 }
 
-// A place in the table for the stream of a connection under this number, of which the poll tells under the key of that place. None where
+// A place in the table for the stream of a connection under this number, which the poll reports under the key of that place. None where
 // memory, registration or a socket's option is refused.
 fn make_place(
     alloc: Global,
@@ -208,7 +208,7 @@ fn admit<D: Sectors>(
 )
     ensures { Comes IsNewSocket hub.old next.old table.old.slots refused.old hub.new next.new table.new.slots refused.new }
 {
-    hub.runs_follow();
+    hub.law_runs_follow();
     let session = *next;
     if session == u64::MAX || table.len() >= SESSIONS_MAX {
         return;

@@ -1,8 +1,10 @@
-//! Sessions over TCP: a loop that polls, drives the connections that are ready, takes out those that are gone, and accepts others.
+//! Sessions over TCP, in one thread: a loop that polls, drives the connections that are ready, takes out those that have ended, and accepts
+//! others.
 //!
 //! What the system's sockets do is left open: which bytes they move is a premise (`specs/Sockets.antt`). What a turn makes of the hub and
-//! the table, given what the poll told, stands in `specs/Turns.antt`: which entries become ready, that each that is ready is driven, which
-//! go, and which come. A turn polls once, by `CountedPoll::wait`; that this calls the system's poll is to be read there.
+//! the table, given what the poll reported, stands in `specs/Turns.antt`: which entries become ready, that each that is ready and has its
+//! turn is driven, which are taken out, and which come. A turn polls once, by `CountedPoll::wait`; that this calls the system's poll is to
+//! be read there.
 #![tactic(auto)]
 
 mod connections;

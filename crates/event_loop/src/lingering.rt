@@ -1,8 +1,8 @@
-//! Connections whose session has left while the peer may still be sending.
+//! Lingering close: connections whose session has left while the peer may still be sending.
 //!
-//! The system resets a connection that is closed while input is unread, and then replies that are under way are lost. So a connection
-//! that ended in good order is shut down for writing, and what still comes in is read and dropped until the peer ends, within bounds
-//! of number and bytes.
+//! The system resets a connection that is closed while input is unread, and then replies that are under way are lost. So a connection that
+//! ended in good order is shut down for writing, and what still comes in is read and dropped until the peer ends, within bounds of number
+//! and bytes.
 ghost use Rattle.std.specs.Prelude.{◌≡◌, ◌≤◌, length};
 ghost use Rattle.std.specs.VecDeque.{deque_len, deque_capacity};
 ghost use Rattle.event_loop.specs.declared.lingering.TheConstants.{LINGERING_MAX};
@@ -53,8 +53,8 @@ impl Dropped {
 
 /// Reads at most so many bytes and drops them; each read is shown the device. Takes no memory.
 pub fn drop_input<D: Sectors, S: Stream>(device: &D, stream: &mut S, most: usize) -> Dropped
-    ensures given { S.tells → GivesAtMost result most (length (S.traffic stream.old).given) (length (S.traffic stream.new).given) }
-    ensures taken { S.tells → (S.traffic stream.new).taken ≡ (S.traffic stream.old).taken }
+    ensures received { S.tells → GivesAtMost result most (length (S.traffic stream.old).received) (length (S.traffic stream.new).received) }
+    ensures sent { S.tells → (S.traffic stream.new).sent ≡ (S.traffic stream.old).sent }
     ensures departed { S.tells → DepartAt (D.moment device.now) (S.traffic stream.old) (S.traffic stream.new) }
     ensures connection { (S.traffic stream.new).connection ≡ (S.traffic stream.old).connection }
     ensures why { WhyDropped result most (S.traffic stream.old) (S.traffic stream.new) }
@@ -101,7 +101,7 @@ impl Lingerer {
 #[derive(Drop)]
 pub(crate) struct Lingering {
     queue: VecDeque<Lingerer>,
-    /// There may be input that no poll will tell of.
+    /// There may be input that no poll will report.
     has_more: bool,
     /// How often the system refused to let one linger. It stays at 2^64 - 1.
     refused: u64,
@@ -124,7 +124,7 @@ impl Lingering {
         })
     }
 
-    /// May there be input that no poll will tell of? Takes no memory.
+    /// May there be input that no poll will report? Takes no memory.
     pub(crate) fn has_more(&self) -> bool
         ensures { result ≡ self.now.has_more }
     {
@@ -167,12 +167,12 @@ impl Lingering {
         self.has_more = true;
     }
 
-    /// Drops what came in where the poll told of it or there may be more, and closes those that are over. It goes over all that linger,
+    /// Drops what came in where the poll reported it or there may be more, and closes those that are over. It goes over all that linger,
     /// and drops at most `LINGERING_BYTES_A_TURN` of each. Takes no memory.
-    pub(crate) fn turn<D: Sectors>(&mut self, device: &D, is_told: bool)
-        ensures { AreTurned (D.moment device.now) is_told (lingers_in self.old) (lingers_in self.new) }
+    pub(crate) fn turn<D: Sectors>(&mut self, device: &D, is_reported: bool)
+        ensures { AreTurned (D.moment device.now) is_reported (lingers_in self.old) (lingers_in self.new) }
     {
-        if !is_told && !self.has_more {
+        if !is_reported && !self.has_more {
             return;
         }
         self.has_more = false;

@@ -1,4 +1,4 @@
-//! What connections come from.
+//! Where connections come from: a trait, and a listening TCP socket, with counts of its answers.
 ghost use Rattle.std.specs.Prelude.{◌≡◌, IfOk};
 ghost use Rattle.socket_calls.specs.HappenedCalls.{IsAddressOf};
 ghost use Rattle.event_loop.specs.Outcomes.{AcceptsAs};
@@ -11,8 +11,8 @@ use std::net::SocketAddr;
 /// What an accept answers.
 #[derive(Drop)]
 pub enum AcceptAnswer {
-    /// A connection was taken.
-    Taken(AcceptedSocket),
+    /// A connection was accepted.
+    Accepted(AcceptedSocket),
     /// None waits now.
     Blocked,
     /// The call failed.
@@ -29,7 +29,7 @@ pub trait Listener {
     /// How often it was asked, and how often each answer was given.
     ghost accepts: { Self → Accepts };
 
-    /// Takes the next connection that waits, or answers why none came. Takes no memory.
+    /// Accepts the next connection that waits, or answers why none came. Takes no memory.
     fn accept(&mut self) -> AcceptAnswer
         ensures { accepts self.new ≡ after_accept result (accepts self.old) };
 }
@@ -38,7 +38,7 @@ pub trait Listener {
 #[derive(Drop)]
 pub struct Port {
     listener: ListeningSocket,
-    taken: u64,
+    accepted: u64,
     blocked: u64,
     failed: u64,
 }
@@ -48,7 +48,7 @@ fn accept_answer(outcome: io::Result<(AcceptedSocket, SocketAddr)>) -> AcceptAns
     ensures { AcceptsAs outcome result }
 {
     match outcome {
-        Ok((accepted, _address)) => AcceptAnswer::Taken(accepted),
+        Ok((accepted, _address)) => AcceptAnswer::Accepted(accepted),
         Err(error) if would_wait(&error) => AcceptAnswer::Blocked,
         Err(_) => AcceptAnswer::Failed,
     }
@@ -61,7 +61,7 @@ impl Port {
     {
         Port {
             listener,
-            taken: 0,
+            accepted: 0,
             blocked: 0,
             failed: 0,
         }
@@ -76,12 +76,12 @@ impl Port {
 }
 
 impl Listener for Port {
-    ghost accepts = { λ p. record { asked = p.listener.accepts; taken = p.taken; blocked = p.blocked; failed = p.failed } };
+    ghost accepts = { λ p. record { asked = p.listener.accepts; accepted = p.accepted; blocked = p.blocked; failed = p.failed } };
 
     fn accept(&mut self) -> AcceptAnswer {
         let answer = accept_answer(self.listener.accept());
         match &answer {
-            AcceptAnswer::Taken(_) => self.taken = self.taken.saturating_add(1),
+            AcceptAnswer::Accepted(_) => self.accepted = self.accepted.saturating_add(1),
             AcceptAnswer::Blocked => self.blocked = self.blocked.saturating_add(1),
             AcceptAnswer::Failed => self.failed = self.failed.saturating_add(1),
         }

@@ -1,9 +1,9 @@
-//! The order in which sessions that are ready have their turns.
+//! Fairness: which of the sessions that are ready are driven in a turn.
 //!
-//! A COMMIT that has written waits for its syncs, and a long reply takes its time; so does everybody meanwhile. So a turn drives all that
-//! have written nothing and whose last drive was short; of the others, the next by key, round the table, and beside it one more: one that
-//! reads where the next writes, and one that writes where the next reads. So between two polls there is one that writes at most, and one
-//! that reads much; and each that waits so has its turn before it was passed over as often as the table has places.
+//! A COMMIT that writes waits for its syncs, and a long reply takes its time, and so does everybody meanwhile. So a turn drives all
+//! sessions that have written nothing and whose last drive was short. Of the others it drives two at most: the next by key, round the
+//! table, and one of the other kind, a reader if the next is a writer, and a writer if it is a reader. So between two polls one session
+//! writes at most, and one reads much. Each that waits is driven within as many turns as the table has places.
 ghost use Rattle.std.specs.Prelude.{◌≡◌, ◌<◌, ◌≤◌, ℕ, Bool};
 ghost use Rattle.event_loop.specs.Order.{AreNext, ComesNearer, IsNext, after_turn, behind, in_turn, is_of, is_passed};
 ghost use Rattle.event_loop.specs.Order.{is_passed_over, is_writer, waits_as, writes_in};
@@ -211,6 +211,6 @@ pub(crate) fn take_turns<D: Sectors>(
 }
 
 /// Does nothing, and takes no memory. Its contract says that a key that waits is the next, or comes nearer.
-pub(crate) fn each_comes_nearer()
+pub(crate) fn law_each_comes_nearer()
     ensures { (waits : ℕ → Bool) (last next key : ℕ) → ComesNearer waits last next key }
 {}

@@ -1,4 +1,4 @@
-//! The system's poll.
+//! The system's poll, with its last events and counts of how often it succeeded and failed.
 ghost use Rattle.std.specs.Prelude.{◌≡◌};
 ghost use Rattle.std.specs.Prelude.{IfOk};
 ghost use Rattle.mio.specs.Events.{capacity as events_capacity};
@@ -10,19 +10,19 @@ use std::alloc::{AllocError, Global};
 use std::io;
 use std::time::Duration;
 
-/// The system's poll, with what it told last.
+/// The system's poll, with what it reported last.
 ///
-/// How often it told and how often it failed is counted. A count is a u64: it rises with its answer, and once it stands at 2^64 - 1 it
-/// stays. The kind of the last fault is kept. It leaves open of what it tells.
+/// How often it succeeded and how often it failed is counted. A count is a u64: it rises with its answer, and once it stands at 2^64 - 1 it
+/// stays. The kind of the last fault is kept. It leaves open what it reports.
 #[derive(Drop)]
 pub(crate) struct Poller {
     poll: CountedPoll,
     events: Events,
-    told: u64,
+    succeeded: u64,
     failed: u64,
-    /// The kind of the fault of the last poll, none where that told.
+    /// The kind of the fault of the last poll, none where that succeeded.
     fault: Option<io::ErrorKind>,
-    /// The wait that it was given last.
+    /// The wait that was asked of it last.
     waited: Option<Duration>,
 }
 
@@ -38,7 +38,7 @@ impl Poller {
         Ok(Poller {
             poll,
             events: Events::with_capacity(alloc, capacity)?,
-            told: 0,
+            succeeded: 0,
             failed: 0,
             fault: None,
             waited: None,
@@ -50,7 +50,7 @@ impl Poller {
         &self.poll
     }
 
-    /// The events of which it told last. Takes no memory.
+    /// The events that it reported last. Takes no memory.
     pub(crate) fn events(&self) -> &Events
         ensures { result.now ≡ self.now.events }
     {
@@ -68,7 +68,7 @@ impl Poller {
         self.waited = timeout;
         match self.poll.wait(&mut self.events, timeout) {
             Ok(()) => {
-                self.told = self.told.saturating_add(1);
+                self.succeeded = self.succeeded.saturating_add(1);
                 self.fault = None;
                 Ok(())
             }

@@ -1,4 +1,4 @@
-//! The loop.
+//! The event loop, and one turn of it.
 ghost use Rattle.std.specs.Prelude.{◌+◌, ◌<◌, ◌≤◌};
 ghost use Rattle.mio.specs.Events.{capacity as events_capacity};
 ghost use Rattle.stream_driver.specs.Sessions.{Stands};
@@ -12,7 +12,7 @@ use crate::connections::{
 };
 use crate::lingering::{LINGERING_MAX, Lingering};
 use crate::listener::Port;
-use crate::order::{Turns, each_comes_nearer, next_turns, take_turns};
+use crate::order::{Turns, law_each_comes_nearer, next_turns, take_turns};
 use crate::polling::Poller;
 use crate::socket::Socket;
 use crate::waiting::longest_wait;
@@ -30,7 +30,7 @@ use stream_driver::{BufferedStream, Entry, Stream, drive_ready};
 /// The token of the listener, which no key of the table is.
 const LISTENER: Token = Token(usize::MAX);
 
-/// How many bytes a turn asks for once it has given back what is due.
+/// How many bytes a turn asks for once its step has freed garbage.
 const SPARE_BYTES: usize = 2_040;
 
 /// A listener, its connections, and the hub of their sessions.
@@ -42,16 +42,16 @@ pub struct EventLoop<D: Sectors> {
     backlog: Backlog,
     lingering: Lingering,
     hub: Hub<D>,
-    /// Are old versions of the store still due, as the last turn's end found?
-    due: bool,
+    /// Was garbage of the store left at the end of the last turn?
+    has_garbage: bool,
     /// The number of the next session.
     next: u64,
     /// How many connections were turned away as memory, registration or an option of the socket was refused. It stays at 2^64 - 1.
     refused: u64,
     /// Who of those that take turns had the last.
     turns: Turns,
-    /// A block that is asked for anew at the end of each turn. The C library (glibc's `malloc_consolidate`) joins its small free blocks
-    /// where it is asked for 1,024 bytes or more: so each turn has it join what its own step gave back, and no request pays for many.
+    /// A block that is asked for again at the end of each turn. The C library (glibc's `malloc_consolidate`) joins its small free blocks
+    /// where it is asked for 1,024 bytes or more: so each turn has it join what its own step freed, and no request pays for many.
     spare: Option<Vec<u8>>,
     table: Slab<Entry<BufferedStream<Socket>>>,
     ghost room: { 128 + 64 + 1 ≤ events_capacity poller.events },
@@ -71,19 +71,18 @@ impl<D: Sectors> EventLoop<D> {
     ghost use Rattle.sessions.specs.Lives.{IsOpened, IsServed};
     ghost use Rattle.sessions.specs.SessionStreams.{HubState};
     ghost use Rattle.sessions.specs.StandsFor.{StandsFor, device};
-    ghost use Rattle.event_loop.specs.Departures.{KeepsWhatLeft};
+    ghost use Rattle.event_loop.specs.AllThatLeft.{HaveOneRun};
     ghost use Rattle.event_loop.specs.Lingerings.{lingers_in, unless_failed};
     ghost use Rattle.event_loop.specs.Loops.{HasItsSessions, IsAt, ListensFor, hub_of};
     ghost use Rattle.event_loop.specs.Sockets.{SocketsTell, traffic_of};
-    ghost use Rattle.event_loop.specs.TableBytes.{ConnectionsSpeak, KeepBytes};
+    ghost use Rattle.event_loop.specs.TableBytes.{KeepBytes};
     ghost use Rattle.event_loop.specs.Turns.{Accepted, DrivesAndEnds, IsGivenBack, IsTurn, IsUntouched};
-    ghost use Rattle.event_loop.specs.Turns.{LeavingsAreKept};
     ghost use Rattle.event_loop.specs.Turns.{EachHasItsTurn, TurnsAreRuns, Waits};
-    ghost use Rattle.event_loop.specs.Turns.{accepts_now, has_work, is_told_of, turn_waits};
+    ghost use Rattle.event_loop.specs.Turns.{accepts_now, has_work, is_reported_of, turn_waits};
     ghost use Rattle.event_loop.specs.Waits.{nanos_of};
 
-    /// Listens at an address for the sessions of a hub that was opened. Port 0 stands for one that the system picks. The poll tells of
-    /// the listener under a key that no entry of the table has.
+    /// Listens at an address for the sessions of a hub that was opened. Port 0 stands for one that the system picks. The poll reports the
+    /// listener under a key that no entry of the table has.
     ///
     /// A fault is the system's, or out of memory, which is `OutOfMemory`. It takes memory for the events of one poll, and
     /// for the connections that linger.
@@ -97,7 +96,7 @@ impl<D: Sectors> EventLoop<D> {
         ensures hub { IfOk result (λ events. hub_of events ≡ hub) }
         ensures listens { IfOk result (λ events. ListensFor events address) }
     {
-        hub.runs_follow();
+        hub.law_runs_follow();
         let poll = CountedPoll::new(rt)?;
         let mut listener = ListeningSocket::bind(rt, address)?;
         listener.register(&poll, LISTENER, Interest::READABLE)?;
@@ -110,7 +109,7 @@ impl<D: Sectors> EventLoop<D> {
             backlog: Backlog::Empty,
             lingering,
             hub,
-            due: false,
+            has_garbage: false,
             next: 0,
             refused: 0,
             turns: Turns::new(),
@@ -140,29 +139,29 @@ impl<D: Sectors> EventLoop<D> {
         self.hub.stopped()
     }
 
-    /// One turn: polls, drives each session that is ready and whose turn it is once, writes what their streams hold, takes out those that
-    /// have left and hold nothing, and accepts at most 128 connections, which the next turn drives.
+    /// One turn: polls, drives each session that is ready and whose turn it is once, writes what their streams buffer, takes out those that
+    /// have left and buffer nothing, and accepts at most 128 connections, which the next turn drives.
     ///
     /// It is the turn of each that has written nothing and whose last drive was short, of one at most that writes, and of one at most whose
     /// last drive was heavy, as it took more than `LIGHT_MAX` bytes. So nobody waits for more than one of each. Those write whose open
     /// transaction has written, or whose last drive appended a record. Of the two kinds together the next by key, round the table, has its
     /// turn, and beside it one of the other kind; the rest are ready in the next turn, which doesn't wait. So each is driven within as many
-    /// turns as the table has places (`each_has_its_turn`). An append ends the share of its stream, so what comes behind it in one piece
-    /// waits for a turn as well: a turn appends one record at most for each session that it drives.
+    /// turns as the table has places (`law_each_has_its_turn`). An append ends the share of its stream, so what comes behind it in one
+    /// piece waits for a turn as well: a turn appends one record at most for each session that it drives.
     ///
     /// It drives before it accepts: so an event of this poll can't be taken for one of a connection that came since under the same key,
     /// and the places of those that left are free for those that come.
     ///
-    /// At its end it gives back what no open transaction needs, a step of it (`Hub::reclaim_step`). So turns go on with that, also where no
-    /// session sends anything, until nothing is due. Then it asks for a block of `SPARE_BYTES` in place of the last such; a refusal of that
-    /// changes nothing.
+    /// At its end it frees what no open transaction needs, a step of it (`Hub::reclaim_step`). So turns go on with that, also where no
+    /// session sends anything, until no garbage is left. Then it asks for a block of `SPARE_BYTES` in place of the last such; a refusal of
+    /// that changes nothing.
     ///
     /// It waits for no more than `timeout`, without end where none is given. It doesn't wait at all where a session is still ready, where
-    /// 128 connections were accepted last time, or where the turn before it has left old versions or runs that are due, or more input to
-    /// drop. After an accept that fails, the next turn waits for no more than `RETRY_AFTER_MILLIS` and accepts again. A connection beyond
-    /// 128 sessions, or for which memory, registration or an option of the socket is refused, is closed without a byte.
+    /// 128 connections were accepted last time, or where the turn before it has left garbage, or more input to drop. After an accept that
+    /// fails, the next turn waits for no more than `RETRY_AFTER_MILLIS` and accepts again. A connection beyond 128 sessions, or for which
+    /// memory, registration or an option of the socket is refused, is closed without a byte.
     ///
-    /// The connection of a session that left is closed once its stream holds nothing, or has failed. Where none of its calls failed and
+    /// The connection of a session that left is closed once its stream buffers nothing, or has failed. Where none of its calls failed and
     /// its peer has not ended, it lingers first: it is shut down for writing, and what comes in is dropped, at most
     /// `LINGERING_BYTES_A_TURN` a turn, so that the last replies arrive. It is closed where the peer ends, after `LINGERING_BYTES` bytes,
     /// where `LINGERING_MAX` others have come to linger since, or where an accept fails, perhaps because there are no more descriptors. No
@@ -182,8 +181,8 @@ impl<D: Sectors> EventLoop<D> {
     /// run, in which the hub after each event is known: a crash at any later moment leaves no map that is older than the one committed
     /// there.
     ///
-    /// What left over a connection by the end of its part in the turn is kept as `keeps_what_left` has it, also where the turn took the
-    /// connection out or closed it.
+    /// What has left over all connections since the opening, those that a turn took out or closed among them, is kept in that run
+    /// (`law_all_have_one_run`).
     pub fn turn(&mut self, timeout: Option<Duration>) -> io::Result<()>
         ensures turned { OnOk result (IsTurn ⟦<Socket as Stream>⟧.tells ⟦<Socket as Stream>⟧.traffic self.old self.new) }
         ensures fault { OnErr result (IsUntouched self.old self.new) }
@@ -191,53 +190,48 @@ impl<D: Sectors> EventLoop<D> {
         ensures waits { Waits timeout self.old result self.new }
         ensures sessions { HasItsSessions self.old × HasItsSessions self.new }
         ensures served { IsServed (hub_of self.old) × IsServed (hub_of self.new) }
-        ensures left { OnOk result (LeavingsAreKept self.old self.new) }
     {
-        self.hub.runs_follow();
-        self.hub.loses_nothing();
+        self.hub.law_runs_follow();
         let wait = self.next_wait(timeout);
         self.poller.wait(wait)?;
         self.drive();
-        let comes_more = self.is_told(LINGERER);
+        let comes_more = self.is_reported(LINGERER);
         self.lingering.turn(self.hub.device(), comes_more);
-        self.accept_told();
+        self.accept_reported();
         self.give_back();
         Ok(())
     }
 
     /// Does nothing, and takes no memory. Its contract says that what a turn does to its hub is a run of the hub, as a life of a store has
     /// it.
-    pub fn turns_are_runs(&self)
+    pub fn law_turns_are_runs(&self)
         ensures runs { TurnsAreRuns ⟦<Socket as Stream>⟧.tells ⟦<Socket as Stream>⟧.traffic self.now }
     {}
 
     /// Does nothing, and takes no memory. Its contract says that a session that is ready is driven within as many turns as the table has
     /// places: in each turn it is driven, or it is ready still and comes nearer.
-    pub fn each_has_its_turn(&self)
+    pub fn law_each_has_its_turn(&self)
         ensures soon { EachHasItsTurn ⟦<Socket as Stream>⟧.tells ⟦<Socket as Stream>⟧.traffic self.now }
     {
-        each_comes_nearer();
+        law_each_comes_nearer();
     }
 
-    /// Does nothing, and takes no memory. Its contract says what the connections say, under the premise that sockets tell the bytes that
-    /// they move: the hub stands for a lawful state in which, for each connection whose session has not left, what came in over it since
-    /// it was let in is the spellings of its session's requests and the beginning of one, and what went over it, with what its stream
-    /// holds and what is pending, is the texts of the machine's replies to them.
-    pub fn connections_speak(&self)
-        ensures speak { SocketsTell → ConnectionsSpeak (hub_of self.now) self.now.table.slots }
+    /// Does nothing, and takes no memory. Its contract is one law of all connections that ever were, under the premise that sockets tell
+    /// the bytes that they move. For whatever turns are taken from here there is one run from the opening to the hub after them, and so one
+    /// serial order, in which all of this holds.
+    ///
+    /// The hub stands for the lawful state to which the run has come. What came in over each connection whose session has not left is the
+    /// spellings of its session's requests and the beginning of one, and what went over it, with what its stream buffers and what is
+    /// pending, is the texts of the machine's replies to them.
+    ///
+    /// For each connection that is in the table, lingers, or was taken out or closed in any of the turns, and each of its departures, the
+    /// run passes a hub whose device stood at the moment of the departure, and by then the session had been answered the bytes that had
+    /// left. A crash at that moment or since leaves no map that is older than the one committed at that hub, and so whatever lives follow
+    /// begin with such a map. So a COMMIT whose number has left over a connection is never lost.
+    pub fn law_all_have_one_run(&self)
+        ensures run { SocketsTell → HaveOneRun self.now }
     {
-        self.hub.is_lawful();
-    }
-
-    /// Does nothing, and takes no memory. Its contract says what is kept of what left, under the premise that sockets tell the bytes that
-    /// they move. There is one run from an opening to this hub. For each connection that is in the table or lingers, and each of its
-    /// departures, that run passes a hub whose device stood at the moment of the departure, and by then the session had been answered the
-    /// bytes that had left. A crash at that moment or since leaves no map that is older than the one committed at that hub, and so whatever
-    /// lives follow begin with such a map. So a COMMIT whose number has left over a connection is never lost.
-    pub fn keeps_what_left(&self)
-        ensures kept { SocketsTell → KeepsWhatLeft (hub_of self.now) self.now.table.slots self.now.lingering.queue.items }
-    {
-        self.hub.loses_nothing();
+        self.hub.law_loses_nothing();
     }
 
     // How long the next poll waits.
@@ -247,25 +241,25 @@ impl<D: Sectors> EventLoop<D> {
         longest_wait(self.backlog, self.has_work(), timeout)
     }
 
-    // Is there work: a step that is due, input to drop, or a session that is ready?
+    // Is there work: garbage, input to drop, or a session that is ready?
     fn has_work(&self) -> bool
         ensures { result ≡ has_work self.now }
     {
-        self.due || self.lingering.has_more() || any_ready(&self.table)
+        self.has_garbage || self.lingering.has_more() || any_ready(&self.table)
     }
 
-    // Gives back what no open transaction needs, a step of it, and has the C library join what was freed.
+    // Frees what no open transaction needs, a step of it, and has the C library join what was freed.
     fn give_back(&mut self)
         ensures gives_back { IsGivenBack self.old self.new }
         ensures poller { self.new.poller ≡ self.old.poller }
         ensures turns { self.new.turns ≡ self.old.turns }
     {
-        self.due = self.hub.reclaim_step();
+        self.has_garbage = self.hub.reclaim_step();
         self.spare = Vec::with_capacity(self.alloc, SPARE_BYTES).ok();
     }
 
-    // Accepts connections, where the listener may hold more or the last poll told of it.
-    fn accept_told(&mut self)
+    // Accepts connections, where the listener may hold more or the last poll reported it.
+    fn accept_reported(&mut self)
         ensures accepts { Accepted (accepts_now self.old.backlog (items self.old.poller.events)) self.old self.new }
         ensures lingerers { lingers_in self.new.lingering ≡ unless_failed self.new.backlog (lingers_in self.old.lingering) }
         ensures poller { self.new.poller ≡ self.old.poller }
@@ -297,7 +291,7 @@ impl<D: Sectors> EventLoop<D> {
         }
     }
 
-    // Drives the sessions that are ready and whose turn it is, those that the last poll told of among them.
+    // Drives the sessions that are ready and whose turn it is, those that the last poll reported among them.
     fn drive(&mut self)
         ensures drives { DrivesAndEnds ⟦<Socket as Stream>⟧.tells ⟦<Socket as Stream>⟧.traffic self.old self.new }
         ensures poller { self.new.poller ≡ self.old.poller }
@@ -319,19 +313,19 @@ impl<D: Sectors> EventLoop<D> {
         );
     }
 
-    // May the listener hold more, or did the last poll tell of it?
+    // May the listener hold more, or did the last poll report it?
     fn accepts_now(&self) -> bool
         ensures { result ≡ accepts_now self.now.backlog (items self.now.poller.events) }
     {
         match self.backlog {
-            Backlog::Empty => self.is_told(LISTENER),
+            Backlog::Empty => self.is_reported(LISTENER),
             Backlog::More | Backlog::Failed => true,
         }
     }
 
-    // Did the last poll tell of this token?
-    fn is_told(&self, token: Token) -> bool
-        ensures { result ≡ is_told_of token (items self.now.poller.events) }
+    // Did the last poll report this token?
+    fn is_reported(&self, token: Token) -> bool
+        ensures { result ≡ is_reported_of token (items self.now.poller.events) }
     {
         self.poller
             .events()

@@ -1,4 +1,4 @@
-//! A connection of the system.
+//! A TCP connection as a stream, which passes on the system's answers and counts them.
 
 ghost use Rattle.std.specs.Prelude.{◌≡◌, ◌≤◌, ◌↔◌, ℕ, true};
 ghost use Rattle.std.specs.IoError.{error_kind};
@@ -22,8 +22,8 @@ const SECONDS_BETWEEN_PROBES: u32 = 30;
 /// How many of them go without an answer where the peer is gone.
 const PROBES: u32 = 4;
 
-/// A TCP connection as a stream. That its calls move the bytes that its traffic tells is a premise of whoever relies on it: neither
-/// claimed here nor denied. An interrupted call, and a write that takes no byte, are `Failed`; a read that gives none is `Ended`.
+/// A TCP connection as a stream. That its calls move the bytes that its traffic tells is a premise of whoever relies on it: neither claimed
+/// here nor denied. An interrupted call, and a write of no byte, are `Failed`; a read of none is `Ended`.
 #[derive(Drop)]
 pub struct Socket {
     socket: CountedSocket,
@@ -47,7 +47,7 @@ impl Socket {
         }
     }
 
-    /// Has the poll tell under this token of what comes in, urgent bytes among it, and of room for what goes. Answers the system's error.
+    /// Has the poll report under this token what comes in, urgent bytes among it, and room for what goes. Answers the system's error.
     pub(crate) fn register(&mut self, poll: &CountedPoll, token: Token) -> io::Result<()>
         ensures same { self.new ≡ self.old }
         ensures registered { OnOk result (WasRegistered self.old.socket token all_interests) }
@@ -56,7 +56,7 @@ impl Socket {
         self.socket.register(poll, token, interests)
     }
 
-    /// Has the system send what a write takes at once. Answers the system's error.
+    /// Has the system send at once what is written. Answers the system's error.
     pub(crate) fn send_at_once(&self) -> io::Result<()>
         ensures { OnOk result (SendsAtOnce self.now.socket) }
     {
@@ -80,7 +80,7 @@ impl Socket {
         counts.read_failed == 0 && counts.read_ended == 0 && counts.write_failed == 0
     }
 
-    /// Shuts the connection down for writing once what was written has gone, and has the poll tell under this token of what still comes.
+    /// Shuts the connection down for writing once what was written has gone, and has the poll report under this token what still comes.
     pub(crate) fn half_close(&mut self, poll: &CountedPoll, token: Token) -> io::Result<()>
         ensures same { self.new ≡ self.old }
         ensures half_closed { OnOk result (IsHalfClosed token self.old.socket) }
@@ -100,7 +100,7 @@ pub(crate) fn would_wait(error: &io::Error) -> bool
 
 // What a read answers where the system answers so.
 fn read_answer(outcome: io::Result<usize>) -> ReadAnswer
-    ensures told { ReadsAs outcome result }
+    ensures answers { ReadsAs outcome result }
     ensures bytes { bytes_read result ≡ moved outcome }
     ensures within { (len : ℕ) → moved outcome ≤ len → ReadsWithin result len }
 {
@@ -114,7 +114,7 @@ fn read_answer(outcome: io::Result<usize>) -> ReadAnswer
 
 // What a write answers where the system answers so.
 fn write_answer(outcome: io::Result<usize>) -> WriteAnswer
-    ensures told { WritesAs outcome result }
+    ensures answers { WritesAs outcome result }
     ensures bytes { bytes_written result ≡ moved outcome }
     ensures within { (len : ℕ) → moved outcome ≤ len → WritesWithin result len }
 {
@@ -136,11 +136,12 @@ impl Stream for Socket {
 
     ghost keeps_share = { ⊥ };
 
-    ghost is_told = { λ s. false };
+    ghost has_ended_share = { λ s. false };
 
     ghost traffic = { traffic_of };
 
     fn read<D: Sectors>(&mut self, device: &D, into: &mut [u8]) -> ReadAnswer {
+        // Shown for the contract alone: a read moves nothing to the peer.
         let _ = device;
         let answer = read_answer(self.socket.read(into));
         self.counts.note_read(answer);
@@ -154,6 +155,7 @@ impl Stream for Socket {
     }
 
     fn end_share(&mut self, reply: usize) {
+        // A socket has no share of a turn that could end.
         let _ = reply;
     }
 }

@@ -1,4 +1,4 @@
-//! How long a poll may wait.
+//! How long the next poll may wait.
 ghost use Rattle.std.specs.Prelude.{◌≡◌};
 ghost use Rattle.event_loop.specs.Waits.{nanos_of, own_limit, shorter};
 

@@ -32,11 +32,11 @@ HadLength file bytes = Unit {0}
 pub HadDirectorySynced : OpenedFile → List ℕ → Type 0
 HadDirectorySynced file directory = Unit {0}
 
--- the system told whether what this path names is a symbolic link
+-- the system answered whether what this path names is a symbolic link
 pub WasLink : List ℕ → Bool → Type 0
 WasLink path is = Unit {0}
 
--- the system told that a path leads to this one, in which no name is a symbolic link
+-- the system answered that a path leads to this one, in which no name is a symbolic link
 pub LeadsTo : List ℕ → List ℕ → Type 0
 LeadsTo path resolved = Unit {0}
 
@@ -56,7 +56,7 @@ pub record HadNameSettled (file : OpenedFile) (path : List ℕ) : Type 0 where
   pub there : WasLink path false
       ⊎ ((resolved : List ℕ) × LeadsTo path resolved × HadDirectorySynced file (directory_of resolved))
 
--- the system was told how so many bytes from this offset on will be read, 0 for all that follow, and answered this
+-- the system was advised how so many bytes from this offset on will be read, 0 for all that follow, and answered this
 pub WasAdvised : OpenedFile → ℤ → ℤ → ℤ → ℤ → Type 0
 WasAdvised file offset len advice answer = Unit {0}
 

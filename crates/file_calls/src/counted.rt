@@ -1,4 +1,4 @@
-//! The calls of an open file, each counted.
+//! Reads, writes and syncs of an open file, each counted.
 ghost use Rattle.std.specs.Prelude.{◌≡◌, ◌<◌, ◌↔◌, ◌-◌, ◌^◌, IfErr, IsErr, replicate, is_ok};
 
 use crate::opened::OpenedFile;

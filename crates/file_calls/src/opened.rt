@@ -1,4 +1,4 @@
-//! Opening a file.
+//! Makes and opens files, syncs the directory of their names, and has the system drop its copies of their pages.
 ghost use Rattle.std.specs.Prelude.{IfErr, IfOk, OnOk};
 ghost use Rattle.file_calls.specs.HappenedCalls.{LeadsTo, WasAnswered, WasLink};
 

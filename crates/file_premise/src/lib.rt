@@ -1,5 +1,5 @@
-//! What one may conclude of a store over a file: whoever grants that files keep the sector model has the clauses on crashes at the very
-//! type that `serve` runs. No function here has a proof of its own.
+//! What holds of a store over a file, if files keep the sector model: the clauses on crashes, at the very type that `serve` runs. No
+//! function here has a proof of its own.
 #![tactic(auto)]
 
 ghost use Rattle.std.specs.Prelude.{◌≡◌, true, false, IfErr, IfOk, IsErrOf};
@@ -50,5 +50,5 @@ pub fn lives(hub: &Hub<FileSectors>)
     ensures from_nothing { FileKeepsModel → LivesFromNothing hub.now }
     ensures one_history { FileKeepsModel → LivesHaveOneHistory hub.now }
 {
-    hub.lives_lose_nothing()
+    hub.law_lives_lose_nothing()
 }

@@ -1,4 +1,4 @@
-//! The steps of marks.
+//! The steps of a transaction's marks: 1 at each key that it read, 0 at the others.
 ghost use Rattle.std.specs.Prelude.{◌≡◌, ◌≤◌, IsTrue, IfOk, [], ◌∷◌, length, if◌then◌else◌};
 ghost use Rattle.model.specs.Map.{Bytes};
 ghost use Rattle.model.specs.PrivateCopy.{covers, is_covered};

@@ -1,11 +1,11 @@
-//! The last readers.
+//! For each key the last commit that read it: look-ups, new readers, and those that are forgotten.
 ghost use Rattle.std.specs.Prelude.{◌≡◌, ◌<◌, ◌-◌, ◌||◌, ℕ, Bool, List, [], None, length, max, nat_lt, false, OnOk};
 ghost use Rattle.model.specs.Map.{Bytes};
 ghost use Rattle.model.specs.PrivateCopy.{Mark};
-ghost use Rattle.merging_runs.specs.Held.{due_upto, given_a_forget, size_in};
+ghost use Rattle.merging_runs.specs.Held.{garbage_upto, given_a_forget, size_in};
 ghost use Rattle.merging_runs.specs.Next.{IsNext};
 ghost use Rattle.last_readers.specs.Readers.{AddsRun, AnswerAlike, AreMoved, AreUpto, HasRoom, IsForgotten, IsNoted};
-ghost use Rattle.last_readers.specs.Readers.{IsReady, NameNoneUpto, after, due_of, is_named, last_reader};
+ghost use Rattle.last_readers.specs.Readers.{IsReady, NameNoneUpto, after, garbage_of, is_named, last_reader};
 ghost use Rattle.merging_runs.specs.RunSizes.{IsTried, LeavesMerges, are_alike};
 
 use crate::gathering::steps_of;
@@ -157,14 +157,14 @@ impl LastReaders {
     }
 
     /// Forgets the last readers with numbers up to `oldest`: to such keys it answers from then on that there is none. Of what stands in the
-    /// runs it drops a part: what is as old goes in steps, as much in each as `Runs::forget_step` tells. Merging leaves out what is as old
+    /// runs it drops a part: what is as old goes in steps, as much in each as `Runs::forget_step` says. Merging leaves out what is as old
     /// too. Answers whether it has to be called again until all that is as old is gone. Takes no memory.
     pub fn forget_step(&mut self, oldest: u64) -> bool
         ensures forgotten { IsForgotten oldest self.old.readers self.new.readers }
         ensures upto { (n : ℕ) → AreUpto n self.old.readers → AreUpto n self.new.readers }
         ensures oldest { self.new.readers.oldest ≡ max self.old.readers.oldest oldest }
-        ensures due { due_of self.new ≡ due_upto self.new.readers.oldest self.old.held - given_a_forget }
-        ensures still { result ≡ nat_lt 0 (due_of self.new) }
+        ensures garbage { garbage_of self.new ≡ garbage_upto self.new.readers.oldest self.old.held - given_a_forget }
+        ensures still { result ≡ nat_lt 0 (garbage_of self.new) }
         ensures named { result ≡ false → NameNoneUpto self.new.readers.oldest self.new.readers }
         ensures merges { LeavesMerges self.new.readers.oldest self.old.runs self.new.runs self.old.refused self.new.refused }
     {
@@ -178,7 +178,7 @@ impl LastReaders {
         ensures forgotten { IsForgotten oldest self.old.readers self.new.readers }
         ensures upto { (n : ℕ) → AreUpto n self.old.readers → AreUpto n self.new.readers }
         ensures oldest { self.new.readers.oldest ≡ max self.old.readers.oldest oldest }
-        ensures due { due_of self.new ≡ 0 }
+        ensures garbage { garbage_of self.new ≡ 0 }
         ensures named { NameNoneUpto self.new.readers.oldest self.new.readers }
         ensures merges { LeavesMerges self.new.readers.oldest self.old.runs self.new.runs self.old.refused self.new.refused }
     {

@@ -1,4 +1,4 @@
-//! Two lists of steps made into one.
+//! Merges two lists of steps, from the greatest key down: at each key the later reader is kept.
 ghost use Rattle.std.specs.Prelude.{◌≡◌, ◌≤◌, ◌<◌, ◌+◌, IsTrue, Bool, true, false};
 ghost use Rattle.std.specs.VecDeque.{deque_len, deque_capacity};
 ghost use Rattle.std.specs.declared.cmp.Ordering.TheVariants.{Less, Equal, Greater};

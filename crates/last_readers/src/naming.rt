@@ -1,4 +1,4 @@
-//! The numbers that steps name.
+//! The least commit number above a given one in a list of steps.
 ghost use Rattle.std.specs.Prelude.{◌≡◌, ◌||◌, ℕ, Bool};
 ghost use Rattle.std.specs.List.{list_any};
 ghost use Rattle.merging_runs.specs.Next.{IsNext};

@@ -1,4 +1,4 @@
-//! A run of numbers by key.
+//! A sorted run: the last readers among consecutive commits, as steps by rising key.
 ghost use Rattle.std.specs.Prelude.{◌≡◌, ◌≤◌, ◌+◌, ◌-◌, ◌++◌, IsTrue, map};
 ghost use Rattle.std.specs.VecDeque.{deque_len, deque_capacity};
 ghost use Rattle.model.specs.Map.{Bytes};

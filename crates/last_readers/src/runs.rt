@@ -1,4 +1,4 @@
-//! Runs of numbers by key, merged in steps.
+//! Sorted runs of last readers, as `merging_runs` merges, frees and sweeps them.
 ghost use Rattle.std.specs.Prelude.{◌≡◌, ◌≤◌, ◌<◌, ◌+◌, ◌++◌, [], ◌∷◌, IsTrue, max};
 ghost use Rattle.std.specs.VecDeque.{deque_len, deque_capacity};
 ghost use Rattle.last_readers.specs.Readers.{IsWithRun, greatest_at};
@@ -43,7 +43,7 @@ pub(crate) fn add_run(runs: &mut Runs<ReadRun>, run: ReadRun)
     runs.push(run);
 }
 
-// Gives back the room of the two runs that one is made of, once nothing is left of them.
+// Frees the room of the two runs that one is made of, once nothing is left of them.
 fn give_room_back(first: &mut VecDeque<Step>, second: &mut VecDeque<Step>)
     ensures first { first.new.items ≡ first.old.items }
     ensures second { second.new.items ≡ second.old.items }

@@ -1,4 +1,4 @@
-//! Numbers by key, as steps.
+//! A step: the reader at a key, and the one at the keys above it up to the next step.
 ghost use Rattle.std.specs.Prelude.{◌≡◌, ◌≤◌, IsTrue, true, if◌then◌else◌};
 ghost use Rattle.std.specs.Ordering.{is_eq};
 ghost use Rattle.model.specs.Map.{key_cmp};

@@ -1,4 +1,4 @@
-//! Steps of which numbers are forgotten.
+//! Drops forgotten readers from a list of steps, and the steps that then repeat the one before them.
 ghost use Rattle.std.specs.Prelude.{◌≡◌, ◌≤◌, ◌<◌, Some};
 ghost use Rattle.std.specs.VecDeque.{deque_len, deque_capacity};
 ghost use Rattle.last_readers.specs.Steps.{is_told, swept};

@@ -1,4 +1,4 @@
-//! A write, and numbers by which its key is compared.
+//! A write, with the first 16 bytes of its key as two numbers, which compare without loading the key.
 ghost use Rattle.std.specs.Prelude.{◌≡◌, ◌≢◌, ◌⊎◌, true, false, None, IfSome, OnOk};
 ghost use Rattle.model.specs.Key.{IsValue};
 ghost use Rattle.model.specs.Map.{key_cmp, is_same_key, after_write};

@@ -1,4 +1,4 @@
-//! The first bytes of a key as a number.
+//! The first 16 bytes of a key as two numbers.
 ghost use Rattle.std.specs.Prelude.{◌≡◌, ◌<◌, length, drop};
 ghost use Rattle.latest_writes.specs.Heads.{head, AreBytes};
 

@@ -1,4 +1,4 @@
-//! The writes that were collected.
+//! The writes of a log, which are collected while it is read and then made into a map.
 ghost use Rattle.std.specs.Prelude.{◌≡◌, ◌<◌, ◌≤◌, ◌/◌, [], reverse, length, vec_capacity, IfOk, IfSome};
 ghost use Rattle.model.specs.Key.{IsValue};
 ghost use Rattle.model.specs.Map.{after_write, after_writes};
@@ -70,8 +70,8 @@ impl LatestWrites {
     }
 
     /// The map that the writes make. Sorting takes room for as many entries again for a while, unless their keys rise already. Then each
-    /// write is let go as the map takes it up, and the entries' room is given back by halves. `Memory` where memory is refused, and the
-    /// writes are given up.
+    /// write is let go as the map takes it up, and the entries' room is freed by halves. `Memory` where memory is refused, and the writes
+    /// are given up.
     pub fn into_map(self, alloc: Global) -> Result<Map, Memory>
         ensures { IfOk result (λ map. map ≡ self) }
     {

@@ -1,4 +1,4 @@
-//! Leaving out the writes that others have replaced.
+//! Sorts writes by key, and drops those that a later one of the same key has replaced.
 ghost use Rattle.std.specs.Prelude.{◌≡◌, ◌-◌, ◌^◌, min, [], OnOk, IfOk};
 ghost use Rattle.std.specs.List.Sorted.{IsSortedBy};
 ghost use Rattle.model.specs.Map.{after_writes};

@@ -1,4 +1,4 @@
-//! A mark that is lent.
+//! A borrowed mark, and which keys it covers.
 ghost use Rattle.std.specs.Prelude.{◌≡◌};
 ghost use Rattle.model.specs.PrivateCopy.{covers};
 ghost use Rattle.marks.specs.Lent.{lent_mark};

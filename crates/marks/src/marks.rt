@@ -1,4 +1,4 @@
-//! The marks of one transaction.
+//! The marks of one transaction: each once, and 256 at most.
 ghost use Rattle.std.specs.Prelude.{◌≡◌, ◌≤◌, ◌↔◌, [], length, IsTrue, IsOk, OnOk, OnErr, IfOk, Err};
 ghost use Rattle.std.specs.Ordering.{is_le};
 ghost use Rattle.model.specs.PrivateCopy.{is_covered};

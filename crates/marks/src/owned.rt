@@ -1,4 +1,4 @@
-//! One mark.
+//! A mark that owns its keys: a key, a range, or all keys from one to another.
 ghost use Rattle.std.specs.Prelude.{◌≡◌, option_map};
 
 use crate::lent::MarkRef;

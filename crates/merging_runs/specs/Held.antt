@@ -2,15 +2,15 @@
 use Rattle.std.specs.List.{fold}
 use Rattle.std.specs.Prelude.{◌≡◌, ℕ, ◌+◌, ◌*◌, ◌-◌, ◌^◌, ◌&&◌, min, nat_le, nat_lt, List, [], ◌∷◌, if◌then◌else◌}
 
--- a run: a number that none of its numbers is below, one that none is above, and how much there is to give back of it,
--- which is one more than what stands in it
+-- a run: a number that none of its numbers is below, one that none is above, and how much there is to free of it, which
+-- is one more than what stands in it
 pub record HeldRun : Type 0 where
   pub from : ℕ
   pub last : ℕ
   pub size : ℕ
 
--- the runs; how much there is still to give back of one that was taken out, of which nothing is asked any more; and how
--- much work earlier steps have left over, none of which was enough for a run
+-- the runs; how much there is still to free of one that was taken out, of which nothing is asked any more; and how much
+-- work earlier steps have left over, none of which was enough for a run
 pub record Held : Type 0 where
   pub runs : List HeldRun
   pub taken : ℕ
@@ -20,7 +20,7 @@ pub record Held : Type 0 where
 abbrev pub size_in : List HeldRun → ℕ
 size_in rs = fold (λ n r. min (n + r.size) (2 ^ 64 - 1)) 0 rs
 
--- how much there is to give back of the runs that have no number above that one
+-- how much there is to free of the runs that have no number above that one
 abbrev pub size_upto : ℕ → List HeldRun → ℕ
 size_upto oldest [] = 0
 size_upto oldest (r ∷ rs) = (if nat_le r.last oldest then r.size else 0) + size_upto oldest rs
@@ -32,16 +32,16 @@ mixed_upto oldest [] = 0
 mixed_upto oldest (r ∷ rs) =
     (if nat_le r.from oldest && nat_lt oldest r.last then min (8 * r.size) (2 ^ 63) else 0) + mixed_upto oldest rs
 
--- how much is to be given back of whole runs where the numbers up to that one are forgotten
+-- how much is to be freed of whole runs where the numbers up to that one are forgotten
 abbrev pub whole_upto : ℕ → Held → ℕ
 whole_upto oldest h = h.taken + size_upto oldest h.runs
 
--- how much is to be done where the numbers up to that one are forgotten: what is to be given back, and what is to be
+-- how much garbage there is where the numbers up to that one are forgotten: what is to be freed, and what is to be
 -- looked at
-abbrev pub due_upto : ℕ → Held → ℕ
-due_upto oldest h = whole_upto oldest h + (mixed_upto oldest h.runs - h.credit)
+abbrev pub garbage_upto : ℕ → Held → ℕ
+garbage_upto oldest h = whole_upto oldest h + (mixed_upto oldest h.runs - h.credit)
 
--- nothing has changed but how much there is still to give back of the one that was taken out
+-- nothing has changed but how much there is still to free of the one that was taken out
 pub record IsSameBut (old new : Held) : Type 0 where
   pub runs : new.runs ≡ old.runs
   pub credit : new.credit ≡ old.credit

@@ -12,14 +12,14 @@ pub record RunsValue (R : Type 0) : Type 0 where
   pub held : Held
   pub refused : ℕ
 
--- nothing has changed but how much there is still to give back of the run that was taken out
+-- nothing has changed but how much there is still to free of the run that was taken out
 pub record OnlyGivesBack {R : Type 0} (old new : RunsValue R) : Type 0 where
   pub runs : new.runs ≡ old.runs
   pub held : IsSameBut old.held new.held
   pub sizes : new.sizes ≡ old.sizes
   pub refused : new.refused ≡ old.refused
 
--- how much there is to give back of a run of so many elements: one more
+-- how much there is to free of a run of so many elements: one more
 abbrev pub held_of : {R : Type 0} → (R → ℕ) → (R → RunSize) → (R → ℕ) → R → HeldRun
 held_of from sizes held r = record { from = from r; last = (sizes r).last; size = held r + 1 }
 
@@ -28,12 +28,12 @@ abbrev pub size_of : {R : Type 0} → (R → ℕ) → Option R → ℕ
 size_of held None = 0
 size_of held (Some r) = held r + 1
 
--- how much there is still to give back of a run that was taken out
+-- how much there is still to free of a run that was taken out
 abbrev pub taken_of : {S : Type 0} → (S → ℕ) → Option S → ℕ
 taken_of left None = 0
 taken_of left (Some s) = left s + 1
 
--- how much there is to give back of the runs that have no number above that one
+-- how much there is to free of the runs that have no number above that one
 abbrev pub size_old : {R : Type 0} → (R → ℕ) → (R → RunSize) → (R → ℕ) → ℕ → List R → ℕ
 size_old from sizes held oldest rs = size_upto oldest (map (held_of from sizes held) rs)
 

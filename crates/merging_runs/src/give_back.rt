@@ -1,4 +1,4 @@
-//! What is given back in steps.
+//! Frees elements in bounded steps, since each may have memory of its own.
 ghost use Rattle.std.specs.Prelude.{◌≡◌, ◌≤◌, ◌<◌, ◌+◌, ℕ};
 ghost use Rattle.std.specs.Vec.{vec_len};
 ghost use Rattle.std.specs.VecDeque.{deque_len};

@@ -1,9 +1,8 @@
 //! Runs that are merged in steps, as a log-structured merge does it.
 //!
-//! A run is what commits one after another have left, with the numbers of these commits. Each commit adds a run. Two runs beside one
-//! another that are of a like size are merged, so that few are left, and a merge goes on a little with each commit, so that no commit is
-//! long. A run that has no number for which one may ask any more is given back, a bounded part of it in one step; one that has such
-//! numbers and others is swept.
+//! A run is what consecutive commits have left, with their numbers. Each commit adds a run. Two neighbouring runs of a similar size are
+//! merged, so that few are left, and a merge goes on a little with each commit, so that no commit is long. A run of which all numbers are
+//! forgotten is freed, a bounded part of it in each step; one that has forgotten numbers and later ones is swept.
 #![tactic(auto)]
 
 mod give_back;

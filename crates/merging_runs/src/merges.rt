@@ -1,4 +1,4 @@
-//! Runs of a like size made into one, some elements at a time.
+//! Merges two neighbouring runs of a similar size, some elements at a time.
 ghost use Rattle.std.specs.Prelude.{◌≡◌, ◌≤◌, ◌<◌, ◌-◌, [], ◌∷◌, true, false, map, take, drop};
 ghost use Rattle.std.specs.Vec.{vec_len};
 ghost use Rattle.merging_runs.specs.RunSizes.{AreMerged, EndsIf, IsMerged, IsMoved, IsTried, RestsFrom, has_alike};

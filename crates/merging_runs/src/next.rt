@@ -1,4 +1,4 @@
-//! The next of the numbers that runs have.
+//! The least number above a given one in runs.
 ghost use Rattle.std.specs.Prelude.{◌≡◌, ◌||◌, ◌==◌, ℕ, Bool};
 ghost use Rattle.std.specs.List.{list_any};
 ghost use Rattle.merging_runs.specs.Next.{IsNext};

@@ -1,4 +1,4 @@
-//! Runs of which nothing is asked any more.
+//! Runs of which all numbers are forgotten: whether there is one, and taking it out.
 ghost use Rattle.std.specs.Prelude.{◌≡◌, ◌+◌, nat_lt, nat_le, map, None};
 ghost use Rattle.std.specs.List.{position};
 ghost use Rattle.merging_runs.specs.RunSizes.{left_above};

@@ -1,4 +1,4 @@
-//! What is asked of a run.
+//! The trait of a run: what it offers so that it can be merged, freed and swept, and its laws.
 ghost use Rattle.std.specs.Prelude.{◌≡◌, ◌≤◌, ◌<◌, ◌+◌, ◌-◌, ◌^◌, ◌++◌, ◌||◌, ℕ, Bool, true, false, List, [], ◌∷◌};
 ghost use Rattle.std.specs.Prelude.{min, IfSome, ⊤};
 ghost use Rattle.merging_runs.specs.Next.{IsNext};
@@ -12,7 +12,7 @@ pub trait Run: Drop {
     /// Places for the elements of a run that is made of two.
     type Places: Drop;
 
-    /// What is left of it while it is given back.
+    /// What is left of it while it is freed.
     type Stale: GiveBack;
 
     /// How far it is merged.
@@ -88,7 +88,7 @@ pub trait Run: Drop {
         ensures rest { result ≡ true → (sizes self.now).left ≡ 0 }
         ensures under_way { result ≡ false → 0 < (sizes self.now).left };
 
-    /// Moves an element of the two, or more of one key, and gives back their room once nothing is left of them. Takes no memory.
+    /// Moves an element of the two, or more of one key, and frees their room once nothing is left of them. Takes no memory.
     fn move_one(&mut self, oldest: u64)
         requires late { oldest < (sizes self.old).last }
         requires some { 0 < (sizes self.old).left }
@@ -106,7 +106,7 @@ pub trait Run: Drop {
         ensures held { held self.new ≤ held self.old }
         ensures room { (sizes self.new).left ≡ 0 → room self.new ≡ 0 };
 
-    /// What there is to give back of it. Takes no memory.
+    /// What there is to free of it. Takes no memory.
     fn into_stale(self) -> Self::Stale
         ensures { held self ≡ Self.Stale.left result };
 

@@ -1,8 +1,8 @@
-//! Runs, merged and given back in steps.
+//! The list of runs: a commit adds one, merges go on in steps, and what is forgotten is dropped.
 ghost use Rattle.std.specs.Prelude.{◌≡◌, ◌≤◌, ◌<◌, ◌+◌, ◌-◌, ◌++◌, ◌||◌, ℕ, Bool, [], ◌∷◌, length, nat_lt, All, OnOk};
 ghost use Rattle.std.specs.Prelude.{None, false};
 ghost use Rattle.std.specs.List.{list_any};
-ghost use Rattle.merging_runs.specs.Held.{IsSameMixed, due_upto, given_a_forget, size_in, whole_upto};
+ghost use Rattle.merging_runs.specs.Held.{IsSameMixed, garbage_upto, given_a_forget, size_in, whole_upto};
 ghost use Rattle.merging_runs.specs.Next.{IsNext};
 ghost use Rattle.merging_runs.specs.RunSizes.{IsMoved, IsTried, LeavesMerges, left_above, moves_for};
 ghost use Rattle.merging_runs.specs.Value.{OnlyGivesBack, size_of};
@@ -22,7 +22,7 @@ const MOVES_EACH: usize = 16;
 /// How many more they get for a commit.
 const MOVES_MORE: usize = 64;
 
-/// How much work a step does: each element that is given back counts as one, and each run as one more.
+/// How much work a step does: each element that is freed counts as one, and each run as one more.
 const GIVEN_BACK_MAX: usize = 1_024;
 
 /// Runs of commits one after another, the earliest first. A clause sees the runs, how many more fit (`places`), how far each is merged
@@ -102,7 +102,7 @@ impl<R: Run> Runs<R> {
         self.refused
     }
 
-    /// Where it takes memory.
+    /// The allocator from which it takes memory.
     pub fn allocator(&self) -> Global {
         *self.runs.allocator()
     }
@@ -156,8 +156,8 @@ impl<R: Run> Runs<R> {
         take_old(&mut self.runs, oldest)
     }
 
-    // Gives back so much at most of the run that is being given back, if there is one: how much more may be given back, which is none while
-    // something is left of it.
+    // Frees so much at most of the run that is being freed, if there is one: how much more may be freed, which is none while something is
+    // left of it.
     fn give_back(&mut self, most: usize) -> usize
         ensures others { OnlyGivesBack self.old self.new }
         ensures taken { self.old.held.taken + result ≡ self.new.held.taken + most }
@@ -174,7 +174,7 @@ impl<R: Run> Runs<R> {
         left - 1
     }
 
-    // Gives back so much at most of a run that was taken out, the whole of it at once where that is enough.
+    // Frees so much at most of a run that was taken out, the whole of it at once where that is enough.
     fn give_back_run(&mut self, run: R, most: usize) -> usize
         requires none { self.old.held.taken ≡ 0 }
         requires some { 0 < most }
@@ -191,8 +191,8 @@ impl<R: Run> Runs<R> {
         self.give_back(most)
     }
 
-    // Gives back runs that have no number above `oldest`, 1,024 of their elements at most: how many more may be given back, which are none
-    // while such a run is left.
+    // Frees runs that have no number above `oldest`, 1,024 of their elements at most: how many more may be freed, which are none while such
+    // a run is left.
     fn give_back_old(&mut self, oldest: u64) -> usize
         ensures agree { R.agree oldest self.new.runs self.old.runs }
         ensures whole { whole_upto oldest self.old.held + result ≡ whole_upto oldest self.new.held + given_a_forget }
@@ -217,8 +217,8 @@ impl<R: Run> Runs<R> {
         requires whole { whole_upto oldest self.old.held ≡ 0 }
         requires most { most ≤ given_a_forget }
         ensures agree { R.agree oldest self.new.runs self.old.runs }
-        ensures due { due_upto oldest self.new.held ≡ due_upto oldest self.old.held - most }
-        ensures still { result ≡ nat_lt 0 (due_upto oldest self.new.held) }
+        ensures garbage { garbage_upto oldest self.new.held ≡ garbage_upto oldest self.old.held - most }
+        ensures still { result ≡ nat_lt 0 (garbage_upto oldest self.new.held) }
         ensures above { result ≡ false → All (R.above oldest) self.new.runs }
         ensures merges { LeavesMerges oldest self.old.sizes self.new.sizes self.old.refused self.new.refused }
     {
@@ -227,15 +227,15 @@ impl<R: Run> Runs<R> {
         rest.is_some()
     }
 
-    /// Does a part of what `forget` does: it gives back runs that have no number above `oldest`, 1,024 of their elements at most, where a
-    /// run counts as one more. Once no such run is left, it sweeps runs that hold what is old beside what isn't, as far as what is left of
-    /// the 1,024 goes, where each element that is looked at counts as 8. What isn't enough for a run is left over for the next step. So a
-    /// run of n elements is swept at once, but only after n / 128 steps. Answers whether it has to be called again until all that is old is
+    /// Does a part of what `forget` does: it frees runs that have no number above `oldest`, 1,024 of their elements at most, where a run
+    /// counts as one more. Once no such run is left, it sweeps runs that hold what is old beside what isn't, as far as what is left of the
+    /// 1,024 goes, where each element that is looked at counts as 8. What isn't enough for a run is left over for the next step. So a run
+    /// of n elements is swept at once, but only after n / 128 steps. Answers whether it has to be called again until all that is old is
     /// gone. Takes no memory.
     pub fn forget_step(&mut self, oldest: u64) -> bool
         ensures agree { R.agree oldest self.new.runs self.old.runs }
-        ensures due { due_upto oldest self.new.held ≡ due_upto oldest self.old.held - given_a_forget }
-        ensures still { result ≡ nat_lt 0 (due_upto oldest self.new.held) }
+        ensures garbage { garbage_upto oldest self.new.held ≡ garbage_upto oldest self.old.held - given_a_forget }
+        ensures still { result ≡ nat_lt 0 (garbage_upto oldest self.new.held) }
         ensures above { result ≡ false → All (R.above oldest) self.new.runs }
         ensures merges { LeavesMerges oldest self.old.sizes self.new.sizes self.old.refused self.new.refused }
     {
@@ -246,11 +246,11 @@ impl<R: Run> Runs<R> {
         self.sweep(oldest, most)
     }
 
-    /// Drops all that has a number up to `oldest`: it gives back the runs that have no other, and sweeps those that have. It takes the time
-    /// of a look at each element of these runs, and no memory.
+    /// Drops all that has a number up to `oldest`: it frees the runs that have no other, and sweeps those that have. It takes the time of a
+    /// look at each element of these runs, and no memory.
     pub fn forget(&mut self, oldest: u64)
         ensures agree { R.agree oldest self.new.runs self.old.runs }
-        ensures due { due_upto oldest self.new.held ≡ 0 }
+        ensures garbage { garbage_upto oldest self.new.held ≡ 0 }
         ensures above { All (R.above oldest) self.new.runs }
         ensures merges { LeavesMerges oldest self.old.sizes self.new.sizes self.old.refused self.new.refused }
     {

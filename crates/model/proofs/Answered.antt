@@ -56,9 +56,9 @@ stays_over st (i ∷ inputs) =
 
 -- ---- the number of a COMMIT, and the begin number of a BEGIN
 
-pub answers_come_before : AnswersComeBefore
+pub law_answers_come_before : AnswersComeBefore
 unfolding step
-answers_come_before st s n failed e inputs s' failed' t none there =
+law_answers_come_before st s n failed e inputs s' failed' t none there =
     let before : n ≤ last (step st s Commit failed).0 = grind (arith, common_steps, commits) in
     let grown = stays_over (step st s Commit failed).0 inputs in
     let is : t.begin ≡ last (state_after (step st s Commit failed).0 inputs) = grind (arith, common_steps, by_case, running_of-with_running) in
@@ -130,6 +130,6 @@ ends bytes = by_case Of (length bytes == 0) _ _ tt (then_of (key_in bytes) (λ k
 limits : (o : Option ℕ) → Of (or_limit o)
 limits o = grind (arith, common_steps)
 
-pub faults_are_of_form : FaultsAreOfForm
+pub law_faults_are_of_form : FaultsAreOfForm
 unfolding command_in alone_in get_in set_in del_in range_in
-faults_are_of_form parts = grind (arith, common_steps, by_case, then_of, counts, keys, ends, limits)
+law_faults_are_of_form parts = grind (arith, common_steps, by_case, then_of, counts, keys, ends, limits)

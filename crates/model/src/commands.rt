@@ -1,4 +1,4 @@
-//! What a session asks and what it is answered.
+//! The commands of a session, and the replies to them.
 use crate::keys::KeyRef;
 use crate::ranges::RangeRef;
 use crate::refusals::Refusal;

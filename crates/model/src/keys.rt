@@ -1,4 +1,4 @@
-//! Keys, lent and owned.
+//! Keys, borrowed and owned, and their order.
 ghost use Rattle.std.specs.Prelude.{◌≡◌, ◌↔◌, ◌≤◌, length, IsSome, IfSome, IfOk, IsOk};
 ghost use Rattle.model.specs.Key.{IsKey};
 ghost use Rattle.model.specs.Map.{key_cmp};

@@ -1,7 +1,7 @@
 //! The store's types, its definitions and the laws about them.
 //!
-//! The definitions stand in `specs/`: maps, a transaction's private copy, histories, dependencies, cycles, the verdict on a commit,
-//! the machine, the serial order, the grammar of requests, the table of commands and the texts of replies.
+//! The definitions stand in `specs/`: maps, a transaction's private copy, histories, dependencies, cycles, the verdict on a commit, the
+//! machine that is the specification, the serial order, the grammar of requests, the table of commands and the texts of replies.
 #![tactic(auto)]
 
 pub mod commands;
@@ -18,8 +18,9 @@ pub mod writes;
 pub use commands::{Command, Reply};
 pub use keys::{KEY_MAX, Key, KeyRef};
 pub use laws::{
-    answers_come_before, cycle_has_dangerous_pivot, cycle_has_pivot, history_has_serial_order,
-    machine_is_serializable, restarts_have_one_order, verdict_is_sound,
+    cycle_has_pivot, law_answers_come_before, law_cycle_has_dangerous_pivot,
+    law_history_has_serial_order, law_machine_is_serializable, law_restarts_have_one_order,
+    law_verdict_is_sound,
 };
 pub use maps::Map;
 pub use pair::Pair;

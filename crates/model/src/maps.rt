@@ -1,4 +1,4 @@
-//! Maps from keys to values.
+//! Maps from keys to values, by rising key.
 ghost use Rattle.std.specs.Prelude.{◌≡◌, ◌≤◌, [], length, Some, None, option_copied, IfOk, IfErr, OnOk, OnErr};
 ghost use Rattle.model.specs.Key.{IsValue};
 ghost use Rattle.model.specs.Map.{IsMap, IsInBounds, value_at, after_write};

@@ -1,4 +1,4 @@
-//! The pairs of a map, lent.
+//! The pairs of a map, borrowed one by one.
 ghost use Rattle.std.specs.Prelude.{◌≡◌};
 ghost use Rattle.model.specs.Map.{IsInBounds};
 

@@ -1,4 +1,4 @@
-//! Ranges of keys.
+//! Ranges of keys, borrowed and owned.
 use crate::keys::{Key, KeyRef};
 
 /// The keys k with `lo <= k < hi`, and where `hi` is `None` all from `lo` on. Where `hi` isn't above `lo` there are none.

@@ -1,4 +1,4 @@
-//! Why requests are refused.
+//! Why requests are refused, and what stands for refused memory.
 use crate::keys::Key;
 use std::alloc::{AllocError, AllocFailed};
 

@@ -1,4 +1,4 @@
-//! Values, and the lengths that follow from theirs.
+//! The most bytes of a value, and what follows from that: those of a request's part, of a request and of a reply.
 
 use crate::keys::KEY_MAX;
 

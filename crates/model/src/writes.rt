@@ -1,4 +1,4 @@
-//! What transactions write.
+//! A write of a transaction: a key with its new value, or deleted.
 ghost use Rattle.std.specs.Prelude.{◌≡◌, option_map, option_copied, IfSome};
 ghost use Rattle.model.specs.Key.{IsValue};
 ghost use Rattle.model.specs.Map.{key_cmp};

@@ -1,4 +1,4 @@
--- What a transaction that runs on a private copy is told of a key, until it writes the key; and that its marks cover it.
+-- What a transaction that runs on a private copy is answered of a key, until it writes the key; and that its marks cover it.
 use Rattle.std.proofs.Common.{ℕ, ◌≡◌, true, false, not, cond, ◌&&◌, List, [], ◌∷◌, ◌++◌, Option, Some, None, refl}
 use Rattle.std.proofs.Common.{sym, ap, ◌∙◌, length, take, arith, inl, inr, nat_lt, nat_cmp}
 use Rattle.std.proofs.lemmas.Bool.{or_from, not-true, false_from_ne_true, both_ways, cond_both, or_cases, or_left}
@@ -55,7 +55,7 @@ module _ (k : Bytes) (v : Option Bytes) where
     pub unwritten : is_written x k ≡ false
     pub value : value_at x.contents k ≡ v
 
-  -- where the request looks at the key, it is told the value, and a mark covers the key; if it doesn't write the key, the copy stays so
+  -- where the request looks at the key, it is answered the value, and a mark covers the key; if it doesn't write the key, the copy stays so
   record Told (q : Operation) (answer : Response × PrivateCopy) : Type 0 where
     told : looks_at k q answer.0 ≡ true → value_given answer.0 k ≡ v
     marked : looks_at k q answer.0 ≡ true → is_covered answer.1.marks k ≡ true

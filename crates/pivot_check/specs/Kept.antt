@@ -5,7 +5,7 @@ use Rattle.std.specs.Prelude.{Option}
 use Rattle.std.specs.Prelude.{Some, None, find, option_map, map, max, ◌+◌, ◌-◌, if◌then◌else◌}
 use Rattle.model.specs.Map.{Bytes, KeyWrite, is_same_key}
 use Rattle.model.specs.PrivateCopy.{Mark, is_covered}
-use Rattle.merging_runs.specs.Held.{Held, due_upto, given_a_forget}
+use Rattle.merging_runs.specs.Held.{Held, garbage_upto, given_a_forget}
 use Rattle.merging_runs.specs.Next.{count_upto}
 use Rattle.merging_runs.specs.RunSizes.{LeavesMerges, RunSize}
 use Rattle.last_readers.specs.Readers.{IsForgotten, NameNoneUpto, Readers, ReadersRoom, is_named, last_reader, after}
@@ -166,21 +166,21 @@ pub record CommittedValue : Type 0 where
   pub room : Room
   pub held : HeldParts
 
--- how much is to be given back of runs of last readers for which none may ask, and of such runs of written keys
-abbrev pub runs_due : CommittedValue → ℕ
-runs_due v = due_upto v.facts.readers.oldest v.held.readers + due_upto v.facts.oldest v.held.written
+-- how much garbage there is: of runs of last readers for which none may ask, and of such runs of written keys
+abbrev pub garbage_runs : CommittedValue → ℕ
+garbage_runs v = garbage_upto v.facts.readers.oldest v.held.readers + garbage_upto v.facts.oldest v.held.written
 
--- A step of what was to be given back has gone. So where the last numbers stay, it is all gone after as many steps as
--- it takes.
+-- A step of the garbage has gone. So where the last numbers stay, all of it is gone after as many steps as it takes.
 pub record IsGivenBack (old new : CommittedValue) : Type 0 where
-  pub readers : due_upto new.facts.readers.oldest new.held.readers
-      ≡ due_upto new.facts.readers.oldest old.held.readers - given_a_forget
-  pub written : due_upto new.facts.oldest new.held.written ≡ due_upto new.facts.oldest old.held.written - given_a_forget
+  pub readers : garbage_upto new.facts.readers.oldest new.held.readers
+      ≡ garbage_upto new.facts.readers.oldest old.held.readers - given_a_forget
+  pub written : garbage_upto new.facts.oldest new.held.written
+      ≡ garbage_upto new.facts.oldest old.held.written - given_a_forget
 
--- such a step was done, and more is to be given back exactly where that is answered
+-- such a step was done, and garbage is left exactly where that is answered
 pub record IsStep (old new : CommittedValue) (more : Bool) : Type 0 where
   pub given_back : IsGivenBack old new
-  pub still : more ≡ nat_lt 0 (runs_due new)
+  pub still : more ≡ nat_lt 0 (garbage_runs new)
 
 -- no more postings are to be moved than before in runs with numbers that may be asked for, and no refusal was counted
 abbrev pub LeavesMergesOf : CommittedValue → CommittedValue → Type 0

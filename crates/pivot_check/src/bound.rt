@@ -1,4 +1,4 @@
-//! Bounds of the numbers of written keys.
+//! Bounds of the commit numbers in a block of 64 written keys, by which a search passes over blocks.
 ghost use Rattle.std.specs.Prelude.{◌≡◌, ◌<◌, ◌-◌, ◌^◌, IsTrue, ℕ, true, false};
 ghost use Rattle.pivot_check.specs.Postings.{Posting, is_asked};
 ghost use Rattle.pivot_check.specs.Bounds.{allows, is_from_bound, are_from_bound};

@@ -1,4 +1,4 @@
-//! The order in which marks are walked.
+//! The marks of a transaction by rising first key: in this order a run is searched for what they cover.
 ghost use Rattle.std.specs.Prelude.{◌≡◌, ◌≤◌, length};
 ghost use Rattle.marks.specs.Marked.{marks_of};
 ghost use Rattle.pivot_check.specs.Places.{places_upto, AreAllPlaces};

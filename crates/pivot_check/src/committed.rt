@@ -1,11 +1,11 @@
-//! The committed transactions.
+//! What is kept of committed transactions: the verdict on a commit, new ones, and those that are forgotten.
 ghost use Rattle.std.specs.Prelude.{◌≡◌, ◌+◌, ◌≤◌, ◌<◌, List, [], length, false, OnOk, ◌-◌};
 ghost use Rattle.model.specs.History.{Record};
 ghost use Rattle.merging_runs.specs.Held.{size_in};
 ghost use Rattle.merging_runs.specs.Next.{IsNext};
 ghost use Rattle.pivot_check.specs.Merged.{AddsWrittenRun, AreMoved, AreMovedWith, IsTriedIn};
 ghost use Rattle.pivot_check.specs.Kept.{Forgets, HasForgotten, HasRoom, IsEmpty, IsStep};
-ghost use Rattle.pivot_check.specs.Kept.{IsInReach, KeepsNoneUpto, LeavesMergesOf, is_kept, kept_count, runs_due};
+ghost use Rattle.pivot_check.specs.Kept.{IsInReach, KeepsNoneUpto, LeavesMergesOf, is_kept, kept_count, garbage_runs};
 ghost use Rattle.pivot_check.specs.Index.{answer_found};
 ghost use Rattle.pivot_check.specs.StandsFor.{StandForSame, StandWithRecord, StandsFor};
 ghost use Rattle.pivot_check.specs.StandsFor.{IsCleared, IsClearedBy, IsPlaced, IsVerdict};
@@ -254,9 +254,9 @@ impl Committed {
 
     /// Does a part of what `forget` does. From then on none may ask that began before `oldest`, and what is left stands for the same
     /// histories, since a flag was fixed when it was noted. What was kept of the transactions that committed at or before `oldest` is
-    /// dropped in steps: as much in each as `Runs::forget_step` tells, of the written keys and of the last readers, so that it is short
-    /// also at the end of a transaction that was open for long. Answers whether it has to be called again until nothing is kept of them.
-    /// Takes no memory.
+    /// dropped in steps: as much in each as `Runs::forget_step` says, of the written keys and of the last readers, so that it is short also
+    /// at the end of a transaction that was open for long. Answers whether it has to be called again until nothing is kept of them. Takes
+    /// no memory.
     pub fn forget_step(&mut self, oldest: u64) -> bool
         requires { oldest ≤ self.old.facts.last }
         ensures stands_for { (h : List Record) → StandsFor self.old.facts h → StandsFor self.new.facts h }
@@ -266,10 +266,10 @@ impl Committed {
         ensures kept { result ≡ false → KeepsNoneUpto self.new.facts.oldest self.new.facts }
         ensures merges { LeavesMergesOf self.old self.new }
     {
-        let are_readers_due = self.readers.forget_step(oldest);
+        let are_readers_garbage = self.readers.forget_step(oldest);
         self.oldest = self.oldest.max(oldest);
-        let are_runs_due = self.runs.forget_step(self.oldest);
-        are_readers_due || are_runs_due
+        let are_runs_garbage = self.runs.forget_step(self.oldest);
+        are_readers_garbage || are_runs_garbage
     }
 
     /// Drops all that was kept of the transactions that committed at or before number `oldest`: their written keys, and the last readers
@@ -280,7 +280,7 @@ impl Committed {
         ensures stands_for { (h : List Record) → StandsFor self.old.facts h → StandsFor self.new.facts h }
         ensures forgets { Forgets oldest self.old.facts self.new.facts }
         ensures forgotten { HasForgotten oldest self.new.facts }
-        ensures due { runs_due self.new ≡ 0 }
+        ensures garbage { garbage_runs self.new ≡ 0 }
         ensures kept { KeepsNoneUpto self.new.facts.oldest self.new.facts }
         ensures merges { LeavesMergesOf self.old self.new }
     {

@@ -1,4 +1,4 @@
-//! What a part of a run says of numbers.
+//! Searches sorted written keys for the least commit number that wrote a key under marks.
 ghost use Rattle.std.specs.Prelude.{◌≡◌, ◌≤◌, ◌<◌, ◌+◌, ◌*◌, ℕ, false, length, take, drop, Some, None, IfSome, ◌∷◌};
 ghost use Rattle.marks.specs.Lent.{lent_mark};
 ghost use Rattle.marks.specs.Marked.{marks_of};

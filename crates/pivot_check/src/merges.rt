@@ -1,4 +1,4 @@
-//! Runs of written keys, merged in steps.
+//! Runs of written keys, as `merging_runs` merges, frees and sweeps them.
 ghost use Rattle.std.specs.Prelude.{◌≡◌, ◌≤◌, ◌<◌, ◌+◌, ◌-◌, ◌^◌, ◌==◌, ℕ, IsTrue, length, Bool};
 ghost use Rattle.std.specs.List.{list_any};
 ghost use Rattle.std.specs.Vec.{vec_capacity};
@@ -30,7 +30,7 @@ fn bounds_for(alloc: Global, count: usize) -> Vec<Bound>
     }
 }
 
-// Gives back the room of the two runs that one is made of, once nothing is left of them.
+// Frees the room of the two runs that one is made of, once nothing is left of them.
 fn give_room_back(run: &mut WrittenRun)
     ensures sizes { sizes_of run.new ≡ sizes_of run.old }
     ensures same { (c : Posting → Bool) → least c (in_run run.new) ≡ least c (in_run run.old) }
@@ -133,6 +133,7 @@ impl Run for WrittenRun {
     }
 
     fn sweep(&mut self, oldest: u64) {
+        // Shows that `last` is a u64, and so `oldest` less than the greatest one.
         let _last = self.last;
         self.first.sweep(oldest);
         self.second.sweep(oldest);

@@ -1,4 +1,4 @@
-//! Two parts of a run made into a third.
+//! One step of a merge: the least key of two parts of a run goes to the end of a third.
 ghost use Rattle.std.specs.Prelude.{◌≡◌, ◌<◌, ◌+◌, ◌++◌, IsTrue, Bool, true, false, length};
 ghost use Rattle.std.specs.Vec.{vec_capacity};
 ghost use Rattle.pivot_check.specs.Postings.{CountAlike, Posting, keys_rise, least};

@@ -1,4 +1,4 @@
-//! A part of a run of written keys.
+//! A part of a run: written keys by rising key, with a bound for each block of 64.
 ghost use Rattle.std.specs.Prelude.{◌≡◌, ◌≤◌, ◌<◌, ◌+◌, ◌*◌, ◌-◌, ◌/◌, ◌^◌, ◌++◌, ◌||◌, ◌==◌, ℕ, Bool, IsTrue};
 ghost use Rattle.std.specs.Prelude.{length, drop, min, [], ◌∷◌};
 ghost use Rattle.std.specs.List.{list_any};

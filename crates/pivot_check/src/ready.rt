@@ -1,4 +1,4 @@
-//! The memory for a commit.
+//! Copies of a transaction's written keys, and places for them, made before its record is appended.
 ghost use Rattle.std.specs.Prelude.{◌≡◌, ◌≤◌, ◌-◌, length, IfOk};
 ghost use Rattle.std.specs.Vec.{vec_len, vec_capacity};
 ghost use Rattle.pivot_check.specs.Kept.{keys_of};

@@ -1,4 +1,4 @@
-//! A run of written keys.
+//! A sorted run of the keys that consecutive commits wrote, at rest or being merged of two.
 ghost use Rattle.std.specs.Prelude.{◌≡◌, ◌≤◌, ◌+◌, ◌-◌, ◌^◌, ◌++◌, IsTrue, Bool, length};
 ghost use Rattle.std.specs.Vec.{vec_capacity};
 ghost use Rattle.pivot_check.specs.Postings.{Posting, keys_rise, are_upto, least};

@@ -1,4 +1,4 @@
-//! Runs of written keys.
+//! Searches over all runs: for an overwritten key, for the first target of a dependency, and for the first pivot.
 ghost use Rattle.std.specs.Prelude.{◌≡◌, ◌<◌, IsTrue, true, false, position, length};
 ghost use Rattle.std.specs.List.{filter};
 ghost use Rattle.model.specs.Map.{KeyWrite};

@@ -1,4 +1,4 @@
-//! The last readers of written keys.
+//! The last concurrent reader of the keys that a transaction wrote: the last source of a dependency on it.
 ghost use Rattle.std.specs.Prelude.{◌≡◌};
 ghost use Rattle.last_readers.specs.Readers.{last_reader};
 ghost use Rattle.pivot_check.specs.Kept.{greater, keys_of, last_source};

@@ -1,4 +1,4 @@
-//! The answer to a commit.
+//! The verdict on a commit.
 ghost use Rattle.std.specs.Prelude.{◌≡◌};
 
 /// What `Committed::verdict` says of a transaction that may commit, and `Committed::note` keeps of it.

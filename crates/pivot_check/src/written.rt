@@ -1,4 +1,4 @@
-//! Written keys by rising key.
+//! Written keys by rising key, each with the commit number and the flag of its writer.
 ghost use Rattle.std.specs.Prelude.{◌≡◌, ◌≤◌, ◌<◌, ◌+◌, ◌-◌, ◌&&◌, ◌||◌, ◌==◌, ℕ, [], ◌∷◌, if◌then◌else◌};
 ghost use Rattle.std.specs.Prelude.{Bool, IsTrue, None, Some, count_by, length, nat_lt, not, take};
 ghost use Rattle.std.specs.List.{insert, list_any};

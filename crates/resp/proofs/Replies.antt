@@ -171,25 +171,25 @@ first_byte (Value None) a = refl
 first_byte (Value (Some b)) a = refl
 first_byte r a = refl
 
-pub one_reading : OneReading
-one_reading Done Done more others p q e = (refl, ap (drop 5) e)
-one_reading Pong Pong more others p q e = (refl, ap (drop 7) e)
-one_reading Done Pong more others p q e = let second = ap (λ t. get_or t 1 0) e in absurd (omega arith)
-one_reading Pong Done more others p q e = let second = ap (λ t. get_or t 1 0) e in absurd (omega arith)
-one_reading (Number m) (Number n) more others p q e = let same = line_one_form m n more others p q (ap (drop 1) e) in (ap (λ n. Number n) same.0, same.1)
-one_reading (Value None) (Value None) more others p q e = (refl, ap (drop 5) e)
-one_reading (Value None) (Value (Some y)) more others p q e = absurd (first_digit (length y) _ _ q (ap (drop 1) (sym (bulk_text y others) ∙ sym e)))
-one_reading (Value (Some x)) (Value None) more others p q e = absurd (first_digit (length x) _ _ p (ap (drop 1) (sym (bulk_text x more) ∙ e)))
-one_reading (Value (Some x)) (Value (Some y)) more others p q e = let same = bulk_one x y more others p q e in (ap (λ b. Value (Some b)) same.0, same.1)
-one_reading (Pairs xs) (Pairs ys) more others p q e =
+pub law_one_reading : OneReading
+law_one_reading Done Done more others p q e = (refl, ap (drop 5) e)
+law_one_reading Pong Pong more others p q e = (refl, ap (drop 7) e)
+law_one_reading Done Pong more others p q e = let second = ap (λ t. get_or t 1 0) e in absurd (omega arith)
+law_one_reading Pong Done more others p q e = let second = ap (λ t. get_or t 1 0) e in absurd (omega arith)
+law_one_reading (Number m) (Number n) more others p q e = let same = line_one_form m n more others p q (ap (drop 1) e) in (ap (λ n. Number n) same.0, same.1)
+law_one_reading (Value None) (Value None) more others p q e = (refl, ap (drop 5) e)
+law_one_reading (Value None) (Value (Some y)) more others p q e = absurd (first_digit (length y) _ _ q (ap (drop 1) (sym (bulk_text y others) ∙ sym e)))
+law_one_reading (Value (Some x)) (Value None) more others p q e = absurd (first_digit (length x) _ _ p (ap (drop 1) (sym (bulk_text x more) ∙ e)))
+law_one_reading (Value (Some x)) (Value (Some y)) more others p q e = let same = bulk_one x y more others p q e in (ap (λ b. Value (Some b)) same.0, same.1)
+law_one_reading (Pairs xs) (Pairs ys) more others p q e =
     let apart : (zs : List (List ℕ × List ℕ)) (c : List ℕ)
     → drop 1 (reply_text (Pairs zs) ++ c) ≡ (decimal (2 * length zs) ++ crlf) ++ (flat_map pair_text zs ++ c) =
     λ zs c. append_assoc (decimal (2 * length zs) ++ crlf) (flat_map pair_text zs) c in
     let lines = line_one_form (2 * length xs) (2 * length ys) _ _ p.0 q.0 (sym (apart xs more) ∙ ap (drop 1) e ∙ apart ys others) in
     let same = pairs_one xs ys more others (let twice = lines.0 in omega arith) (recursion_from_All Fits xs p.1) (recursion_from_All Fits ys q.1) lines.1 in
     (ap (λ all. Pairs all) same.0, same.1)
-one_reading (Refused r) (Refused s) more others p q e = let same = refusal_one r s more others p q e in (ap (λ x. Refused x) same.0, same.1)
-one_reading r s more others p q e = let kind : kind_of r ≡ kind_of s =
+law_one_reading (Refused r) (Refused s) more others p q e = let same = refusal_one r s more others p q e in (ap (λ x. Refused x) same.0, same.1)
+law_one_reading r s more others p q e = let kind : kind_of r ≡ kind_of s =
     sym (first_byte r more) ∙ ap (λ t. get_or t 0 0) e ∙ first_byte s others in absurd (omega arith)
 
 -- a reply's text isn't empty
@@ -203,7 +203,7 @@ first_by : (first all : List Response) (more : List ℕ) → AllByRecursion IsSe
 first_by [] all more p q e = (all, refl, e)
 first_by (r ∷ first) [] more p q e = absurd (text_is_some r _ (sym (append_assoc (reply_text r) (texts_of first) more) ∙ e))
 first_by (r ∷ first) (s ∷ all) more p q e =
-    let same = one_reading r s (texts_of first ++ more) (texts_of all) p.0 q.0 (sym (append_assoc (reply_text r) (texts_of first) more) ∙ e) in
+    let same = law_one_reading r s (texts_of first ++ more) (texts_of all) p.0 q.0 (sym (append_assoc (reply_text r) (texts_of first) more) ∙ e) in
     let rest = first_by first all more p.1 q.1 same.1 in
     (rest.0, (λ i. sym same.0 i ∷ rest.1 i), rest.2)
 

@@ -1,4 +1,4 @@
-//! The command that a request's parts are.
+//! Reads a request's parts as a command, or refuses it.
 ghost use Rattle.std.specs.Prelude.{◌≡◌, ◌≤◌, ◌<◌, ◌+◌, ℕ, List, length, slice_index_or, IfOk};
 ghost use Rattle.std.specs.Str.{str_eq_ignore_ascii_case};
 ghost use Rattle.model.specs.KeyBytes.{key_bytes, end_bytes};

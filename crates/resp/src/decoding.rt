@@ -1,4 +1,4 @@
-//! The request at the front of the input.
+//! Decodes the request at the head of the input: a whole one, the beginning of one, or none.
 ghost use Rattle.std.specs.Prelude.{◌≡◌, ◌≤◌, ◌<◌, ◌+◌, ◌^◌, ◌↔◌, ◌∷◌, ◌++◌, [], ℕ, List, length, take, slice_index};
 ghost use Rattle.std.specs.Prelude.{MatchOption, EachIndex};
 ghost use Rattle.std.specs.Fmt.{decimal};
@@ -171,6 +171,6 @@ pub fn decode(input: &[u8]) -> Decoded<'_>
 
 /// No request's spelling begins another's, and each spells one request alone.
 #[tactic(auto, using(crate::proofs::Requests::array_one_form))]
-pub fn one_spelling()
+pub fn law_one_spelling()
     ensures { OneSpelling }
 {}

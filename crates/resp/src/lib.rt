@@ -1,4 +1,4 @@
-//! The wire format: requests are decoded and read as commands, and replies are written, each so that it is read in one way.
+//! The wire format, RESP2: requests are decoded and read as commands, and replies are written, each so that it is read in one way.
 #![tactic(auto)]
 
 mod commands;
@@ -7,8 +7,9 @@ mod parts;
 mod writing;
 
 pub use commands::command;
-pub use decoding::{Decoded, decode, one_spelling, read_decimal};
+pub use decoding::{Decoded, decode, law_one_spelling, read_decimal};
 pub use parts::Request;
 pub use writing::{
-    BRIEF_MAX, one_reading, write_array_line, write_pair, write_pairs, write_reply, write_request,
+    BRIEF_MAX, law_one_reading, write_array_line, write_pair, write_pairs, write_reply,
+    write_request,
 };

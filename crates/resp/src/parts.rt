@@ -1,4 +1,4 @@
-//! A request: one to four parts, lent from the input.
+//! A request: one to four parts, borrowed from the input.
 ghost use Rattle.std.specs.Prelude.{◌≡◌, ◌+◌, ◌<◌, ◌≤◌, [], ◌∷◌, ◌++◌, List, ℕ, length, take, map, Some, slice_get};
 ghost use Rattle.std.specs.Prelude.{slice_index_or};
 ghost use Rattle.model.specs.Grammar.{IsPart, IsRequest};

@@ -1,4 +1,4 @@
-//! The text of a reply.
+//! Writes the texts of replies and of requests.
 ghost use Rattle.std.specs.Prelude.{◌≡◌, ◌≤◌, ◌<◌, ◌+◌, ◌*◌, ◌++◌, ◌∷◌, [], ℕ, List, length, map, vec_len};
 ghost use Rattle.std.specs.Prelude.{vec_capacity, OnOk, OnErr, IsOk, codes};
 ghost use Rattle.std.specs.List.{flat_map};
@@ -209,7 +209,7 @@ pub fn write_request(out: &mut Vec<u8>, parts: &[&[u8]]) -> Result<(), Memory>
 
 /// No reply's text begins another's, whatever follows either of them, and each is the text of one reply alone. So a client that reads one
 /// reply after another finds what was answered, and never takes the first bytes of one for another.
-pub fn one_reading()
+pub fn law_one_reading()
     ensures replies { OneReading }
     ensures stream { FirstReplies }
 {}

@@ -1,4 +1,4 @@
-//! Why a script ends early.
+//! The faults that end a script early.
 
 use commit_log::{LogFault, Unopened};
 use model::Memory;

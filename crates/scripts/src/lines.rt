@@ -1,4 +1,4 @@
-//! The lines of a script, and those that are printed.
+//! Reads the lines of a script, and writes the lines that are printed.
 ghost use Rattle.std.specs.Prelude.{◌≡◌, ◌≤◌, ◌<◌, ◌++◌, ◌∷◌, [], List, ℕ, length, take, drop, map, slice_index_or};
 ghost use Rattle.std.specs.Prelude.{MatchOption, OnOk, IsTrue, false};
 ghost use Rattle.resp.specs.Writing.{Appends};

@@ -1,4 +1,4 @@
-//! A script over a device in memory.
+//! Plays a script: its sessions over a store on a device in memory, line by line.
 ghost use Rattle.std.specs.Prelude.{◌≡◌, ◌≤◌, IfOk, IfErr};
 ghost use Rattle.sessions.specs.SessionStreams.{HubState};
 ghost use Rattle.sessions.specs.StandsFor.{StandsFor};
@@ -76,7 +76,7 @@ impl<D: Sectors> Script<D> {
         let mut text = Vec::new(alloc);
         for number in 1..u64::MAX {
             if !next_line(reader, &mut text)? {
-                self.hub.is_lawful();
+                self.hub.law_is_lawful();
                 return Ok(());
             }
             self.play_text(number, &text, out)?;

@@ -5,13 +5,13 @@ use Rattle.file_calls.specs.HappenedCalls.{WasClosed, WasOpened, WasOpenedToRead
 use Rattle.sector.specs.FileOpening.{WasMadeOfZeros, WasOpenedWhole, WasOpenedWholeToRead, WhyNotOpened}
 use Rattle.sector.specs.declared.file.FileSectors.{FileSectors}
 
--- the file of this name was opened, to be read and written, or is told why not; behind its first sync the system's
+-- the file of this name was opened, to be read and written, or why not is known; behind its first sync the system's
 -- copies of it are dropped
 abbrev pub OpensFile : List ℕ → Result FileSectors Error → Type 0
 OpensFile name result = MatchResult result (λ d. WasOpenedWhole name d.file
     × (d.drops_copies ≡ true)) (WhyNotOpened (λ f. WasOpened f name))
 
--- the file of this name was opened to be read alone, or is told why not; the system's copies of it stay
+-- the file of this name was opened to be read alone, or why not is known; the system's copies of it stay
 abbrev pub OpensFileToRead : List ℕ → Result FileSectors Error → Type 0
 OpensFileToRead name result =
     MatchResult result (λ d. WasOpenedWholeToRead name d.file

@@ -1,4 +1,4 @@
-//! The device as the crates above see it.
+//! The trait of devices. Its clauses are the sector model: what reads give, and what a crash may leave.
 ghost use Rattle.std.specs.Prelude.{◌≡◌, ◌≢◌, ◌<◌, ◌≤◌, ◌/◌, ℕ, List, length, OnOk, OnErr};
 ghost use Rattle.sector.specs.Failures.{AreCounted, IsCounted};
 ghost use Rattle.sector.specs.SectorModel.{AreWithin, FollowsBytes, FollowsWrite, LeavesNoMore, MightRead};

@@ -1,4 +1,4 @@
-//! A device over a file. What a file gives back and keeps is left open.
+//! A device over a file. That files keep the sector model is a premise, neither claimed nor denied here.
 ghost use Rattle.std.specs.Prelude.{true, false, ◌≡◌, ◌≢◌, ◌<◌, ◌≤◌, ◌*◌, ◌%◌, ◌^◌, ◌↔◌, MatchOption, IfSome, IfOk};
 ghost use Rattle.std.specs.Prelude.{IsOk, IsErrAnd, OnOk, OnErr, replicate, IfErr, Bool, length};
 ghost use Rattle.std.specs.IoError.{error_kind};
@@ -54,7 +54,7 @@ impl FileSectors {
                 drops_copies: false,
             }),
             Err(error) => {
-                // The first error is the one to tell.
+                // The first error is the one to report.
                 let _ = fs::remove_file(rt, path);
                 Err(error)
             }
@@ -109,7 +109,7 @@ impl FileSectors {
         self.file.close();
     }
 
-    /// Counts a call of the file, and tells how it ended. Where the count stands at its end, each call fails.
+    /// Counts a call of the file, and reports how it ended. Where the count stands at its end, each call fails.
     fn told(&mut self, outcome: io::Result<()>) -> Result<(), DeviceFault>
         ensures told { IsOk result ↔ (IsOk outcome × (self.old.failures < greatest)) }
         ensures file { self.new.file ≡ self.old.file }

@@ -9,3 +9,5 @@ pub mod HubEvents
 pub mod Places
 pub mod ReplyLengths
 pub mod Records
+pub mod Sendable
+pub mod Readings

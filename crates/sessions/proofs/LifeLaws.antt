@@ -162,9 +162,9 @@ module _ {D : Type 0} {g : Ghosts D} (old mid new : Hub D g) (h : HubState) (es 
   pub goes_on : Survives old new h (es ++ fs)
   goes_on = grind (arith, common_steps, stays_stopped, leaves_by (run h es).machine.stopped refl, now_by (run h es).machine.stopped refl)
 
-  pub loses_nothing : OnlyNow D g → g.keeps_model → h.machine.stopped ≡ false → (c : List (List ℕ)) → g.left_since (device new) (g.moment (device mid)) c
+  pub law_loses_nothing : OnlyNow D g → g.keeps_model → h.machine.stopped ≡ false → (c : List (List ℕ)) → g.left_since (device new) (g.moment (device mid)) c
       → Holds h (es ++ fs) (length es) c
-  loses_nothing only_now keeps up c left = grind (arith, common_steps, cases_Bool (run h es).machine.stopped, first.now, second.now, earlier, later)
+  law_loses_nothing only_now keeps up c left = grind (arith, common_steps, cases_Bool (run h es).machine.stopped, first.now, second.now, earlier, later)
 
 -- no event
 pub nothing : {D : Type 0} {g : Ghosts D} (hub new : Hub D g) (h : HubState) → device new ≡ device hub → OnlyNow D g → StandsFor hub h → IsSound hub

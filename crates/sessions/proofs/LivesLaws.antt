@@ -10,7 +10,7 @@ use Rattle.commit_log.specs.declared.faults.Unopened.{Unopened}
 use Rattle.engine.proofs.Steps.{reached_next}
 use Rattle.engine.specs.Recovery.{HoldsMap, committed_map}
 use Rattle.sessions.proofs.LifeLaws.{commits_in_event, commits_in_step}
-use Rattle.sessions.proofs.Runs.{CountsNow, OnlyNow, loses_nothing, ran_parts}
+use Rattle.sessions.proofs.Runs.{CountsNow, OnlyNow, law_loses_nothing, ran_parts}
 use Rattle.sessions.proofs.StreamLaws.{machine_reached, moved, reached_moved}
 use Rattle.sessions.specs.Laws.{Ran}
 use Rattle.sessions.specs.Life.{MayFind}
@@ -34,7 +34,7 @@ module _ {D : Type 0} {g : Ghosts D} (any : Hub D g) (only_now : OnlyNow D g) (c
   left dev result Left Maps map opens ends may holds (InRun hub answered last es fs is ran more) c l =
       let begins : Begins dev hub map = subst (λ (r : Result (Hub D g) (Unopened D)). EndsWith dev r map) is ends in
       let h = hub_over (opened map begins.used (g.size dev)) in
-      let z = loses_nothing any only_now counts_now keeps hub answered last es fs ran more h begins.stands refl c l in
+      let z = law_loses_nothing any only_now counts_now keeps hub answered last es fs ran more h begins.stands refl c l in
       (z.0, (begins, z.2), z.1)
 
   pub lose_nothing : (lives : List (Life D g)) (Left : List (List ℕ) → Type 0) (Maps : KeyMap → Type 0)
@@ -59,8 +59,13 @@ module _ {D : Type 0} {g : Ghosts D} (any : Hub D g) (only_now : OnlyNow D g) (c
 pub keeps_answered : {D : Type 0} {g : Ghosts D} (hub : Hub D g) → OnlyNow D g → CountsNow D g → KeepsAnswered hub
 keeps_answered {D} {g} hub only_now counts_now keeps served es fs is =
     let parts = ran_parts served.first hub es fs (subst (λ (xs : List (HubEvent × Choice)). Ran served.first hub xs) is served.ran) in
-    let h : HubState = hub_over (opened served.start.map served.start.begins.used (g.size served.start.dev)) in
-    (parts.0, parts.1, parts.2, loses_nothing hub only_now counts_now keeps served.first parts.0 hub es fs parts.1 parts.2 h served.start.begins.stands refl)
+    let h : HubState = hub_over (opened served.start.map served.start.begins.used (g.size served.start.dev)) in (
+      parts.0,
+      parts.1,
+      parts.2,
+      law_loses_nothing hub only_now counts_now keeps served.first parts.0 hub es fs parts.1 parts.2 h served.start.begins.stands
+          refl,
+    )
 
 -- ---- what was committed in all of them has one order
 

@@ -161,10 +161,10 @@ module _ {D : Type 0} {g : Ghosts D} (old new : Engine D g) (s : ℕ) (before af
       → ServesSession old new s before after OfDone
   bad front a inbox text status = (Bad, λ m h. effects _ m OfDone (front, λ wrong. absurd (cc)) (a m h) (standing _ inbox text status) refl)
 
-  pub refused_memory : (parts : List Bytes) (used : ℕ) → IsFront before.inbox (Whole parts used) → IsTrue (takes_memory (asks parts)) → Aborts old new s
+  pub test_refused_memory : (parts : List Bytes) (used : ℕ) → IsFront before.inbox (Whole parts used) → IsTrue (takes_memory (asks parts)) → Aborts old new s
       → after.inbox ≡ [] → after.pending ≡ [] → IsNotRefused old s (asks parts) → after.status ≡ Refused → ServesSession old new s before after OfMemory
-  refused_memory parts used front takes a inbox none due status =
-      (Whole parts used, λ m h. effects _ m OfMemory (front, λ _. (takes, due m h)) (a m h) (standing _ inbox none status) refl)
+  test_refused_memory parts used front takes a inbox none garbage status =
+      (Whole parts used, λ m h. effects _ m OfMemory (front, λ _. (takes, garbage m h)) (a m h) (standing _ inbox none status) refl)
 
 -- nothing is the beginning of a request
 nothing_begins : IsProperBeginning []

@@ -9,7 +9,7 @@ use Rattle.model.specs.Operations.{Operation}
 use Rattle.sector.specs.SectorModel.{LeavesOnly}
 use Rattle.sessions.proofs.EventSteps.{stream-some}
 use Rattle.sessions.proofs.LifeLaws.{hub-stopped, Survives, goes_on, nothing, one_event, weaker}
-use Rattle.sessions.proofs.LifeLaws.{loses_nothing as survivors_lose_nothing}
+use Rattle.sessions.proofs.LifeLaws.{law_loses_nothing as survivors_lose_nothing}
 pub use Rattle.sessions.proofs.LifeLaws.{CountsNow, OnlyNow}
 use Rattle.sessions.proofs.StreamLaws.{always, machine_reached, are_streams}
 use Rattle.sessions.specs.Calls.{has_failed}
@@ -103,10 +103,10 @@ module _ {D : Type 0} {g : Ghosts D} (any : Hub D g) (only_now : OnlyNow D g) (c
       (one_event old r.1 h e.0 e.1 counts_now s r.2 keeps (first_sound r.1 new es r.3))
       (ran_survives r.1 new es r.3 (hub_step h e.0 e.1).0 there)
 
-  pub loses_nothing : (old mid new : Hub D g) (es fs : List (HubEvent × Choice)) → Ran old mid es → Ran mid new fs → (h : HubState) → StandsFor old h
+  pub law_loses_nothing : (old mid new : Hub D g) (es fs : List (HubEvent × Choice)) → Ran old mid es → Ran mid new fs → (h : HubState) → StandsFor old h
       → h.machine.stopped ≡ false
       → (c : List (List ℕ)) → g.left_since (device new) (g.moment (device mid)) c → Holds h (es ++ fs) (length es) c
-  loses_nothing old mid new es fs p q h s up =
+  law_loses_nothing old mid new es fs p q h s up =
       survivors_lose_nothing old mid new h es fs (ran_survives old mid es p h s) (ran_survives mid new fs q (run h es) (ran_stands old mid es p h s)) only_now
       keeps up
 

@@ -21,11 +21,11 @@ use Rattle.sessions.specs.declared.buffer.Buffer.{Buffer}
 use Rattle.sessions.specs.declared.requests.Served.{Served}
 use Rattle.sessions.specs.declared.requests.Served.TheVariants.{Answered, Incomplete, Broken, Refused}
 
--- the bytes that were not given out yet
+-- the bytes that were not consumed yet
 abbrev pub rest : Buffer → Bytes
 rest b = drop b.start b.bytes.items
 
--- what was given out is a part of its bytes, which are so many at most, and it has room for as many
+-- what was consumed is a part of its bytes, which are so many at most, and it has room for as many
 pub record IsWithin (max : ℕ) (buffer : Buffer) : Type 0 where
   pub start : buffer.start ≤ vec_len buffer.bytes
   pub len : vec_len buffer.bytes ≤ max

@@ -8,8 +8,8 @@ use Rattle.model.specs.Map.{Bytes}
 use Rattle.model.specs.Operations.{Operation, Response, Begin, Done}
 use Rattle.model.specs.ReplyText.{reply_text}
 use Rattle.sector.specs.SectorModel.{LeavesOnly}
-use Rattle.versions.specs.Meaning.{IsReclaimedInPart, due_of}
-use Rattle.pivot_check.specs.Kept.{HasForgotten, IsGivenBack, KeepsNoneUpto, runs_due}
+use Rattle.versions.specs.Meaning.{IsReclaimedInPart, garbage_of}
+use Rattle.pivot_check.specs.Kept.{HasForgotten, IsGivenBack, KeepsNoneUpto, garbage_runs}
 use Rattle.engine.specs.Meaning.{committed_of, facts_of, versions_of}
 use Rattle.engine.specs.Recovery.{HoldsMap, committed_map}
 use Rattle.sessions.specs.Calls.{has_failed}
@@ -18,8 +18,8 @@ use Rattle.sessions.specs.SessionStreams.{Open, HubState, SessionStream, HubEven
 use Rattle.sessions.specs.SessionStreams.{run, replies_text, requests_text, asks, stream_of, hub_step}
 use Rattle.sessions.specs.StandsFor.{Ghosts, Hub, StandsFor, device, failures, is_stopped}
 
--- what came in is the spellings of the requests that were served and then the inbox, until it was emptied for good;
--- the texts of the machine's replies are the bytes that were told to be sent and then those that are pending
+-- what came in is the spellings of the requests that were served and then the inbox, until it was emptied for good; the
+-- texts of the machine's replies are the bytes that were reported as sent and then those that are pending
 pub record IsSessionStream (st : SessionStream) : Type 0 where
   pub rest : Bytes
   pub input : st.received ≡ requests_text st ++ rest
@@ -103,8 +103,7 @@ pub record Runs {D : Type 0} {g : Ghosts D} (old new : Hub D g) (events : List H
 abbrev pub HasRun : {D : Type 0} {g : Ghosts D} → Hub D g → Hub D g → Type 0
 HasRun old new = (choices : List (HubEvent × Choice)) × Ran old new choices
 
--- Alone, the event is a run: where it leads on by a choice, it does by one that tells of a failure only where the store
--- stops.
+-- Alone, the event is a run: where it leads on by a choice, it does by one with a failure only where the store stops.
 abbrev pub RunsAlone : {D : Type 0} {g : Ghosts D} → Hub D g → Hub D g → HubEvent → Type 0
 RunsAlone old new e =
     (c : Choice) → c.failed ≡ has_failed old.engine new.engine
@@ -117,15 +116,15 @@ abbrev pub NoneRuns : {D : Type 0} {g : Ghosts D} → Hub D g → Type 0
 NoneRuns hub = Ran hub hub []
 
 -- What no open transaction needs has gone, or a step of it, by no event. What was kept to check later commits against
--- those that committed before each open one began is asked for no more. Old versions go in steps, and so do the runs in
--- which that was kept; `more` says whether some are still due: once none are, nothing is kept of a commit that is
+-- those that committed before each open one began is asked for no more. Superseded versions go in steps, and so do the
+-- runs in which that was kept; `more` says whether garbage is left: once none is, nothing is kept of a commit that is
 -- forgotten.
 pub record GivesBack {D : Type 0} {g : Ghosts D} (old new : Hub D g) (more : Bool) : Type 0 where
   pub ran : Ran old new []
   pub versions : (h : HubState) → StandsFor old h
       → IsReclaimedInPart (versions_of old.engine) (versions_of new.engine) (begins h)
   pub more_is : (h : HubState) → StandsFor old h
-      → more ≡ nat_lt 0 (due_of (begins h) (versions_of new.engine) + runs_due (committed_of new.engine))
+      → more ≡ nat_lt 0 (garbage_of (begins h) (versions_of new.engine) + garbage_runs (committed_of new.engine))
   pub runs : IsGivenBack (committed_of old.engine) (committed_of new.engine)
   pub forgotten : (h : HubState) → StandsFor old h → (n : ℕ) → n ≤ last h.machine
       → AllByRecursion (λ e. n ≤ e.1.begin) h.machine.running → HasForgotten n (facts_of new.engine)

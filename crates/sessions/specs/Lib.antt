@@ -6,4 +6,5 @@ pub mod Laws
 pub mod Crashes
 pub mod Lives
 pub mod OneOrder
+pub mod Readings
 pub mod Places

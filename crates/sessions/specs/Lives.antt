@@ -2,7 +2,7 @@
 use Rattle.std.specs.Prelude.{◌≡◌, ◌⊎◌, ◌<◌, ℕ, List, [], ◌∷◌, ◌++◌, length, Result, Ok, MatchResult, IfErr, IsErrAnd}
 use Rattle.std.specs.Prelude.{⊤}
 use Rattle.model.specs.Machine.{opened}
-use Rattle.model.specs.Map.{KeyMap}
+use Rattle.model.specs.Map.{KeyMap, IsInBounds}
 use Rattle.sector.specs.SectorModel.{IsSettled, LeavesOnly}
 use Rattle.commit_log.specs.Format.{current}
 use Rattle.commit_log.specs.LogFaults.{IsDeviceOrMemory, IsOpenFault}
@@ -17,10 +17,11 @@ use Rattle.sessions.specs.Life.{Holds, MayFind}
 use Rattle.sessions.specs.SessionStreams.{HubEvent, Choice, hub_over}
 use Rattle.sessions.specs.StandsFor.{Ghosts, Hub, StandsFor, device, device_after}
 
--- the hub begins with this map
+-- the hub begins with this map, whose keys and values are in bounds
 pub record Begins {D : Type 0} {g : Ghosts D} (dev : D) (hub : Hub D g) (map : KeyMap) : Type 0 where
   pub used : ℕ
   pub stands : StandsFor hub (hub_over (opened map used (g.size dev)))
+  pub in_bounds : IsInBounds map
 
 -- an opening ends with this map or, where it gives no hub, the device failed or memory was refused
 abbrev pub EndsWith : {D : Type 0} {g : Ghosts D} → D → Result (Hub D g) (Unopened D) → KeyMap → Type 0
@@ -33,8 +34,8 @@ pub record Opens {D : Type 0} {g : Ghosts D} (dev : D) (result : Result (Hub D g
   pub ends : (image : List (List ℕ)) (map : KeyMap) → length image ≡ g.size dev → ReadsAs (g.may_read dev) image
       → HoldsMap image map → EndsWith dev result map
 
--- An opening tells why it gives no hub: `Device` exactly where a call failed; and what is too short, damaged, no log or
--- has an old head as that.
+-- An opening reports why it gives no hub: `Device` exactly where a call failed; and what is too short, damaged, no log
+-- or has an old head as that.
 pub record TellsWhy {D : Type 0} {g : Ghosts D} (dev : D) (result : Result (Hub D g) (Unopened D)) : Type 0 where
   pub faults : IfErr result (λ u. IsOpenFault u.fault)
   pub cause : IfErr result (λ u. TellsFailure (g.failures dev) (g.failures u.device) u.fault)

@@ -36,7 +36,7 @@ pub record SessionStream : Type 0 where
   pub served : List (List Bytes)
   -- the machine's replies
   pub replies : List Response
-  -- the bytes that were told to be sent
+  -- the bytes that were reported as sent
   pub sent : Bytes
 
 -- the texts of the replies, joined

@@ -1,8 +1,8 @@
-//! Bytes that are added at the end and taken from the front.
+//! An inbox: bytes that are added at the end and consumed from the head.
 ghost use Rattle.std.specs.Prelude.{◌≡◌, ◌≤◌, ◌+◌, ◌++◌, [], length, drop, vec_len, vec_capacity};
 ghost use Rattle.sessions.specs.Calls.{IsWithin, rest};
 
-/// Bytes, of which the first `start` are given out.
+/// Bytes, of which the first `start` are consumed.
 #[derive(Drop)]
 pub(crate) struct Buffer {
     pub(crate) bytes: Vec<u8>,
@@ -18,7 +18,7 @@ impl Buffer {
         &self.bytes[self.start..]
     }
 
-    /// Nothing is left. Takes no memory, and gives none back.
+    /// Nothing is left. Takes no memory, and frees none.
     pub(crate) fn clear(&mut self)
         ensures empty { self.new.bytes.items ≡ [] }
         ensures start { self.new.start ≡ 0 }
@@ -28,7 +28,7 @@ impl Buffer {
         self.start = 0;
     }
 
-    /// The first `n` bytes are given out. No byte is moved.
+    /// The first `n` bytes are consumed. No byte is moved.
     pub(crate) fn consume(&mut self, n: usize)
         requires { self.old.start + n ≤ vec_len self.old.bytes }
         ensures rest { rest self.new ≡ drop n (rest self.old) }
@@ -42,7 +42,7 @@ impl Buffer {
         }
     }
 
-    /// The bytes that were given out make place.
+    /// The bytes that were consumed make room.
     fn compact(&mut self)
         requires { self.old.start ≤ vec_len self.old.bytes }
         ensures rest { self.new.bytes.items ≡ rest self.old }

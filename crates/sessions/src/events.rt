@@ -1,4 +1,4 @@
-//! What happens to a hub, and what it answers.
+//! The events of a hub, its answers to them, and the limits of a session.
 
 use model::VALUE_MAX;
 

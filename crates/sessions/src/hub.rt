@@ -1,4 +1,4 @@
-//! The sessions that are present, over one engine.
+//! The hub: the sessions that are present, over one engine, one event at a time.
 ghost use Rattle.std.specs.Prelude.{◌≡◌, ◌↔◌, ◌≤◌, ℕ, true, false, [], length, map};
 ghost use Rattle.engine.specs.Changes.{AddsOneAtMost};
 ghost use Rattle.engine.specs.Meaning.{IsReadOnly, StandsFor as EngineStandsFor, device_of};
@@ -9,6 +9,7 @@ ghost use Rattle.sessions.specs.Laws.{GivesBack, IsLawful, NoneRuns, Runs, RunsA
 ghost use Rattle.sessions.specs.Life.{LosesNothing};
 ghost use Rattle.sessions.specs.Lives.{CutsReopen, KeepsAnswered, LivesLoseNothing, LivesFromNothing};
 ghost use Rattle.sessions.specs.OneOrder.{LivesHaveOneHistory};
+ghost use Rattle.sessions.specs.Readings.{RunsHaveOneReading};
 ghost use Rattle.sessions.specs.SessionStreams.{HubState, is_above, hub_over, Joins, Receives, Serves, Sends, Leaves};
 ghost use Rattle.sessions.specs.StandsFor.{HubLeads, StandsFor, event_of, status_of, room_of, pending_of, device};
 ghost use Rattle.sessions.specs.StandsFor.{CountsRecords, failures, has_written, is_stopped, log, records_of};
@@ -18,7 +19,7 @@ use crate::present::Present;
 use crate::requests::abort_transaction;
 use crate::session::Session;
 use engine::Engine;
-use model::{RANGE_REPLY_MAX, machine_is_serializable, restarts_have_one_order};
+use model::{RANGE_REPLY_MAX, law_machine_is_serializable, law_restarts_have_one_order};
 use sector::Sectors;
 use std::alloc::Global;
 
@@ -53,7 +54,7 @@ impl<D: Sectors> Hub<D> {
         ensures stands { (m : State) → EngineStandsFor engine m → StandsFor result (hub_over m) }
         ensures device { device result ≡ device_of engine }
     {
-        engine.is_lawful();
+        engine.law_is_lawful();
         Hub {
             alloc,
             engine,
@@ -244,10 +245,10 @@ impl<D: Sectors> Hub<D> {
 
     /// Does nothing, and takes no memory. Its contract says what a crash between two events leaves: the map that is committed; once the
     /// store is stopped, that or the one with the writes of the COMMIT that was answered a store fault.
-    pub fn is_stored(&self)
+    pub fn law_is_stored(&self)
         ensures { D.keeps_model → KeepsCommitted self.now }
     {
-        self.engine.is_stored();
+        self.engine.law_is_stored();
     }
 
     /// Applies one event, exactly where it may be applied, and answers `Done` then. Each other outcome and what it leaves stands at
@@ -270,10 +271,10 @@ impl<D: Sectors> Hub<D> {
         ensures device { failures self.old ≤ failures self.new }
         ensures records { CountsRecords self.old self.new (event_of event.now) }
     {
-        machine_is_serializable();
-        self.is_stored();
+        law_machine_is_serializable();
+        self.law_is_stored();
         let outcome = self.apply(event);
-        self.is_stored();
+        self.law_is_stored();
         outcome
     }
 
@@ -288,43 +289,43 @@ impl<D: Sectors> Hub<D> {
         ensures run { Runs self.old self.new (map event_of events.now) }
         ensures device { failures self.old ≤ failures self.new }
     {
-        machine_is_serializable();
-        self.is_stored();
+        law_machine_is_serializable();
+        self.law_is_stored();
         for event in events {
             let _outcome = self.step(event);
         }
     }
 
-    /// Drops what no open transaction needs, a step of it, and answers whether more is due. It may come between any two events, and is
-    /// none: what the hub stands for stays, and so does the device. Ends of transactions take such a step themselves; called again until it
-    /// answers no, it ends what an old reader has left. It looks at 2 of the lists of old versions that are due, and gives back 1,024
+    /// Drops garbage, which no open transaction needs, a step of it, and answers whether any is left. It may come between any two events,
+    /// and is none: what the hub stands for stays, and so does the device. Ends of transactions take such a step themselves; called again
+    /// until it answers no, it ends what an old reader has left. It looks at 2 garbage lists of superseded versions, and frees 1,024
     /// written keys and as many steps of last readers of old runs, so it is short. Takes no memory.
     pub fn reclaim_step(&mut self) -> bool
         ensures { GivesBack self.old self.new result }
     {
-        machine_is_serializable();
-        self.is_stored();
+        law_machine_is_serializable();
+        self.law_is_stored();
         let more = self.engine.reclaim_step();
-        self.is_stored();
+        self.law_is_stored();
         more
     }
 
     /// Does nothing, and takes no memory. Its contract says that no event is a run, that runs that follow each other are one run and a run
     /// is two at each of its events, and what it leads to from each state that its first hub stood for.
-    pub fn runs_follow(&self)
+    pub fn law_runs_follow(&self)
         ensures none { NoneRuns self.now }
         ensures follow { RunsFollow self.now }
         ensures part { RunsPart self.now }
         ensures lead { RunsLead self.now }
     {
-        machine_is_serializable();
-        self.is_stored();
+        law_machine_is_serializable();
+        self.law_is_stored();
     }
 
     /// Does nothing, and takes no memory. Its contract is the law of a store's whole life: a crash at any moment after some events were
     /// answered leaves the map committed when they were answered or at a later moment, one with a COMMIT that was under way since, or
     /// one with the COMMIT that was answered a store fault. So does one at any moment of a process since any of its events.
-    pub fn loses_nothing(&self)
+    pub fn law_loses_nothing(&self)
         ensures crash { LosesNothing self.now }
         ensures answered { KeepsAnswered self.now }
     {}
@@ -334,23 +335,30 @@ impl<D: Sectors> Hub<D> {
     /// the last answered COMMIT, or with that and one COMMIT more, which was under way at the end or was answered a store fault. A log that
     /// was made empty, or that a map was copied into, is never found damaged. All that was committed in them has one order, in which each
     /// transaction is given the replies that it had, and at whose end is the map that is found.
-    pub fn lives_lose_nothing(&self)
+    pub fn law_lives_lose_nothing(&self)
         ensures lives { D.keeps_model → LivesLoseNothing self.now }
         ensures from_nothing { D.keeps_model → LivesFromNothing self.now }
         ensures cut { CutsReopen self.now }
         ensures one_history { D.keeps_model → LivesHaveOneHistory self.now }
     {
-        restarts_have_one_order();
+        law_restarts_have_one_order();
     }
+
+    /// Does nothing, and takes no memory. Its contract says what a client reads from the bytes that its session is sent, at each moment of
+    /// a run since an opening: the machine's replies, in order, and no others. For each of them can be sent: its numbers and lengths fit 64
+    /// bits.
+    pub fn law_replies_have_one_reading(&self)
+        ensures { RunsHaveOneReading self.now }
+    {}
 
     /// Does nothing, and takes no memory. Its contract says what holds of every state that the hub stands for: no reply of an open
     /// transaction depends on others, what has committed has a serial order, and each session's bytes are those of its requests and of
     /// the machine's replies. The order by places is such an order, in which each dependency rises: there is no dangerous pivot, and no two
     /// concurrent transactions wrote one key.
-    pub fn is_lawful(&self)
+    pub fn law_is_lawful(&self)
         ensures lawful { (h : HubState) → StandsFor self.now h → IsLawful h }
         ensures ordered { (h : HubState) → StandsFor self.now h → IsOrderedByPlace h.machine }
     {
-        machine_is_serializable();
+        law_machine_is_serializable();
     }
 }

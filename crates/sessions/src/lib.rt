@@ -19,4 +19,4 @@ mod session;
 
 pub use events::{Event, INBOX_MAX, OUTPUT_KEPT, OUTPUT_ROOM, Outcome, SESSIONS_MAX, Status};
 pub use hub::Hub;
-pub use laws::{crashes_leave_the_last_map, replies_are_private};
+pub use laws::{law_crashes_leave_the_last_map, law_replies_are_private};

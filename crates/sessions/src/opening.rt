@@ -1,4 +1,4 @@
-//! Opening a store again.
+//! Opens a store, be it new or left by an earlier run.
 use crate::hub::Hub;
 use commit_log::Unopened;
 use engine::Engine;

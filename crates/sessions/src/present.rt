@@ -1,4 +1,4 @@
-//! The sessions that are present, by number.
+//! The table of the sessions that are present, by number.
 ghost use Rattle.std.specs.Prelude.{◌≡◌, [], length, Some, IfOk, IfErr, IfNone, OnOk, OnErr, option_copied};
 ghost use Rattle.std.specs.Option.{option_copied_mut};
 ghost use Rattle.std.specs.Map.{lookup, remove_entry};
@@ -126,7 +126,7 @@ impl Present {
         }
     }
 
-    /// The session leaves, and is given back. Takes no memory, and gives none back but the session's.
+    /// The session leaves, and is given back. Takes no memory, and frees none but the session's.
     pub(crate) fn remove(&mut self, s: u64) -> Option<Session>
         ensures value { result ≡ lookup (is_at (nat_cmp s)) self.old }
         ensures entries { self.new ≡ remove_entry (is_at (nat_cmp s)) self.old }

@@ -1,4 +1,4 @@
-//! The text of a reply, until it was sent.
+//! The buffer of one reply, until it was sent. A long reply has a buffer of its own.
 ghost use Rattle.std.specs.Prelude.{◌≡◌, ◌≤◌, ◌<◌, ◌+◌, ◌++◌, [], length, vec_len, vec_capacity, IfOk, OnOk, OnErr};
 ghost use Rattle.std.specs.Fmt.{decimal};
 ghost use Rattle.model.specs.Grammar.{bulk};
@@ -116,7 +116,7 @@ impl ReplyText {
         }
     }
 
-    /// No text stands here then. Takes no memory, and gives back what `large` has beyond `OUTPUT_KEPT` bytes.
+    /// No text stands here then. Takes no memory, and frees what `large` has beyond `OUTPUT_KEPT` bytes.
     fn clear(&mut self)
         ensures { self.new ≡ [] }
     {
@@ -195,12 +195,12 @@ impl ReplyText {
     }
 }
 
-/// Room for the text of one reply at a time, of which the first bytes may be given out. Its `OUTPUT_ROOM` bytes are kept; a longer text has
-/// a buffer of its own, and what that has beyond `OUTPUT_KEPT` bytes goes once all of the text is given out.
+/// Room for the text of one reply at a time, of which the first bytes may be consumed. Its `OUTPUT_ROOM` bytes are kept; a longer text has
+/// a buffer of its own, and what that has beyond `OUTPUT_KEPT` bytes goes once all of the text is consumed.
 #[derive(Drop)]
 pub(crate) struct ReplyBuffer {
     text: ReplyText,
-    /// How many bytes of the text are given out.
+    /// How many bytes of the text are consumed.
     start: usize,
 }
 
@@ -244,7 +244,7 @@ impl ReplyBuffer {
         &self.text.as_slice()[self.start..]
     }
 
-    /// The first `n` bytes are given out. No byte is moved. Takes no memory.
+    /// The first `n` bytes are consumed. No byte is moved. Takes no memory.
     pub(crate) fn consume(&mut self, n: usize)
         requires { n ≤ length self.old }
         ensures { self.new ≡ drop n self.old }

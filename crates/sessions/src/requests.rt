@@ -1,4 +1,4 @@
-//! One request of a session: executed by the engine, answered into an output.
+//! Executes one request of a session, and writes its reply to the session's output.
 ghost use Rattle.std.specs.Prelude.{◌≡◌, ◌≤◌, [], true, false};
 ghost use Rattle.model.specs.KeyBytes.{key_bytes, end_bytes};
 ghost use Rattle.model.specs.Operations.{operation_of, IsFit};
@@ -142,7 +142,8 @@ fn execute<D: Sectors>(
         Command::Commit => commit(engine, s, out),
         Command::Abort => abort(engine, s, out),
         Command::Ping => {
-            engine.passes(s);
+            // Shows what the engine stands for once PING was answered.
+            engine.law_passes(s);
             out.write_brief(&Reply::Pong)
         }
     }
@@ -165,7 +166,8 @@ fn execute_request<D: Sectors>(
     match command(request) {
         Ok(command) => execute(engine, s, command, out),
         Err(refusal) => {
-            engine.passes(s);
+            // Shows what the engine stands for once the refusal was answered.
+            engine.law_passes(s);
             out.write_brief(&Reply::Refused(&refusal))
         }
     }

@@ -1,4 +1,4 @@
-//! One session that is present.
+//! One session: its inbox, its output and its status.
 ghost use Rattle.std.specs.Prelude.{◌≡◌, [], IfOk, vec_capacity};
 ghost use Rattle.model.specs.Bounds.{inbox_max};
 

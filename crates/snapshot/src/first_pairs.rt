@@ -1,4 +1,4 @@
-//! The first pairs of a range, and the mark of a read of them.
+//! How many pairs a RANGE answers, and the mark that it makes.
 ghost use Rattle.std.specs.Prelude.{◌≡◌, List, ℕ, Some, IfOk, IsTrue, OnErr, OnOk, length};
 ghost use Rattle.std.specs.Ordering.{is_le};
 ghost use Rattle.model.specs.KeyBytes.{key_bytes, end_bytes};

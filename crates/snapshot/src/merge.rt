@@ -1,4 +1,4 @@
-//! Writes over pairs, by rising key.
+//! Merges a transaction's own writes over the visible pairs, by rising key.
 ghost use Rattle.std.specs.Option.{ForSome};
 ghost use Rattle.model.specs.Key.{IsValue};
 

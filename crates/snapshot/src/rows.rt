@@ -1,4 +1,4 @@
-//! The pairs that a range read answers.
+//! The pairs that a RANGE answers, borrowed one by one.
 ghost use Rattle.std.specs.Prelude.{◌≤◌, length};
 ghost use Rattle.snapshot.specs.Ahead.{merged_pairs};
 

@@ -1,4 +1,4 @@
-//! The writes of a range, and the mark of a read.
+//! The writes of a transaction within a range, and which keys a RANGE marks.
 ghost use Rattle.std.specs.Prelude.{◌≡◌, ◌↔◌, T, Err, IfSome, IsOk, IsTrue, OnErr, OnOk};
 ghost use Rattle.std.specs.Ordering.{is_le, nat_cmp};
 ghost use Rattle.std.specs.Cmp.Lexicographic.{slice_cmp};

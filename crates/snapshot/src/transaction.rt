@@ -1,4 +1,4 @@
-//! One transaction.
+//! One transaction: its requests are answered as by a private copy of the map at its begin.
 ghost use Rattle.std.specs.Prelude.{◌≡◌, ◌≤◌, ◌<◌, ◌↔◌, [], length, IsTrue, IsOk, IfOk, IfSome, OnOk, OnErr};
 ghost use Rattle.std.specs.Prelude.{Err, Some, None, option_copied, is_some, slice_index_or};
 ghost use Rattle.std.specs.Borrow.{sem};

@@ -15,16 +15,15 @@ use Rattle.socket_calls.specs.declared.polled.CountedPoll.{CountedPoll}
 pub WasAnswered : Error → Type 0
 WasAnswered error = Unit {0}
 
--- its next call was a read that gave these bytes
+-- its next call was a read of these bytes
 pub WasReceived : CountedSocket → List ℕ → Type 0
 WasReceived socket bytes = Unit {0}
 
--- its next call was a write that took these bytes, as the device stood at this moment
+-- its next call was a write of these bytes, as the device stood at this moment
 pub WasSent : CountedSocket → List ℕ → ℕ → Type 0
 WasSent socket bytes moment = Unit {0}
 
--- the system was asked to send what a write takes at once, whatever is still to be acknowledged (TCP_NODELAY), and
--- agreed
+-- the system was asked to send at once what is written, whatever is still to be acknowledged (TCP_NODELAY), and agreed
 pub SendsAtOnce : CountedSocket → Type 0
 SendsAtOnce socket = Unit {0}
 
@@ -33,11 +32,11 @@ SendsAtOnce socket = Unit {0}
 pub AsksWhetherThere : CountedSocket → ℕ → ℕ → ℕ → Type 0
 AsksWhetherThere socket silent between probes = Unit {0}
 
--- a poll was asked to tell of it under this token, of what these interests name, and agreed
+-- a poll was asked to report it under this token, for what these interests name, and agreed
 pub WasRegistered : CountedSocket → Token → Interest → Type 0
 WasRegistered socket token interests = Unit {0}
 
--- the poll that told of it was asked to do so under this token from then on, and of what these interests name alone,
+-- the poll that reported it was asked to do so under this token from then on, and for what these interests name alone,
 -- and agreed
 pub WasReregistered : CountedSocket → Token → Interest → Type 0
 WasReregistered socket token interests = Unit {0}
@@ -54,7 +53,7 @@ WasAskedToWait poll timeout = Unit {0}
 pub ListensAt : ListeningSocket → SocketAddr → Type 0
 ListensAt listener address = Unit {0}
 
--- a poll was asked to tell of it under this token, of what these interests name, and agreed
+-- a poll was asked to report it under this token, for what these interests name, and agreed
 pub TellsOfAccepts : ListeningSocket → Token → Interest → Type 0
 TellsOfAccepts listener token interests = Unit {0}
 

@@ -1,4 +1,4 @@
-//! The calls of a connection, each counted.
+//! Reads and writes of a connection, each counted, and the options that are set on it.
 ghost use Rattle.std.specs.Prelude.{◌≡◌, ◌≢◌, ◌↔◌, ◌-◌, ◌^◌, IsErr, take};
 ghost use Rattle.std.specs.Io.{ReadsAtMost, WritesAtMost};
 ghost use Rattle.libc.specs.Net.{SockOption};
@@ -53,7 +53,7 @@ impl CountedSocket {
         }
     }
 
-    /// Has a poll tell of the connection under this token, of what these interests name. Answers the system's error. It is no counted call.
+    /// Has a poll report the connection under this token, for what these interests name. Answers the system's error. It is no counted call.
     pub fn register(
         &mut self,
         poll: &CountedPoll,
@@ -66,7 +66,7 @@ impl CountedSocket {
         poll.registry().register(&mut self.stream, token, interests)
     }
 
-    /// Has the poll that tells of the connection do so under this token from now on, and of what these interests name alone. Answers the
+    /// Has the poll that reports the connection do so under this token from now on, and for what these interests name alone. Answers the
     /// system's error. It is no counted call.
     pub fn reregister(
         &mut self,
@@ -82,7 +82,7 @@ impl CountedSocket {
             .reregister(&mut self.stream, token, interests)
     }
 
-    /// Has the system send what a write takes at once, also where something is still to be acknowledged (TCP_NODELAY). Answers the system's
+    /// Has the system send at once what is written, also where something is still to be acknowledged (TCP_NODELAY). Answers the system's
     /// error. It is no counted call.
     pub fn send_at_once(&self) -> io::Result<()>
         ensures { OnOk result (SendsAtOnce self.now) }
@@ -133,6 +133,7 @@ impl CountedSocket {
         ensures over { self.old.calls ≡ 2 ^ 64 - 1 → IsErr result }
         ensures happened { self.old.calls ≢ 2 ^ 64 - 1 → WasSent self.old (take (moved result) from.now) (D.moment device.now) }
     {
+        // Shown for the clause `happened` alone, which says at which moment the bytes left.
         let _ = device;
         self.count_call()?;
         self.stream.write(from)

@@ -1,7 +1,7 @@
-//! A connection, a poll and a socket that listens, with the calls that are made of them, and what is left open of them.
+//! A connection, a poll and a listening socket whose calls are counted and named, so that contracts can speak of each.
 //!
-//! What a call of the system did is an open word, and `proofs/` shows of each call that it happened by the lemmas of `HappenedCalls`.
-//! Only the crate `event_loop` lists this one: a crate that doesn't cannot name those lemmas.
+//! What a call of the system did is an open word, of which nothing follows. `proofs/` shows of each call that it happened, by the lemmas of
+//! `HappenedCalls`. Only the crate `event_loop` lists this one: a crate that doesn't cannot name those lemmas.
 #![tactic(auto)]
 
 mod counted;

@@ -1,4 +1,4 @@
-//! A socket that listens.
+//! A listening socket, with the accepts that were asked of it counted.
 ghost use Rattle.std.specs.Prelude.{◌≡◌, ◌+◌, ◌-◌, ◌^◌, max, min, IfOk, OnOk};
 
 use crate::counted::AcceptedSocket;
@@ -29,7 +29,7 @@ impl ListeningSocket {
         })
     }
 
-    /// Has a poll tell of it under this token, of what these interests name. Answers the system's error.
+    /// Has a poll report it under this token, for what these interests name. Answers the system's error.
     pub fn register(
         &mut self,
         poll: &CountedPoll,

@@ -1,4 +1,4 @@
-//! The waits of a poll, each counted.
+//! The system's poll, with its waits counted.
 ghost use Rattle.std.specs.Prelude.{◌≡◌, ◌+◌, ◌-◌, ◌^◌, max, min, IfOk};
 ghost use Rattle.mio.specs.Events.{capacity as events_capacity};
 
@@ -27,7 +27,7 @@ impl CountedPoll {
         })
     }
 
-    // Where what it tells of is registered.
+    // Where what it reports is registered.
     pub(crate) fn registry(&self) -> &Registry {
         self.poll.registry()
     }

@@ -17,7 +17,7 @@ use Rattle.model.proofs.Entries.{IsSorted, IsBelowAll}
 use Rattle.model.proofs.InOrder.{both, parts}
 use Rattle.model.specs.Map.{Bytes}
 use Rattle.sorted_pages.specs.Blanks.{IsBlankTo, shown}
-use Rattle.sorted_pages.specs.Gaps.{AreBeside, IsBeside, IsHiddenFrom, are_held_or_none, end_beside, held_or_none}
+use Rattle.sorted_pages.specs.Gaps.{AreBeside, IsBeside, IsHiddenFrom, are_active_or_none, end_beside, active_or_none}
 use Rattle.sorted_pages.specs.Gaps.{is_in_some, is_none, is_within, none, with_gap}
 use Rattle.sorted_pages.specs.Summaries.{AreAllHiddenIn, AreHidden, AreHiddenIn, AreOver, IsSummary, IsSummaryBut}
 use Rattle.sorted_pages.specs.Summaries.{KeepsGap, all_but, hides_but, hides_some, is_known}
@@ -318,19 +318,19 @@ module _ {X : Type 0} (hides : ℕ → X → Bool) (shows : X → Bool) where
 
   -- ---- gaps are forgotten
 
-  still_hidden : (ns : List ℕ) (es : List (Bytes × X)) (g : Gap) → AreHiddenIn hides es g → AreHiddenIn hides es (held_or_none ns g)
+  still_hidden : (ns : List ℕ) (es : List (Bytes × X)) (g : Gap) → AreHiddenIn hides es g → AreHiddenIn hides es (active_or_none ns g)
   still_hidden ns es g h =
       elim (list_any (λ n. is_within n g) ns) as (λ b. AreHiddenIn hides es (cond b g none)) [ true ↦ h | false ↦ λ n low high. absurd (omega arith) ]
 
-  pub held_gaps : (ns : List ℕ) (es : List (Bytes × X)) (s t : Summary) → t.first ≡ s.first → t.last ≡ s.last → t.live ≡ s.live → t.gap ≡ s.gap
-      → t.older ≡ are_held_or_none ns s.older → IsSummary hides shows es s → IsSummary hides shows es t
-  held_gaps ns es s t f l v gap older h = record {
+  pub active_gaps : (ns : List ℕ) (es : List (Bytes × X)) (s t : Summary) → t.first ≡ s.first → t.last ≡ s.last → t.live ≡ s.live → t.gap ≡ s.gap
+      → t.older ≡ are_active_or_none ns s.older → IsSummary hides shows es s → IsSummary hides shows es t
+  active_gaps ns es s t f l v gap older h = record {
     before = λ n lt. h.before n (omega (arith, f));
     after = λ n le. h.after n (omega (arith, l));
     live = h.live ∙ sym v;
     gap = rw (← gap) at h.gap;
     older =
-        let all : AreAllHiddenIn hides es (are_held_or_none ns s.older) =
+        let all : AreAllHiddenIn hides es (are_active_or_none ns s.older) =
         record {
           first = still_hidden ns es s.older.first h.older.first;
           second = still_hidden ns es s.older.second h.older.second;

@@ -13,9 +13,9 @@ none = record { from = 0; to = 0 }
 abbrev pub is_none : Gap → Bool
 is_none g = nat_le g.to g.from
 
--- the gap, where one of the numbers is in it
-abbrev pub held_or_none : List ℕ → Gap → Gap
-held_or_none ns g = if list_any (λ n. is_within n g) ns then g else none
+-- the gap, where one of these active numbers is in it
+abbrev pub active_or_none : List ℕ → Gap → Gap
+active_or_none ns g = if list_any (λ n. is_within n g) ns then g else none
 
 -- where the numbers below `to` end that may see nothing of a value: at its last change, if it shows
 abbrev pub end_beside : {X : Type 0} → (X → Bool) → (X → ℕ) → X → ℕ → ℕ
@@ -42,11 +42,11 @@ pub record AreBeside {X : Type 0} (hides : ℕ → X → Bool) (shows : X → Bo
 abbrev pub is_in_some : ℕ → Older → Bool
 is_in_some n o = is_within n o.first || (is_within n o.second || is_within n o.third)
 
-abbrev pub are_held_or_none : List ℕ → Older → Older
-are_held_or_none ns o = record {
-  first = held_or_none ns o.first;
-  second = held_or_none ns o.second;
-  third = held_or_none ns o.third;
+abbrev pub are_active_or_none : List ℕ → Older → Older
+are_active_or_none ns o = record {
+  first = active_or_none ns o.first;
+  second = active_or_none ns o.second;
+  third = active_or_none ns o.third;
 }
 
 -- with one gap more, if it has a number: in the first place that has none, and in the last where each has one

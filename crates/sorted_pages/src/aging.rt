@@ -1,4 +1,4 @@
-//! What pages ask of the values that they trim.
+//! The trait of values with several versions: which begin numbers see something of one, and what can be dropped of it.
 
 /// A value that keeps things for numbers, and of which less is needed once fewer numbers are left.
 pub trait Aging {

@@ -1,4 +1,4 @@
-//! Pages change.
+//! Makes room for new entries, splits pages that would grow too large, and adds entries.
 ghost use Rattle.std.specs.Prelude.{◌≡◌, ◌+◌, ◌<◌, ◌≤◌, T, true, None, [], ◌∷◌, ◌++◌, length, is_ok, IsOk, OnOk};
 ghost use Rattle.std.specs.Ordering.{nat_cmp};
 ghost use Rattle.std.specs.Cmp.Lexicographic.{slice_cmp};

@@ -1,4 +1,4 @@
-//! Numbers that see nothing of a page.
+//! A gap: an interval of begin numbers that see nothing of a page.
 ghost use Rattle.std.specs.Prelude.{◌≡◌};
 
 use crate::aging::Aging;
@@ -12,7 +12,7 @@ pub(crate) struct Gap {
 
 impl Gap {
     ghost use Rattle.std.specs.List.{list_any};
-    ghost use Rattle.sorted_pages.specs.Gaps.{IsBeside, held_or_none, is_none, is_within, none};
+    ghost use Rattle.sorted_pages.specs.Gaps.{IsBeside, active_or_none, is_none, is_within, none};
 
     // That of no number.
     pub(crate) fn none() -> Gap
@@ -42,9 +42,9 @@ impl Gap {
         numbers.iter().any(|number| self.has(*number))
     }
 
-    // Itself, where one of these numbers is among them, and else none.
-    pub(crate) fn held_or_none(self, numbers: &[u64]) -> Gap
-        ensures { result ≡ held_or_none numbers.now self }
+    // Itself, where one of these active numbers is in it, and else none.
+    pub(crate) fn active_or_none(self, numbers: &[u64]) -> Gap
+        ensures { result ≡ active_or_none numbers.now self }
     {
         if self.has_any(numbers) {
             self

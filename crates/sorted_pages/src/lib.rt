@@ -1,5 +1,5 @@
-//! A sorted map in pages, of values that age (`Aging`): a list of pages, each a sorted `Vec` of entries, so that a new key moves the
-//! entries of one page and not all.
+//! A sorted map in pages, of values with several versions (`Aging`): a list of pages, each a sorted `Vec` of entries, so that a new key
+//! moves the entries of one page and not all.
 #![tactic(auto)]
 
 mod aging;

@@ -1,4 +1,4 @@
-//! The gaps that a page keeps beside its last one.
+//! Three earlier gaps of a page, which are kept with its last one.
 use crate::aging::Aging;
 use crate::gap::Gap;
 
@@ -12,7 +12,7 @@ pub(crate) struct Older {
 
 impl Older {
     ghost use Rattle.std.specs.Prelude.{◌≡◌};
-    ghost use Rattle.sorted_pages.specs.Gaps.{AreBeside, are_held_or_none, is_in_some, with_gap};
+    ghost use Rattle.sorted_pages.specs.Gaps.{AreBeside, are_active_or_none, is_in_some, with_gap};
 
     // None.
     pub(crate) fn none() -> Older {
@@ -41,14 +41,14 @@ impl Older {
         }
     }
 
-    // Those that one of the numbers is in.
-    pub(crate) fn held(self, numbers: &[u64]) -> Older
-        ensures { result ≡ are_held_or_none numbers.now self }
+    // Those that one of these active numbers is in.
+    pub(crate) fn active(self, numbers: &[u64]) -> Older
+        ensures { result ≡ are_active_or_none numbers.now self }
     {
         Older {
-            first: self.first.held_or_none(numbers),
-            second: self.second.held_or_none(numbers),
-            third: self.third.held_or_none(numbers),
+            first: self.first.active_or_none(numbers),
+            second: self.second.active_or_none(numbers),
+            third: self.third.active_or_none(numbers),
         }
     }
 

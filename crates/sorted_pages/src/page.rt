@@ -1,4 +1,4 @@
-//! One page.
+//! One page: entries by rising key, room for more, and a summary by which a range may pass over it.
 ghost use Rattle.std.specs.Prelude.{◌≡◌, max, ◌+◌, ◌-◌, ◌*◌, ◌<◌, ◌≤◌, T, true, false, None, [], ◌∷◌, ◌++◌, length};
 ghost use Rattle.std.specs.Prelude.{take, drop, IfOk, IfErr, OnOk, OnErr, option_copied, is_ok, if◌then◌else◌};
 ghost use Rattle.std.specs.Ordering.{nat_cmp};
@@ -347,7 +347,7 @@ impl<V: Aging> Page<V> {
                 let left = entry.1.has(number);
                 self.blank = blank_from(&self.entries, self.blank.min(i));
                 self.summary = self.summary.take_in(&self.entries);
-                self.summary = self.summary.held(&self.entries, numbers);
+                self.summary = self.summary.active(&self.entries, numbers);
                 left
             }
             Err(_) => false,

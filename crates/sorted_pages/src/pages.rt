@@ -1,4 +1,4 @@
-//! A sorted map in pages.
+//! The map: look-ups, ranges, room for new keys, and new keys.
 ghost use Rattle.std.specs.Prelude.{◌≡◌, ◌+◌, ◌<◌, ◌≤◌, T, None, [], ◌∷◌, ◌++◌, length, option_copied, is_ok, IsOk};
 ghost use Rattle.std.specs.Prelude.{OnOk};
 ghost use Rattle.std.specs.Ordering.{nat_cmp};
@@ -146,6 +146,7 @@ impl<V: Aging> SortedPages<V> {
     pub fn range(&self, range: RangeRef<'_>, number: u64) -> Entries<'_, V>
         ensures { entries_left V.hides result ≡ shown_in (V.hides number) self.now range.entry.lo.bytes.now (end_bytes range.entry.hi) }
     {
+        // Shows the invariant: the pages are in order.
         let _ = &self.pages;
         match range.hi {
             None => self.within(range.lo, None, number),

@@ -1,4 +1,4 @@
-//! Where keys stand among pages.
+//! Finds the page in which a key stands or would stand.
 ghost use Rattle.std.specs.Prelude.{◌≡◌, ◌<◌, length};
 ghost use Rattle.sorted_pages.specs.Pages.{IsInOrder, IsPlace, count_at, room_at};
 

@@ -1,4 +1,4 @@
-//! Lent entries.
+//! The entries of a range of which a begin number sees something, borrowed one by one.
 use crate::aging::Aging;
 use crate::page::Page;
 use model::{Key, KeyRef};

@@ -1,4 +1,4 @@
-//! What a page knows of all its values together.
+//! The summary of a page: which begin numbers see nothing of all its values.
 use crate::aging::Aging;
 use crate::gap::Gap;
 use crate::older::Older;
@@ -20,7 +20,7 @@ pub(crate) struct Summary {
 impl Summary {
     ghost use Rattle.std.specs.Prelude.{◌≡◌, ◌≢◌, ◌<◌, ◌-◌, ◌^◌, ◌&&◌, ℕ, true, None, Some, length};
     ghost use Rattle.sorted_pages.specs.Summaries.{AreHidden, IsSummary, IsSummaryBut, KeepsGap, hides_but, is_known};
-    ghost use Rattle.sorted_pages.specs.Gaps.{are_held_or_none, is_within};
+    ghost use Rattle.sorted_pages.specs.Gaps.{are_active_or_none, is_within};
 
     // That of no entries.
     pub(crate) fn new() -> Summary
@@ -93,16 +93,16 @@ impl Summary {
         }
     }
 
-    // Forgets the older gaps in which none of the numbers is.
-    pub(crate) fn held<V: Aging>(self, _entries: &[(Key, V)], numbers: &[u64]) -> Summary
+    // Forgets the older gaps in which none of these active numbers is.
+    pub(crate) fn active<V: Aging>(self, _entries: &[(Key, V)], numbers: &[u64]) -> Summary
         requires { IsSummary V.hides V.shows _entries.now self }
         ensures summary { IsSummary V.hides V.shows _entries.now result }
         ensures gap { result.gap ≡ self.gap }
-        ensures older { result.older ≡ are_held_or_none numbers.now self.older }
+        ensures older { result.older ≡ are_active_or_none numbers.now self.older }
         ensures left_out { result.left_out ≡ self.left_out }
     {
         Summary {
-            older: self.older.held(numbers),
+            older: self.older.active(numbers),
             ..self
         }
     }

@@ -1,4 +1,4 @@
-//! A value is trimmed.
+//! Drops what no active number needs from the value of a key.
 ghost use Rattle.std.specs.Prelude.{◌≡◌};
 ghost use Rattle.std.specs.Ordering.{nat_cmp};
 ghost use Rattle.std.specs.Cmp.Lexicographic.{slice_cmp};

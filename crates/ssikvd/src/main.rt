@@ -1,4 +1,4 @@
-// The program: its words, its standard streams, and the exit status that the command answers.
+//! The program: its words and its standard streams go to the commands, and it ends with the status that they answer.
 #![tactic(auto)]
 
 use commands::{Ending, Fault, NullDevice, keep_standard, report, tell};

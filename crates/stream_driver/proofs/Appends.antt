@@ -123,8 +123,8 @@ pending_none {D} {g} {a} {b} {s} some p = seen_after (hlevel props) some p.leads
 pub none_none : {D : Type 0} {g : Ghosts D} (s : ℕ) (hub : Hub D g) → AddsNone s hub hub
 none_none s hub = record { records = refl; wrote = refl }
 
--- Since the drive began, with so many records and a stream that was told so, none was added. Or one was, and the stream takes
--- no more than the reply to that request; or it takes nothing more, and the reply to the next one is pending.
+-- Since the drive began, with so many records and a stream whose share was ended so or not, none was added. Or one was, and the stream takes no more than the
+-- reply to that request; or it takes nothing more, and the reply to the next one is pending.
 pub data SoFar {D : Type 0} {g : Ghosts D} {T : Type 0} (most : ℕ → T → Type 0) (told : T → Bool) (s records : ℕ) (was : Bool) (hub : Hub D g) (stream : T) :
     Type 0 where
   AddedNone : records_of hub ≡ records → told stream ≡ was → SoFar most told s records was hub stream
@@ -138,7 +138,7 @@ IsOut most told s records was hub stream =
     ((records_of hub ≡ records) × (told stream ≡ was))
     ⊎ ((records_of hub ≡ records + 1) × (has_written hub s ≡ false) × most 0 stream × (told stream ≡ true))
 
--- as many as before, or one more, of which the stream was told
+-- as many as before, or one more, with which the share was ended
 abbrev pub IsOnce : ℕ → Bool → ℕ → Bool → Type 0
 IsOnce before was now is = ((now ≡ before) × (is ≡ was)) ⊎ ((now ≡ before + 1) × (is ≡ true))
 
@@ -155,7 +155,7 @@ pub none_written : (answer : WriteAnswer) → ((n : ℕ) → answer ≢ Wrote n)
 none_written (Wrote n) differs = absurd (differs n refl)
 none_written _ differs = refl
 
--- of the bytes that a stream takes at most, it takes some, and then others
+-- of the bytes that a stream takes at most, some are written, and then others
 keeps_to_none : {T : Type 0} {most : ℕ → T → Type 0} {told : T → Bool} (t : T) → KeepsTo most told t 0 t
 keeps_to_none {most = most} t = record {
   takes = λ n m. (let same : n ≡ n - 0 = omega arith in (omega arith, subst (λ x. most x t) same m));
@@ -294,7 +294,7 @@ module _ {D : Type 0} {g : Ghosts D} {T : Type 0} {keeps : Type 0} {most : ℕ �
       let left = (q.share k).takes 0 takes in
       absurd (some (nil_from_length (pending_of hub s) (omega (arith, q.pending, ap length none, left.0))))
 
-  -- a request was looked for, and where that added a record the stream was told, and takes no more than the reply
+  -- a request was looked for, and where that added a record the share was ended, and the stream takes no more than the reply
   pub served : {answer : Exchange} → keeps → IsOut most told s records was hub stream → ServesOnce keeps most told s hub stream answer new after
       → (records_of new ≢ records_of hub → most (length (pending_of new s)) after) → (records_of new ≢ records_of hub → told after ≡ true)
       → pending_of new s ≢ [] → SoFar most told s records was new after

@@ -1,4 +1,4 @@
--- A buffer that holds nothing has room.
+-- A stream that buffers nothing has room.
 use Rattle.std.proofs.Common.{◌≡◌, ◌≢◌, inl, inr, ℕ, ◌-◌, ◌<◌, ◌≤◌, ◌⊎◌, ◌↔◌, not, true, false, List, [], ◌∷◌, ◌++◌}
 use Rattle.std.proofs.Common.{append_assoc, Bool, length, take, drop, vec_len, refl, sym, ap, subst, ◌∙◌, arith}
 use Rattle.std.proofs.Common.{length-drop}
@@ -8,17 +8,17 @@ use Rattle.std.specs.List.{AllByRecursion}
 use Rattle.model.proofs.Elements.{all-each, all-append}
 use Rattle.stream_driver.proofs.Answered.{ends_then, moved_then, none_called}
 use Rattle.stream_driver.proofs.Carry.{grown}
-use Rattle.stream_driver.specs.Buffers.{held_in, BehindEnds, BehindMoved, FlushFails, GivesSome, KeepsBytes}
+use Rattle.stream_driver.specs.Buffers.{buffered_in, BehindEnds, BehindMoved, FlushFails, GivesSome, KeepsBytes}
 use Rattle.stream_driver.specs.Buffers.{ShortAfter, TakesSome, WasRead, WhyGave, WhyGaveSome, WhyTook, WhyTookSome}
 use Rattle.stream_driver.specs.Buffers.{traffic_through, ReadFails, RoomFails, StaysFailed, WhyRoom, WriteFails}
-use Rattle.stream_driver.specs.Buffers.{HasFailed, KeepsTurn, WritesHeld, room_in, Flushes, WhyFlushed}
+use Rattle.stream_driver.specs.Buffers.{HasFailed, KeepsTurn, WritesBuffered, room_in, Flushes, WhyFlushed}
 use Rattle.stream_driver.specs.Traffic.{AllMoved, Departure, DepartAt, EndsWith, IsBeginning, ReadsWithin, Traffic}
 use Rattle.stream_driver.specs.Traffic.{WritesWithin, bytes_read, bytes_written}
 use Rattle.stream_driver.specs.Types.{ReadAnswer, Moved, WriteAnswer, Wrote, WriteBlocked, WriteFailed, Read, Write}
-use Rattle.stream_driver.specs.Types.{HeldBytes, Flushed, All, FlushedBlocked as Blocked, FlushedFailed as Failed}
+use Rattle.stream_driver.specs.Types.{BufferedBytes, Flushed, All, FlushedBlocked as Blocked, FlushedFailed as Failed}
 use Rattle.stream_driver.specs.Types.{BufferedStream, Blocked as ReadBlocked, Failed as ReadFailed}
 
-empty_room : (h : HeldBytes) → held_in h ≡ [] → 0 < room_in h
+empty_room : (h : BufferedBytes) → buffered_in h ≡ [] → 0 < room_in h
 empty_room h e =
     let none : length h.bytes.items - h.left ≡ 0 = sym (length-drop h.left h.bytes.items) ∙ ap length e in
     let len : vec_len h.bytes ≡ length h.bytes.items = h.bytes.ok.0 in
@@ -34,7 +34,7 @@ pub short_moved : (n len : ℕ) (was now short : Bool) → now ≡ was → ((n <
     ↔ ((n < len) × (was ≡ false))
 short_moved n len was now short same how = (λ on. (grind (arith, common_steps), grind (arith, common_steps)), λ p. grind (arith, common_steps))
 
--- a write that was to take so many bytes
+-- a write of so many bytes
 within_most : (answer : WriteAnswer) (most len : ℕ) → most ≤ len → WritesWithin answer most → WritesWithin answer len
 within_most answer most len le within = grind arith
 
@@ -55,35 +55,36 @@ module _ {moment : ℕ} {a b : Traffic} where
   none_departed e = record { departures = []; departed_are = e ∙ sym (append-nil a.departed); each = tt }
 
   module _ {c : Traffic} where
-    -- more was taken since
-    pub departed_and_taken : (more : List ℕ) → c.departed ≡ b.departed → c.taken ≡ b.taken ++ more → DepartAt moment a b → DepartAt moment a c
-    departed_and_taken more e taken p = search (e ∙ p.departed_are, beginnings_then moment b.taken more c.taken taken p.departures p.each)
+    -- more was written since
+    pub departed_and_sent : (more : List ℕ) → c.departed ≡ b.departed → c.sent ≡ b.sent ++ more → DepartAt moment a b → DepartAt moment a c
+    departed_and_sent more e sent p = search (e ∙ p.departed_are, beginnings_then moment b.sent more c.sent sent p.departures p.each)
 
-    pub departed_then : (more : List ℕ) → c.taken ≡ b.taken ++ more → DepartAt moment a b → DepartAt moment b c → DepartAt moment a c
-    departed_then more taken p q =
+    pub departed_then : (more : List ℕ) → c.sent ≡ b.sent ++ more → DepartAt moment a b → DepartAt moment b c → DepartAt moment a c
+    departed_then more sent p q =
         let each = all-append (λ d. (d.moment ≡ moment)
-        × IsBeginning d.bytes c.taken) p.departures q.departures (beginnings_then moment b.taken more c.taken taken p.departures p.each) q.each in
+        × IsBeginning d.bytes c.sent) p.departures q.departures (beginnings_then moment b.sent more c.sent sent p.departures p.each) q.each in
         search (grown a.departed b.departed b.departed c.departed p.departures q.departures p.departed_are refl q.departed_are, each)
 
--- between two writes of what is held
+-- between two writes of what is buffered
 abbrev pub FlushedSoFar : {T : Type 0} (tells : Type 0) (traffic : T → Traffic) (moment : ℕ) → BufferedStream T → BufferedStream T → Type 0
 FlushedSoFar tells traffic moment a b = KeepsBytes tells traffic moment a b × StaysFailed a b × BehindMoved traffic a b
 
--- ---- whether what is held failed to leave
+-- ---- whether what is buffered failed to leave
 
 module _ {T : Type 0} where
   -- some of it left
-  stays_moved : (a b c : BufferedStream T) (n : ℕ) → StaysFailed a b → 0 < n → n ≤ length (held_in b.held) → held_in c.held ≡ drop n (held_in b.held)
+  stays_moved : (a b c : BufferedStream T) (n : ℕ) → StaysFailed a b → 0 < n → n ≤ length (buffered_in b.buffered)
+      → buffered_in c.buffered ≡ drop n (buffered_in b.buffered)
       → c.has_failed ≡ false → StaysFailed a c
-  stays_moved a b c n s some fits held failed =
-      let left : length (held_in c.held) ≡ length (held_in b.held) - n = ap length held ∙ length-drop n (held_in b.held) in
+  stays_moved a b c n s some fits buffered failed =
+      let left : length (buffered_in c.buffered) ≡ length (buffered_in b.buffered) - n = ap length buffered ∙ length-drop n (buffered_in b.buffered) in
       inr (grind arith, failed)
 
-  -- where there was no room, what is held was written
-  pub room_flushed : (a : BufferedStream T) (answer : Flushed) (b : BufferedStream T) → room_in a.held ≡ 0 → FlushFails a answer b → RoomFails a answer b
+  -- where there was no room, what is buffered was written
+  pub room_flushed : (a : BufferedStream T) (answer : Flushed) (b : BufferedStream T) → room_in a.buffered ≡ 0 → FlushFails a answer b → RoomFails a answer b
   room_flushed a answer b none s = grind arith
 
-  write_fails : (old new : BufferedStream T) (answer : WriteAnswer) → held_in new.held ≡ [] → RoomFails old All new → WriteFails old answer new
+  write_fails : (old new : BufferedStream T) (answer : WriteAnswer) → buffered_in new.buffered ≡ [] → RoomFails old All new → WriteFails old answer new
   write_fails old new answer none stays = grind arith
 
   same_turn : {b : BufferedStream T} → KeepsTurn b b
@@ -93,15 +94,15 @@ module _ {T : Type 0} where
   turn_then p q = record { share = q.share ∙ p.share; appended = q.appended ∙ p.appended; heavy = q.heavy ∙ p.heavy }
 
   -- what has failed to leave, if there is any
-  fails_with : (b : BufferedStream T) → b.has_failed ≡ true → (held : List ℕ) → held_in b.held ≡ held
-      → HasFailed b ⊎ ((held_in b.held ≡ []) × StaysFailed b b)
+  fails_with : (b : BufferedStream T) → b.has_failed ≡ true → (buffered : List ℕ) → buffered_in b.buffered ≡ buffered
+      → HasFailed b ⊎ ((buffered_in b.buffered ≡ []) × StaysFailed b b)
   fails_with b failed [] is = inr (is, inl (refl, refl))
   fails_with b failed (x ∷ xs) is = inl (grind (arith, common_steps), failed)
 
-  stays_failed : (b : BufferedStream T) → b.has_failed ≡ true → HasFailed b ⊎ ((held_in b.held ≡ []) × StaysFailed b b)
-  stays_failed b failed = fails_with b failed (held_in b.held) refl
+  stays_failed : (b : BufferedStream T) → b.has_failed ≡ true → HasFailed b ⊎ ((buffered_in b.buffered ≡ []) × StaysFailed b b)
+  stays_failed b failed = fails_with b failed (buffered_in b.buffered) refl
 
-  read_fails : (old new : BufferedStream T) (answer : ReadAnswer) → held_in new.held ≡ [] → StaysFailed old new → ReadFails old answer new
+  read_fails : (old new : BufferedStream T) (answer : ReadAnswer) → buffered_in new.buffered ≡ [] → StaysFailed old new → ReadFails old answer new
   read_fails old new answer none stays = grind arith
 
   -- a read that moved nothing
@@ -109,7 +110,7 @@ module _ {T : Type 0} where
       → ShortAfter old len answer new
   short_still old new len answer differs same = grind arith
 
-  -- a call of a buffered stream is of the connection of the stream behind
+  -- a call of a buffered stream is of the connection of the inner stream
   module _ (traffic : T → Traffic) (old new : BufferedStream T) where
     gave_some_same : (answer : ReadAnswer) → WhyGaveSome traffic old answer new → (traffic new.inner).connection ≡ (traffic old.inner).connection
     gave_some_same answer why = grind arith
@@ -136,13 +137,13 @@ module _ {T : Type 0} where
     why_took : (answer : WriteAnswer) → BehindEnds traffic (Write answer) old new → WhyTookSome traffic old answer new
     why_took answer ends = grind arith
 
-    -- what left in a call of the stream behind
+    -- what left in a call of the inner stream
     left_behind : {moment : ℕ} → DepartAt moment (traffic old.inner) (traffic new.inner)
         → DepartAt moment (traffic_through traffic old) (traffic_through traffic new)
     left_behind {moment} p =
         search (
           p.departed_are,
-          beginnings_then moment (traffic new.inner).taken (held_in new.held) (traffic_through traffic new).taken refl p.departures
+          beginnings_then moment (traffic new.inner).sent (buffered_in new.buffered) (traffic_through traffic new).sent refl p.departures
               p.each,
         )
 
@@ -155,11 +156,11 @@ module _ {T : Type 0} where
   module _ {tells : Type 0} {traffic : T → Traffic} {moment : ℕ} where
     kept_then : {a b c : BufferedStream T} → KeepsBytes tells traffic moment a b → KeepsBytes tells traffic moment b c → KeepsBytes tells traffic moment a c
     kept_then {a} {b} p q =
-        let departed = λ (t : tells). departed_then [] (q.taken t
-        ∙ sym (append-nil ((traffic b.inner).taken ++ held_in b.held))) (p.departed t) (q.departed t) in
+        let departed = λ (t : tells). departed_then [] (q.sent t
+        ∙ sym (append-nil ((traffic b.inner).sent ++ buffered_in b.buffered))) (p.departed t) (q.departed t) in
         assumption (
-          λ (t : tells). q.given t ∙ p.given t,
-          λ (t : tells). q.taken t ∙ p.taken t,
+          λ (t : tells). q.received t ∙ p.received t,
+          λ (t : tells). q.sent t ∙ p.sent t,
           departed,
           q.counts ∙ p.counts,
           q.short ∙ p.short,
@@ -171,8 +172,8 @@ module _ {T : Type 0} where
     pub flushed_none : (b : BufferedStream T) → FlushedSoFar tells traffic moment b b
     flushed_none b = (
       record {
-        given = λ t. refl;
-        taken = λ t. refl;
+        received = λ t. refl;
+        sent = λ t. refl;
         departed = λ t. none_departed refl;
         counts = refl;
         short = refl;
@@ -185,21 +186,21 @@ module _ {T : Type 0} where
     )
 
     module _ {a b : BufferedStream T} (so_far : FlushedSoFar tells traffic moment a b) {c : BufferedStream T} where
-      pub flushed_more : {n : ℕ} → WritesHeld tells traffic moment b (Wrote n) c → FlushedSoFar tells traffic moment a c
+      pub flushed_more : {n : ℕ} → WritesBuffered tells traffic moment b (Wrote n) c → FlushedSoFar tells traffic moment a c
       flushed_more {n} w = (
         kept_then so_far.0 w.kept,
         stays_moved a b c n so_far.1 w.why.0 w.why.1 w.why.2 w.why.3,
         moved_then (traffic a.inner) (traffic b.inner) (traffic c.inner) so_far.2 w.why.4,
       )
 
-      pub flushed_blocked : WritesHeld tells traffic moment b WriteBlocked c → Flushes tells traffic moment a Blocked c
+      pub flushed_blocked : WritesBuffered tells traffic moment b WriteBlocked c → Flushes tells traffic moment a Blocked c
       flushed_blocked w = record {
         kept = kept_then so_far.0 w.kept;
         why = ends_then (Write WriteBlocked) (traffic a.inner) (traffic b.inner) (traffic c.inner) so_far.2 w.why.1;
         failed = rw (w.why.0, w.why.2) so_far.1;
       }
 
-      pub flushed_failed : held_in b.held ≢ [] → WritesHeld tells traffic moment b WriteFailed c → Flushes tells traffic moment a Failed c
+      pub flushed_failed : buffered_in b.buffered ≢ [] → WritesBuffered tells traffic moment b WriteFailed c → Flushes tells traffic moment a Failed c
       flushed_failed some w = record {
         kept = kept_then so_far.0 w.kept;
         why = ends_then (Write WriteFailed) (traffic a.inner) (traffic b.inner) (traffic c.inner) so_far.2 w.why.1;
@@ -207,47 +208,49 @@ module _ {T : Type 0} where
             (λ none. some (sym w.why.0 ∙ none), w.why.2);
       }
 
-    module _ {old : BufferedStream T} {inner : T} (given : tells → (traffic inner).given ≡ (traffic old.inner).given) (departed : tells
+    module _ {old : BufferedStream T} {inner : T} (received : tells → (traffic inner).received ≡ (traffic old.inner).received) (departed : tells
         → DepartAt moment (traffic old.inner) (traffic inner)) where
-      keeps : (held : HeldBytes) (failed : Bool) → (tells → (traffic inner).taken ++ held_in held ≡ (traffic old.inner).taken ++ held_in old.held)
-          → KeepsBytes tells traffic moment old (record old { inner = inner; held = held; has_failed = failed })
-      keeps held failed taken =
-          assumption (λ (t : tells). left_behind traffic old (record old { inner = inner; held = held; has_failed = failed }) (departed t))
+      keeps : (buffered : BufferedBytes) (failed : Bool) → (tells → (traffic inner).sent ++ buffered_in buffered ≡ (traffic old.inner).sent
+          ++ buffered_in old.buffered)
+          → KeepsBytes tells traffic moment old (record old { inner = inner; buffered = buffered; has_failed = failed })
+      keeps buffered failed sent =
+          assumption (λ (t : tells). left_behind traffic old (record old { inner = inner; buffered = buffered; has_failed = failed }) (departed t))
 
-      -- some of what is held left
-      pub wrote_held : {n : ℕ} (held : HeldBytes) {from : List ℕ} → AllMoved (traffic old.inner) (traffic inner) → from ≡ held_in old.held
-          → (0 < n) × (n ≤ length from) → held_in held ≡ drop n (held_in old.held) → (tells → (traffic inner).taken ≡ (traffic old.inner).taken ++ take n from)
-          → WritesHeld tells traffic moment old (Wrote n) (record old { inner = inner; held = held; has_failed = false })
-      wrote_held {n} held moved is fits rest taken =
-          let kept = keeps held false (λ t. rw (taken t, rest, is, append_assoc, take-append-drop)) in
+      -- some of what is buffered left
+      pub wrote_buffered : {n : ℕ} (buffered : BufferedBytes) {from : List ℕ} → AllMoved (traffic old.inner) (traffic inner) → from ≡ buffered_in old.buffered
+          → (0 < n) × (n ≤ length from) → buffered_in buffered ≡ drop n (buffered_in old.buffered)
+          → (tells → (traffic inner).sent ≡ (traffic old.inner).sent ++ take n from)
+          → WritesBuffered tells traffic moment old (Wrote n) (record old { inner = inner; buffered = buffered; has_failed = false })
+      wrote_buffered {n} buffered moved is fits rest sent =
+          let kept = keeps buffered false (λ t. rw (sent t, rest, is, append_assoc, take-append-drop)) in
           record { kept = kept; why = (fits.0, subst (λ l. n ≤ length l) is fits.1, rest, refl, moved) }
 
       -- none of it left
-      pub kept_held : (failed : Bool) → (tells → (traffic inner).taken ≡ (traffic old.inner).taken ++ [])
+      pub kept_buffered : (failed : Bool) → (tells → (traffic inner).sent ≡ (traffic old.inner).sent ++ [])
           → KeepsBytes tells traffic moment old (record old { inner = inner; has_failed = failed })
-      kept_held failed taken = keeps old.held failed (λ t. ap (λ l. l ++ held_in old.held) (taken t ∙ append-nil (traffic old.inner).taken))
+      kept_buffered failed sent = keeps old.buffered failed (λ t. ap (λ l. l ++ buffered_in old.buffered) (sent t ∙ append-nil (traffic old.inner).sent))
 
-    -- a call of the stream behind after what is held was written
+    -- a call of the inner stream after what is buffered was written
     left_then : (a b c : BufferedStream T) (more : List ℕ) → KeepsBytes tells traffic moment a b → tells
-        → (traffic_through traffic c).taken ≡ (traffic_through traffic b).taken ++ more
+        → (traffic_through traffic c).sent ≡ (traffic_through traffic b).sent ++ more
         → DepartAt moment (traffic b.inner) (traffic c.inner) → DepartAt moment (traffic_through traffic a) (traffic_through traffic c)
-    left_then a b c more p t taken q = departed_then more taken (p.departed t) (left_behind traffic b c q)
+    left_then a b c more p t sent q = departed_then more sent (p.departed t) (left_behind traffic b c q)
 
-    -- the stream behind was read once nothing was held
+    -- the inner stream was read once nothing was buffered
     pub gives_some : {old mid : BufferedStream T} {inner : T} (short : Bool) {before after : List ℕ} (answer : ReadAnswer)
         → Flushes tells traffic moment old All mid → ReadsWithin answer (length before)
-        → (tells → (traffic inner).given ≡ (traffic mid.inner).given ++ take (bytes_read answer) after)
-        → (tells → (traffic inner).taken ≡ (traffic mid.inner).taken) → (tells → DepartAt moment (traffic mid.inner) (traffic inner))
+        → (tells → (traffic inner).received ≡ (traffic mid.inner).received ++ take (bytes_read answer) after)
+        → (tells → (traffic inner).sent ≡ (traffic mid.inner).sent) → (tells → DepartAt moment (traffic mid.inner) (traffic inner))
         → ShortAfter old (length before) answer (record mid { inner = inner; is_short = short })
         → GivesSome tells traffic moment old before answer (record mid { inner = inner; is_short = short }) after
-    gives_some {old} {mid} {inner} short {before} {after} answer flushed within given taken departed shorter =
+    gives_some {old} {mid} {inner} short {before} {after} answer flushed within received sent departed shorter =
         let new : BufferedStream T = record mid { inner = inner; is_short = short } in
-        let all = λ (t : tells). ap (λ l. l ++ held_in mid.held) (taken t) in
+        let all = λ (t : tells). ap (λ l. l ++ buffered_in mid.buffered) (sent t) in
         let left = λ (t : tells). left_then old mid new [] flushed.kept t (all t
-        ∙ sym (append-nil ((traffic mid.inner).taken ++ held_in mid.held))) (departed t) in
+        ∙ sym (append-nil ((traffic mid.inner).sent ++ buffered_in mid.buffered))) (departed t) in
         assumption (
-          λ (t : tells). given t ∙ ap (λ l. l ++ take (bytes_read answer) after) (flushed.kept.given t),
-          λ (t : tells). all t ∙ flushed.kept.taken t,
+          λ (t : tells). received t ∙ ap (λ l. l ++ take (bytes_read answer) after) (flushed.kept.received t),
+          λ (t : tells). all t ∙ flushed.kept.sent t,
           left,
           read_fails old new answer flushed.why.0 flushed.failed,
         )
@@ -268,8 +271,8 @@ module _ {T : Type 0} where
     pub gave_none : (b : BufferedStream T) (bytes : List ℕ) → GivesSome tells traffic moment b bytes ReadBlocked b bytes
     gave_none b bytes = record {
       within = tt;
-      given = λ t. sym (append-nil (traffic b.inner).given);
-      taken = λ t. refl;
+      received = λ t. sym (append-nil (traffic b.inner).received);
+      sent = λ t. refl;
       departed = λ t. none_departed refl;
       counts = refl;
       failed = inl (refl, refl);
@@ -279,8 +282,8 @@ module _ {T : Type 0} where
     pub took_none : (b : BufferedStream T) (from : List ℕ) → TakesSome tells traffic moment b from WriteBlocked b
     took_none b from = record {
       within = tt;
-      given = λ t. refl;
-      taken = λ t. sym (append-nil ((traffic b.inner).taken ++ held_in b.held));
+      received = λ t. refl;
+      sent = λ t. sym (append-nil ((traffic b.inner).sent ++ buffered_in b.buffered));
       departed = λ t. none_departed refl;
       counts = refl;
       failed = inl (refl, refl);
@@ -290,12 +293,12 @@ module _ {T : Type 0} where
       turn = same_turn;
     }
 
-    -- what is held has failed to leave
+    -- what is buffered has failed to leave
     pub gave_failed : (b : BufferedStream T) (bytes : List ℕ) → b.has_failed ≡ true → GivesSome tells traffic moment b bytes ReadFailed b bytes
     gave_failed b bytes failed = record {
       within = tt;
-      given = λ t. sym (append-nil (traffic b.inner).given);
-      taken = λ t. refl;
+      received = λ t. sym (append-nil (traffic b.inner).received);
+      sent = λ t. refl;
       departed = λ t. none_departed refl;
       counts = refl;
       failed = stays_failed b failed;
@@ -305,8 +308,8 @@ module _ {T : Type 0} where
     pub took_failed : (b : BufferedStream T) (from : List ℕ) → b.has_failed ≡ true → TakesSome tells traffic moment b from WriteFailed b
     took_failed b from failed = record {
       within = tt;
-      given = λ t. refl;
-      taken = λ t. sym (append-nil ((traffic b.inner).taken ++ held_in b.held));
+      received = λ t. refl;
+      sent = λ t. sym (append-nil ((traffic b.inner).sent ++ buffered_in b.buffered));
       departed = λ t. none_departed refl;
       counts = refl;
       failed = stays_failed b failed;
@@ -316,7 +319,7 @@ module _ {T : Type 0} where
       turn = same_turn;
     }
 
-    -- of the bytes, those at the front were to be taken
+    -- of the bytes, those at the front were to be written
     module _ {old new : BufferedStream T} {answer : WriteAnswer} (most : ℕ) (piece from : List ℕ) (is : piece ≡ take most from) (le : most ≤ length from)
         (p : TakesSome tells traffic moment old piece answer new) where
       fits_front : WritesWithin answer most
@@ -331,8 +334,8 @@ module _ {T : Type 0} where
       pub takes_front : TakesSome tells traffic moment old from answer new
       takes_front = record {
         within = within_most answer most (length from) le fits_front;
-        given = p.given;
-        taken = λ t. p.taken t ∙ ap (λ l. ((traffic old.inner).taken ++ held_in old.held) ++ l) same_front;
+        received = p.received;
+        sent = λ t. p.sent t ∙ ap (λ l. ((traffic old.inner).sent ++ buffered_in old.buffered) ++ l) same_front;
         departed = p.departed;
         counts = p.counts;
         failed = p.failed;
@@ -343,32 +346,33 @@ module _ {T : Type 0} where
       }
 
     module _ {old mid : BufferedStream T} (kept : KeepsBytes tells traffic moment old mid) (stays : RoomFails old All mid) {from : List ℕ} where
-      -- the stream behind took them
-      pub takes_on : {inner : T} {answer : WriteAnswer} → held_in mid.held ≡ [] → WritesWithin answer (length from)
-          → (tells → (traffic inner).given ≡ (traffic mid.inner).given)
-          → (tells → (traffic inner).taken ≡ (traffic mid.inner).taken ++ take (bytes_written answer) from)
+      -- they were written to the inner stream
+      pub takes_on : {inner : T} {answer : WriteAnswer} → buffered_in mid.buffered ≡ [] → WritesWithin answer (length from)
+          → (tells → (traffic inner).received ≡ (traffic mid.inner).received)
+          → (tells → (traffic inner).sent ≡ (traffic mid.inner).sent ++ take (bytes_written answer) from)
           → (tells → DepartAt moment (traffic mid.inner) (traffic inner))
           → TakesSome tells traffic moment old from answer (record mid { inner = inner })
-      takes_on {inner} {answer} none within given taken departed =
+      takes_on {inner} {answer} none within received sent departed =
           let new : BufferedStream T = record mid { inner = inner } in
-          let all : tells → (traffic inner).taken ++ held_in mid.held ≡ ((traffic mid.inner).taken ++ held_in mid.held) ++ take (bytes_written answer) from =
-          λ t. rw none (append-nil (traffic inner).taken ∙ taken t
-          ∙ ap (λ l. l ++ take (bytes_written answer) from) (sym (append-nil (traffic mid.inner).taken))) in
+          let all : tells → (traffic inner).sent ++ buffered_in mid.buffered ≡ ((traffic mid.inner).sent ++ buffered_in mid.buffered)
+          ++ take (bytes_written answer) from =
+          λ t. rw none (append-nil (traffic inner).sent ∙ sent t
+          ∙ ap (λ l. l ++ take (bytes_written answer) from) (sym (append-nil (traffic mid.inner).sent))) in
           let left = λ (t : tells). left_then old mid new (take (bytes_written answer) from) kept t (all t) (departed t) in
           assumption (
-            λ (t : tells). given t ∙ kept.given t,
-            λ (t : tells). all t ∙ ap (λ l. l ++ take (bytes_written answer) from) (kept.taken t),
+            λ (t : tells). received t ∙ kept.received t,
+            λ (t : tells). all t ∙ ap (λ l. l ++ take (bytes_written answer) from) (kept.sent t),
             left,
             write_fails old new answer none stays,
           )
 
-      -- they are held
-      pub takes_in : (held : HeldBytes) {n : ℕ} → (0 < n) × (n ≤ length from) → held_in held ≡ held_in mid.held ++ take n from
-          → TakesSome tells traffic moment old from (Wrote n) (record mid { held = held })
-      takes_in held {n} fits is =
-          let all : (traffic mid.inner).taken ++ held_in held ≡ ((traffic mid.inner).taken ++ held_in mid.held) ++ take n from =
-          ap (λ l. (traffic mid.inner).taken ++ l) is ∙ sym (append_assoc (traffic mid.inner).taken (held_in mid.held) (take n from)) in
+      -- they are buffered
+      pub takes_in : (buffered : BufferedBytes) {n : ℕ} → (0 < n) × (n ≤ length from) → buffered_in buffered ≡ buffered_in mid.buffered ++ take n from
+          → TakesSome tells traffic moment old from (Wrote n) (record mid { buffered = buffered })
+      takes_in buffered {n} fits is =
+          let all : (traffic mid.inner).sent ++ buffered_in buffered ≡ ((traffic mid.inner).sent ++ buffered_in mid.buffered) ++ take n from =
+          ap (λ l. (traffic mid.inner).sent ++ l) is ∙ sym (append_assoc (traffic mid.inner).sent (buffered_in mid.buffered) (take n from)) in
           assumption (
-            λ (t : tells). all ∙ ap (λ l. l ++ take n from) (kept.taken t),
-            λ (t : tells). departed_and_taken {c = traffic_through traffic (record mid { held = held })} (take n from) refl all (kept.departed t),
+            λ (t : tells). all ∙ ap (λ l. l ++ take n from) (kept.sent t),
+            λ (t : tells). departed_and_sent {c = traffic_through traffic (record mid { buffered = buffered })} (take n from) refl all (kept.departed t),
           )

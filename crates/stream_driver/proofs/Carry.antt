@@ -86,24 +86,24 @@ in_turn_then h (x ∷ xs) ys a b = (a.0, in_turn_then (hub_step h x.0 x.1).0 xs 
 module _ {s : ℕ} {tells : Type 0} where
   -- a run in which nothing was served or replied, over what the stream moved
   abbrev pub moved_by : {h k : Point} {before after : Traffic} (r : Runs s h k) → ComeInTurn h.hub r.events
-      → (tells → after.given ≡ before.given ++ r.history.received) → (tells → after.taken ≡ before.taken ++ r.history.sent)
+      → (tells → after.received ≡ before.received ++ r.history.received) → (tells → after.sent ≡ before.sent ++ r.history.sent)
       → length r.history.served ≡ 0 → r.history.replies ≡ [] → status_at k.hub s ≡ status_at h.hub s → Moves s tells h before k after
-  moved_by r turn given taken served replied status =
-      record { carried = record { runs = r; in_turn = turn; given = given; taken = taken }; none_served = served; none_replied = replied; status = status }
+  moved_by r turn received sent served replied status =
+      record { carried = record { runs = r; in_turn = turn; received = received; sent = sent }; none_served = served; none_replied = replied; status = status }
 
   -- the stream answered, and the hub stayed
-  abbrev pub answered : {h : Point} {before after : Traffic} → IsPresentIn h.hub s → (tells → after.given ≡ before.given ++ [])
-      → (tells → after.taken ≡ before.taken ++ []) → Moves s tells h before h after
-  answered {h} present given taken = moved_by (no_events s h present) tt given taken refl refl refl
+  abbrev pub answered : {h : Point} {before after : Traffic} → IsPresentIn h.hub s → (tells → after.received ≡ before.received ++ [])
+      → (tells → after.sent ≡ before.sent ++ []) → Moves s tells h before h after
+  answered {h} present received sent = moved_by (no_events s h present) tt received sent refl refl refl
 
   -- nothing has happened
   abbrev pub nothing : {h : Point} {t : Traffic} → IsPresentIn h.hub s → Moves s tells h t h t
-  nothing {h} {t} present = answered present (λ _. sym (append-nil t.given)) (λ _. sym (append-nil t.taken))
+  nothing {h} {t} present = answered present (λ _. sym (append-nil t.received)) (λ _. sym (append-nil t.sent))
 
   -- the stream stayed, and the hub ran
   abbrev pub alone : {h k : Point} {t : Traffic} (r : Runs s h k) → ComeInTurn h.hub r.events → [] ≡ r.history.received → [] ≡ r.history.sent
       → Carried s tells h t k t
-  alone r in_turn received sent = record { runs = r; in_turn = in_turn; given = λ _. rw (← received, append-nil); taken = λ _. rw (← sent, append-nil) }
+  alone r in_turn received sent = record { runs = r; in_turn = in_turn; received = λ _. rw (← received, append-nil); sent = λ _. rw (← sent, append-nil) }
 
   -- one part after another
   abbrev pub and_then : {old : Point} {before : Traffic} {mid : Point} {between : Traffic} {new : Point} {after : Traffic}
@@ -112,6 +112,7 @@ module _ {s : ℕ} {tells : Type 0} where
   and_then {old} {before} {mid} {between} {new} {after} p q = record {
     runs = runs_then s old mid new p.runs q.runs;
     in_turn = in_turn_then old.hub p.runs.events q.runs.events p.in_turn (subst (λ v. ComeInTurn v q.runs.events) p.runs.adds.run_is q.in_turn);
-    given = λ t. grown before.given between.given between.given after.given p.runs.history.received q.runs.history.received (p.given t) refl (q.given t);
-    taken = λ t. grown before.taken between.taken between.taken after.taken p.runs.history.sent q.runs.history.sent (p.taken t) refl (q.taken t);
+    received = λ t. grown before.received between.received between.received after.received p.runs.history.received q.runs.history.received (p.received t)
+        refl (q.received t);
+    sent = λ t. grown before.sent between.sent between.sent after.sent p.runs.history.sent q.runs.history.sent (p.sent t) refl (q.sent t);
   }

@@ -22,10 +22,10 @@ use Rattle.stream_driver.specs.Types.{Read, Write, ReadAnswer, Moved, WriteAnswe
 
 module _ {D : Type 0} {g : Ghosts D} {hub new : Hub D g} {s : ℕ} {tells : Type 0} {b a : Traffic} where
   pub wrote_moved : (n : ℕ) → 0 < n → {outcome : Outcome} → HubLeads hub new (Sends s n) outcome → RunsAlone hub new (Sends s n) → failures hub ≤ failures new
-      → status_of hub s ≢ Absent → n ≤ length (pending_of hub s) → (tells → a.taken ≡ b.taken ++ take n (pending_of hub s)) → (tells → a.given ≡ b.given)
+      → status_of hub s ≢ Absent → n ≤ length (pending_of hub s) → (tells → a.sent ≡ b.sent ++ take n (pending_of hub s)) → (tells → a.received ≡ b.received)
       → EndsWith (Write (Wrote n)) b a
       → Leads hub new (λ h k. WritesSome s tells h b (Wrote n) k a)
-  wrote_moved n some {outcome} leads alone counted present long taken given calls =
+  wrote_moved n some {outcome} leads alone counted present long sent received calls =
       leads_event hub new _ (Sends s n) outcome leads alone counted (λ h stands happens outcome_is after.
       let c = leads.0 in
       let here = present_in s stands.state present in
@@ -39,7 +39,7 @@ module _ {D : Type 0} {g : Ghosts D} {hub new : Hub D g} {s : ℕ} {tells : Type
       one_event s h (Sends s n) c (failures new) st.0 (sent_from st.0 n) refl happens is (ap (λ r. r.0.present) step) (bytes_went st.0 n) stays in
       record {
         moves =
-            moved_by runs (tt, tt) (λ t. given t ∙ sym (append-nil b.given)) (λ t. taken t ∙ ap (λ l. b.taken ++ take n l) pending)
+            moved_by runs (tt, tt) (λ t. received t ∙ sym (append-nil b.received)) (λ t. sent t ∙ ap (λ l. b.sent ++ take n l) pending)
             refl refl (ap status_in runs.last_is ∙ sym (ap status_in is));
         answered = calls;
         why = (some, omega (arith, ap (λ o. length (pending_in o)) runs.last_is, length-drop n st.0.now.pending, ap (λ o. length (pending_in o)) is));
@@ -47,9 +47,9 @@ module _ {D : Type 0} {g : Ghosts D} {hub new : Hub D g} {s : ℕ} {tells : Type
 
   pub read_moved : (n : ℕ) → 0 < n → (piece : Bytes) → {outcome : Outcome} → HubLeads hub new (Receives s piece) outcome → RunsAlone hub new (Receives s piece)
       → failures hub ≤ failures new
-      → length piece ≡ n → {room : ℕ} → n ≤ room → (tells → a.given ≡ b.given ++ piece) → (tells → a.taken ≡ b.taken) → EndsWith (Read (Moved n)) b a
+      → length piece ≡ n → {room : ℕ} → n ≤ room → (tells → a.received ≡ b.received ++ piece) → (tells → a.sent ≡ b.sent) → EndsWith (Read (Moved n)) b a
       → Leads hub new (λ h k. AwaitsMore h.hub s → room ≡ room_at h.hub s → ReadsSome s tells h b (Moved n) k a)
-  read_moved n some piece {outcome} leads alone counted long {room} within given taken calls =
+  read_moved n some piece {outcome} leads alone counted long {room} within received sent calls =
       leads_event hub new _ (Receives s piece) outcome leads alone counted (λ h stands happens outcome_is after awaits room_is.
       let c = leads.0 in
       let st = found (stream_of h.hub s) (open_present h.hub s awaits.0) in
@@ -63,7 +63,7 @@ module _ {D : Type 0} {g : Ghosts D} {hub new : Hub D g} {s : ℕ} {tells : Type
       one_event s h (Receives s piece) c (failures new) st.0 (received_by st.0 piece) refl happens is (ap (λ r. r.0.present) step) (bytes_came st.0 piece)
       stays in
       record {
-        moves = moved_by runs (awaits, tt) given (λ t. taken t ∙ sym (append-nil b.taken)) refl refl (ap status_in runs.last_is ∙ sym (ap status_in is));
+        moves = moved_by runs (awaits, tt) received (λ t. sent t ∙ sym (append-nil b.sent)) refl refl (ap status_in runs.last_is ∙ sym (ap status_in is));
         none_sent = refl;
         pending = ap pending_in runs.last_is ∙ sym (ap pending_in is);
         answered = calls;
@@ -77,20 +77,20 @@ reads_within answer len room within le = grind arith
 -- the stream didn't move
 module _ {D : Type 0} {g : Ghosts D} {hub : Hub D g} (none : NoneRuns hub) {s : ℕ} {tells : Type 0} {b a : Traffic} where
   pub wrote_none : (answer : WriteAnswer) → ((n : ℕ) → answer ≢ Wrote n) → status_of hub s ≢ Absent
-      → (from : List ℕ) → (tells → a.given ≡ b.given) → (tells → a.taken ≡ b.taken ++ take (bytes_written answer) from) → EndsWith (Write answer) b a
+      → (from : List ℕ) → (tells → a.received ≡ b.received) → (tells → a.sent ≡ b.sent ++ take (bytes_written answer) from) → EndsWith (Write answer) b a
       → Leads hub hub (λ h k. WritesSome s tells h b answer k a)
-  wrote_none (Wrote n) differs present from given taken calls = absurd (differs n refl)
-  wrote_none answer differs present from given taken calls =
+  wrote_none (Wrote n) differs present from received sent calls = absurd (differs n refl)
+  wrote_none answer differs present from received sent calls =
       leads_none hub none _ (λ h stands. record {
-        moves = answered (present_in s stands.state present) (λ t. rw append-nil (given t)) taken;
+        moves = answered (present_in s stands.state present) (λ t. rw append-nil (received t)) sent;
         answered = calls;
         why = refl;
       })
 
-  pub read_none : (room : ℕ) (into : List ℕ) → (tells → a.taken ≡ b.taken) → (answer : ReadAnswer) → ((n : ℕ) → answer ≢ Moved n)
-      → (tells → a.given ≡ b.given ++ take (bytes_read answer) into) → EndsWith (Read answer) b a
+  pub read_none : (room : ℕ) (into : List ℕ) → (tells → a.sent ≡ b.sent) → (answer : ReadAnswer) → ((n : ℕ) → answer ≢ Moved n)
+      → (tells → a.received ≡ b.received ++ take (bytes_read answer) into) → EndsWith (Read answer) b a
       → Leads hub hub (λ h k. AwaitsMore h.hub s → room ≡ room_at h.hub s → ReadsSome s tells h b answer k a)
-  read_none room into taken (Moved n) differs given calls = absurd (differs n refl)
-  read_none room into taken answer differs given calls = leads_none hub none _ (λ h stands awaits room_is.
-      let moves = answered (open_present h.hub s awaits.0) given (λ t. rw append-nil (taken t)) in
+  read_none room into sent (Moved n) differs received calls = absurd (differs n refl)
+  read_none room into sent answer differs received calls = leads_none hub none _ (λ h stands awaits room_is.
+      let moves = answered (open_present h.hub s awaits.0) received (λ t. rw append-nil (sent t)) in
       record { moves = moves; none_sent = refl; pending = refl; answered = calls; why = refl })

@@ -1,4 +1,4 @@
--- What left over a stream is told before, from run to run.
+-- What left over a stream was answered before, from run to run.
 use Rattle.std.proofs.Common.{◌≡◌, ◌≤◌, ◌⊎◌, inl, inr, ℕ, List, [], ◌++◌, Some, take, drop, refl, sym, ap, subst, ◌∙◌}
 use Rattle.std.proofs.Common.{append_assoc}
 use Rattle.std.proofs.lemmas.List.{append-nil, take-append-drop}
@@ -26,7 +26,7 @@ module _ (s : ℕ) (h : HubState) (es fs : List (HubEvent × Choice)) (bytes : L
   pub answered_then : IsAnswered s (run h es) fs bytes → IsAnswered s h (es ++ fs) bytes
   answered_then a = search (ap (λ l. es ++ l) a.events_are ∙ sym (append_assoc es a.by a.since), ap (λ v. stream_of v s) (run_then h es a.by) ∙ a.stream_is)
 
--- first some events, then others, in each of which nothing was taken or all that was taken was answered
+-- first some events, then others, in each of which nothing was sent or all that was sent was answered
 pub answered_on : {s : ℕ} {h : HubState} {es fs : List (HubEvent × Choice)} {before between after : List ℕ} → (between ≡ before) ⊎ IsAnswered s h es between
     → (after ≡ between) ⊎ IsAnswered s (run h es) fs after
     → (after ≡ before) ⊎ IsAnswered s h (es ++ fs) after
@@ -70,27 +70,27 @@ module _ {D : Type 0} {g : Ghosts D} (s : ℕ) (h : HubState) where
       (all_before follow a b c es fs first q.departures q.each) in
       search (grown t.departed u.departed u.departed v.departed p.departures q.departures p.departed_are refl q.departed_are, each)
 
--- the stream has taken what was told to be sent after a run over it too
+-- what was sent over the stream is what was reported as sent, after a run over it too
 pub sent_after : (s : ℕ) (tells : Type 0) (h : Point) (t : Traffic) (k : Point) (u : Traffic) → Carried s tells h t k u → tells → HasSent s h.hub t
     → HasSent s k.hub u
 sent_after s tells h t k u c is has =
     let same : has.stream ≡ c.runs.first = one_history has.stream c.runs.first (sym has.stream_is ∙ c.runs.first_is) in
-    search (c.runs.last_is, c.taken is ∙ ap (λ l. l ++ c.runs.history.sent) (has.taken ∙ ap (λ (x : SessionStream). x.sent) same) ∙ sym c.runs.history.sent_is)
+    search (c.runs.last_is, c.sent is ∙ ap (λ l. l ++ c.runs.history.sent) (has.sent ∙ ap (λ (x : SessionStream). x.sent) same) ∙ sym c.runs.history.sent_is)
 
-pub begins_taken : (n : ℕ) (all : List ℕ) → IsBeginning (take n all) all
-begins_taken n all = record { rest = drop n all; all_is = sym (take-append-drop n all) }
+pub begins_sent : (n : ℕ) (all : List ℕ) → IsBeginning (take n all) all
+begins_sent n all = record { rest = drop n all; all_is = sym (take-append-drop n all) }
 
 pub begins_nothing : (all : List ℕ) → IsBeginning [] all
 begins_nothing all = record { rest = all; all_is = refl }
 
-pub begins_all : (bytes pending sent taken took : List ℕ) → IsBeginning bytes pending → taken ≡ sent → took ≡ taken ++ bytes
-    → IsBeginning took (sent ++ pending)
-begins_all bytes pending sent taken took b is e = record { rest = b.rest; all_is = rw (b.all_is, e, is, append_assoc) }
+pub begins_all : (bytes pending answered sent took : List ℕ) → IsBeginning bytes pending → sent ≡ answered → took ≡ sent ++ bytes
+    → IsBeginning took (answered ++ pending)
+begins_all bytes pending answered sent took b is e = record { rest = b.rest; all_is = rw (b.all_is, e, is, append_assoc) }
 
 pub begins_through : (bytes mid all : List ℕ) → IsBeginning bytes mid → IsBeginning mid all → IsBeginning bytes all
 begins_through bytes mid all a b = record { rest = a.rest ++ b.rest; all_is = b.all_is ∙ ap (λ l. l ++ b.rest) a.all_is ∙ append_assoc bytes a.rest b.rest }
 
--- what the session was told to be sent by now, and what is pending, was answered
+-- what was reported as sent to the session by now, and what is pending, was answered
 answered_now : (s : ℕ) (h : HubState) (es : List (HubEvent × Choice)) (bytes : List ℕ) (st : SessionStream) → stream_of h s ≡ Some st
     → IsBeginning bytes (st.sent ++ st.now.pending) → IsAnswered s h es bytes
 answered_now s h es bytes st is begins = record { by = []; since = es; events_are = refl; stream = st; stream_is = is; answered = begins }
@@ -101,36 +101,36 @@ module _ {D : Type 0} {g : Ghosts D} {s : ℕ} {tells : Type 0} where
   tells_still {a} {b} {t} p = record {
     leads = p;
     telling = λ _ h stands has. none_left s h a b p.choices t t refl;
-    answered = λ _ h stands has. answered_now s h p.choices t.taken has.stream has.stream_is (record { rest = has.stream.now.pending; all_is = rw has.taken });
+    answered = λ _ h stands has. answered_now s h p.choices t.sent has.stream has.stream_is (record { rest = has.stream.now.pending; all_is = rw has.sent });
   }
 
   pub tells_map : {a b : Hub D g} {t u : Traffic} {P Q : Point → Point → Type 0} → LeadsTelling s tells a t b u P
       → ((h k : Point) → StandsFor b k.hub → P h k → Q h k) → LeadsTelling s tells a t b u Q
   tells_map {a} {b} {t} {u} {P} {Q} p f = record { leads = leads_map a b P Q p.leads f; telling = p.telling; answered = p.answered }
 
-  -- one call of the stream, which took no more than was pending
+  -- one call of the stream, which moved no more than was pending
   pub tells_call : {a b : Hub D g} {t u : Traffic} {P : Point → Point → Type 0} → NoneRuns a → Leads a b P → (moment : ℕ) → moment ≡ g.moment (device a)
       → (tells → DepartAt moment t u)
-      → (tells → (bytes : List ℕ) × IsBeginning bytes (pending_of a s) × (u.taken ≡ t.taken ++ bytes)) → LeadsTelling s tells a t b u P
+      → (tells → (bytes : List ℕ) × IsBeginning bytes (pending_of a s) × (u.sent ≡ t.sent ++ bytes)) → LeadsTelling s tells a t b u P
   tells_call {a} {b} {t} {u} none p moment now departs took = record {
     leads = p;
     telling = λ is h stands has.
         let d = departs is in
         let told = λ (d : Departure) (left : (d.moment ≡ moment)
-        × IsBeginning d.bytes u.taken). answered_now s h [] d.bytes has.stream has.stream_is
-        (begins_through d.bytes u.taken _ left.1 (begins is h stands has)) in
+        × IsBeginning d.bytes u.sent). answered_now s h [] d.bytes has.stream has.stream_is
+        (begins_through d.bytes u.sent _ left.1 (begins is h stands has)) in
         let each = all-each _ (IsToldBefore s h a b p.choices) d.departures (λ d left.
         record { before = []; since = p.choices; events_are = refl; hub = a; came = none; goes_on = p.ran; moment_is = left.0 ∙ now; told = told d left })
         d.each in
         search (d.departed_are, each);
-    answered = λ is h stands has. answered_now s h p.choices u.taken has.stream has.stream_is (begins is h stands has);
+    answered = λ is h stands has. answered_now s h p.choices u.sent has.stream has.stream_is (begins is h stands has);
   }
     where
-      begins : tells → (h : HubState) → StandsFor a h → (has : HasSent s h t) → IsBeginning u.taken (has.stream.sent ++ has.stream.now.pending)
+      begins : tells → (h : HubState) → StandsFor a h → (has : HasSent s h t) → IsBeginning u.sent (has.stream.sent ++ has.stream.now.pending)
       begins is h stands has =
           let w = took is in
-          begins_all w.0 has.stream.now.pending has.stream.sent t.taken u.taken
-          (subst (λ l. IsBeginning w.0 l) (pending_seen a h stands s ∙ ap pending_in has.stream_is) w.1) has.taken w.2
+          begins_all w.0 has.stream.now.pending has.stream.sent t.sent u.sent
+          (subst (λ l. IsBeginning w.0 l) (pending_seen a h stands s ∙ ap pending_in has.stream_is) w.1) has.sent w.2
 
   -- with what the hub between stands for
   pub tells_two_at : Follow D g → {a b c : Hub D g} {t u v : Traffic} {P Q R : Point → Point → Type 0} → LeadsTelling s tells a t b u P
@@ -145,7 +145,7 @@ module _ {D : Type 0} {g : Ghosts D} {s : ℕ} {tells : Type 0} where
         (q.telling is (run h p.leads.choices) mid.0 mid.1);
     answered = λ is h stands has.
         let mid = between is h stands has in
-        answered_then s h p.leads.choices q.leads.choices v.taken (q.answered is (run h p.leads.choices) mid.0 mid.1);
+        answered_then s h p.leads.choices q.leads.choices v.sent (q.answered is (run h p.leads.choices) mid.0 mid.1);
   }
     where
       between : tells → (h : HubState) → StandsFor a h → HasSent s h t → StandsFor b (run h p.leads.choices) × HasSent s (run h p.leads.choices) u

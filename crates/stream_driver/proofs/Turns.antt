@@ -1,4 +1,4 @@
--- The turns of a walk over the table, and what left over its streams, told entry by entry.
+-- The turns of a walk over the table, and what left over its streams, entry by entry.
 use Rattle.std.proofs.Common.{◌≡◌, ◌≢◌, inl, inr, ℕ, ◌+◌, ◌<◌, ◌≤◌, List, [], ◌∷◌, ◌++◌, length, set, take, drop}
 use Rattle.std.proofs.Common.{get_or, refl, sym, ap, subst, ◌∙◌, arith, Option, Some, None, ◌⊎◌}
 use Rattle.std.proofs.lemmas.Bool.{cases_lt}
@@ -22,7 +22,7 @@ use Rattle.stream_driver.specs.Traffic.{Traffic}
 use Rattle.stream_driver.specs.Types.{Progress, Gone, EntryState, Ready, EntryGone, Idle, Entry}
 
 module _ {T : Type 0} (tells : Type 0) (traffic : T → Traffic) where
-  -- the stream of an entry that isn't gone has taken what was told to be sent after its drive too
+  -- what was sent over the stream of an entry that isn't gone is what was reported as sent, after its drive too
   entry_sent : (state : EntryState) (k : Point) (old : Entry T) (l : Point) (entry : Entry T) → old.state ≡ state → DrivenIn tells traffic state k old l entry
       → entry.state ≢ EntryGone → tells
       → HasSent old.session k.hub (traffic old.stream) → HasSent entry.session l.hub (traffic entry.stream)
@@ -49,7 +49,7 @@ module _ {T : Type 0} (tells : Type 0) (traffic : T → Traffic) where
       leads = leads_none hub none P f;
       telling = λ t h stands has key was entry e d. none_left was.session h hub hub [] (traffic was.stream) (traffic entry.stream)
           (ap (λ (x : Entry T). (traffic x.stream).departed) (some_same (sym d ∙ e)));
-      answered = λ t h stands has key was entry e d. inl (ap (λ (x : Entry T). (traffic x.stream).taken) (some_same (sym d ∙ e)));
+      answered = λ t h stands has key was entry e d. inl (ap (λ (x : Entry T). (traffic x.stream).sent) (some_same (sym d ∙ e)));
       keeps = λ t h stands has. has;
     }
 
@@ -59,11 +59,11 @@ module _ {T : Type 0} (tells : Type 0) (traffic : T → Traffic) where
     drives_map {hub} {slots} {later} {new} {P} {Q} p f =
         record { leads = leads_map hub later P Q p.leads f; telling = p.telling; answered = p.answered; keeps = p.keeps }
 
-    -- what left over the stream of an entry is told before, and if it has taken more since, all that was answered
+    -- what left over the stream of an entry was answered before, and if more was sent since, all that was answered
     abbrev Tells : ℕ → HubState → Hub D g → Hub D g → List (HubEvent × Choice) → Entry T → Entry T → Type 0
     Tells s h a b es was now =
         AreToldBefore s h a b es (traffic was.stream) (traffic now.stream)
-        × (((traffic now.stream).taken ≡ (traffic was.stream).taken) ⊎ IsAnswered s h es (traffic now.stream).taken)
+        × (((traffic now.stream).sent ≡ (traffic was.stream).sent) ⊎ IsAnswered s h es (traffic now.stream).sent)
 
     -- and then one entry more
     module _ (follow : Follow D g) (key : ℕ) {hub : Hub D g} {slots : List (Option (Entry T))} {mid : Hub D g} {new : List (Option (Entry T))} {old : Entry T}
@@ -88,7 +88,7 @@ module _ {T : Type 0} (tells : Type 0) (traffic : T → Traffic) where
           by : (state : EntryState) → old.state ≡ state → (old.state ≡ EntryGone → entry ≡ old) → Tells old.session h mid later fs old entry
           by EntryGone e same = (
             none_left old.session h mid later fs (traffic old.stream) (traffic entry.stream) (ap (λ (x : Entry T). (traffic x.stream).departed) (same e)),
-            inl (ap (λ (x : Entry T). (traffic x.stream).taken) (same e)),
+            inl (ap (λ (x : Entry T). (traffic x.stream).sent) (same e)),
           )
           by _ e same = let sent = has key old is (λ gone. cc) in (q.telling t h stands sent, inr (q.answered t h stands sent))
 
@@ -134,7 +134,7 @@ module _ {T : Type 0} (tells : Type 0) (traffic : T → Traffic) where
                 record {
                   stream = was.stream;
                   stream_is = entry_other tells traffic old.state at old to.0 entry refl to.2.1 now.session apart ∙ was.stream_is;
-                  taken = was.taken;
+                  sent = was.sent;
                 }
           ])
 

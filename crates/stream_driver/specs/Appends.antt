@@ -7,12 +7,12 @@ use Rattle.stream_driver.specs.Traffic.{KeepsTo}
 use Rattle.stream_driver.specs.Types.{Exchange, Served, Broke, Starved, ExchangeBlocked, ExchangeFailed}
 use Rattle.stream_driver.specs.Types.{ExchangeEnded, EntryState, Idle, Ready, EntryGone, Entry}
 
--- The log has as many records as before, and whether the stream was told of one stays. Or it has one more, and the
--- stream was told.
+-- The log has as many records as before, and whether the stream's share was ended stays. Or it has one more, and the
+-- share was ended.
 abbrev pub AppendsOnce : {D : Type 0} {g : Ghosts D} {T : Type 0} → (T → Bool) → Hub D g → T → Hub D g → T → Type 0
-AppendsOnce told old before new after =
-    ((records_of new ≡ records_of old) × (told after ≡ told before))
-    ⊎ ((records_of new ≡ records_of old + 1) × (told after ≡ true))
+AppendsOnce ended old before new after =
+    ((records_of new ≡ records_of old) × (ended after ≡ ended before))
+    ⊎ ((records_of new ≡ records_of old + 1) × (ended after ≡ true))
 
 -- the log has as many records as before, or up to so many more
 pub record AppendsAtMost {D : Type 0} {g : Ghosts D} (count : ℕ) (old new : Hub D g) : Type 0 where
@@ -54,22 +54,22 @@ IsReplied ExchangeFailed pending = Unit {0}
 IsReplied ExchangeEnded pending = Unit {0}
 
 -- of a stream that keeps to what it takes at most
-module _ {D : Type 0} {g : Ghosts D} {T : Type 0} (keeps : Type 0) (most : ℕ → T → Type 0) (told : T → Bool) (s : ℕ)
+module _ {D : Type 0} {g : Ghosts D} {T : Type 0} (keeps : Type 0) (most : ℕ → T → Type 0) (ended : T → Bool) (s : ℕ)
   where
     -- nothing was written
     pub record KeepsShare (old : Hub D g) (before : T) (new : Hub D g) (after : T) : Type 0 where
-      pub share : keeps → KeepsTo most told before 0 after
+      pub share : keeps → KeepsTo most ended before 0 after
       pub adds : AddsNone s old new
 
     -- so many of the pending bytes were written
     pub record SpendsShare (old : Hub D g) (before : T) (new : Hub D g) (after : T) : Type 0 where
       pub sent : ℕ
       pub pending : length (pending_of old s) ≡ length (pending_of new s) + sent
-      pub share : keeps → KeepsTo most told before sent after
+      pub share : keeps → KeepsTo most ended before sent after
       pub adds : AddsNone s old new
 
     -- a request was looked for
     pub record ServesOnce (old : Hub D g) (before : T) (answer : Exchange) (new : Hub D g) (after : T) : Type 0 where
-      pub share : keeps → records_of new ≡ records_of old → KeepsTo most told before 0 after
+      pub share : keeps → records_of new ≡ records_of old → KeepsTo most ended before 0 after
       pub adds : AddsOne s old new
       pub replied : IsReplied answer (pending_of new s)

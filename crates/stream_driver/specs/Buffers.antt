@@ -1,35 +1,35 @@
--- A stream that holds what it has taken, before another one.
+-- A stream that buffers what is written to it, over an inner one.
 use Rattle.std.specs.Prelude.{◌≡◌, ◌⊎◌, ◌+◌, ◌-◌, ◌<◌, ◌≤◌, ◌==◌, ◌++◌, ◌||◌, ◌≢◌, ◌↔◌, ℕ, Bool, true, false, List}
 use Rattle.std.specs.Prelude.{[], ◌∷◌, take, drop, length, min, nat_lt, vec_len}
 use Rattle.stream_driver.specs.Counts.{counted, counted_with}
 use Rattle.stream_driver.specs.Traffic.{AllMoved, DepartAt, EndsWith, Traffic, ReadsWithin, WritesWithin, bytes_read}
 use Rattle.stream_driver.specs.Traffic.{bytes_written, untouched}
 use Rattle.stream_driver.specs.Types.{Call, Read, Write, ReadAnswer, Moved, Blocked, Failed, Ended, WriteAnswer}
-use Rattle.stream_driver.specs.Types.{Wrote, WriteBlocked, WriteFailed, HeldBytes, Flushed, All}
+use Rattle.stream_driver.specs.Types.{Wrote, WriteBlocked, WriteFailed, BufferedBytes, Flushed, All}
 use Rattle.stream_driver.specs.Types.{FlushedBlocked as FlushBlocked, FlushedFailed as FlushFailed, BufferedStream}
 
--- the bytes that are held
-abbrev pub held_in : HeldBytes → List ℕ
-held_in h = drop h.left h.bytes.items
+-- the bytes that are buffered
+abbrev pub buffered_in : BufferedBytes → List ℕ
+buffered_in h = drop h.left h.bytes.items
 
 -- for how many more there is room
-abbrev pub room_in : HeldBytes → ℕ
+abbrev pub room_in : BufferedBytes → ℕ
 room_in h = 16384 - vec_len h.bytes
 
--- nothing is held
+-- nothing is buffered
 abbrev pub is_none : List ℕ → Bool
 is_none [] = true
 is_none (x ∷ xs) = false
 
 module _ {T : Type 0} where
-  -- nothing is held, or the stream behind failed to take it
+  -- nothing is buffered, or the inner stream failed to take it
   abbrev pub is_settled : BufferedStream T → Bool
-  is_settled b = b.has_failed || is_none (held_in b.held)
+  is_settled b = b.has_failed || is_none (buffered_in b.buffered)
 
-  -- one that was just made: nothing is held, no write of what is held failed, and no call was made
+  -- one that was just made: nothing is buffered, no write of what is buffered failed, and no call was made
   pub record IsNew (inner : T) (b : BufferedStream T) : Type 0 where
     pub inner_is : b.inner ≡ inner
-    pub nothing : held_in b.held ≡ []
+    pub nothing : buffered_in b.buffered ≡ []
     pub failed : b.has_failed ≡ false
     pub short : b.is_short ≡ false
     pub drained : b.is_drained ≡ false
@@ -56,46 +56,47 @@ module _ {T : Type 0} where
     pub share : b.share ≤ most
     pub appended : b.appended ≡ true
 
-  -- No share is left, and nothing happens: the stream behind isn't called, and what is held is held still.
+  -- No share is left, and nothing happens: the inner stream isn't called, and what is buffered stays so.
   pub record Pauses (old new : BufferedStream T) : Type 0 where
     pub none_left : old.share ≡ 0
     pub inner_is : new.inner ≡ old.inner
-    pub held_is : new.held ≡ old.held
+    pub buffered_is : new.buffered ≡ old.buffered
 
-  -- What is held has failed to leave, and nothing happens: the stream behind isn't called, and what is held is held
-  -- still.
+  -- What is buffered has failed to leave, and nothing happens: the inner stream isn't called, and what is buffered
+  -- stays so.
   pub record Stops (old new : BufferedStream T) : Type 0 where
     pub failed : old.has_failed ≡ true
     pub inner_is : new.inner ≡ old.inner
-    pub held_is : new.held ≡ old.held
+    pub buffered_is : new.buffered ≡ old.buffered
 
-  -- it calls the stream behind: some share is left, and what is held hasn't failed to leave
+  -- it calls the inner stream: some share is left, and what is buffered hasn't failed to leave
   pub record GoesOn (old : BufferedStream T) : Type 0 where
     pub some : 0 < old.share
     pub failed : old.has_failed ≡ false
 
-  -- The traffic of a buffered stream: what it gave is what the stream behind gave, and what it took is what the stream
-  -- behind took, followed by what it holds. What has left, left from the stream behind, whose number it has. The
+  -- The traffic of a buffered stream: what it received is what the inner stream received, and what it sent is what the
+  -- inner stream sent, followed by what it buffers. What has left, left from the inner stream, whose number it has. The
   -- answers are its own.
   abbrev pub traffic_through : (T → Traffic) → BufferedStream T → Traffic
   traffic_through traffic b =
-      counted_with b.counts (traffic b.inner).given ((traffic b.inner).taken
-      ++ held_in b.held) (traffic b.inner).departed (traffic b.inner).connection
+      counted_with b.counts (traffic b.inner).received ((traffic b.inner).sent
+      ++ buffered_in b.buffered) (traffic b.inner).departed (traffic b.inner).connection
 
-  -- over the stream these bytes more were given
+  -- over the stream these bytes more were received
   abbrev pub GivesMore : (T → Traffic) → BufferedStream T → List ℕ → BufferedStream T → Type 0
-  GivesMore traffic old bytes new = (traffic_through traffic new).given ≡ (traffic_through traffic old).given ++ bytes
+  GivesMore traffic old bytes new = (traffic_through traffic new).received ≡ (traffic_through traffic old).received
+      ++ bytes
 
-  -- and these more were taken
+  -- and these more were sent
   abbrev pub TakesMore : (T → Traffic) → BufferedStream T → List ℕ → BufferedStream T → Type 0
-  TakesMore traffic old bytes new = (traffic_through traffic new).taken ≡ (traffic_through traffic old).taken ++ bytes
+  TakesMore traffic old bytes new = (traffic_through traffic new).sent ≡ (traffic_through traffic old).sent ++ bytes
 
   -- what has left since left at this moment
   abbrev pub LeavesAt : ℕ → (T → Traffic) → BufferedStream T → BufferedStream T → Type 0
   LeavesAt moment traffic old new = DepartAt moment (traffic_through traffic old) (traffic_through traffic new)
 
-  -- A read that gave fewer bytes than it was asked for is short, unless such a read means nothing; where it gave none,
-  -- it is as the last one was. Nothing was taken since then.
+  -- A read of fewer bytes than were asked for is short, unless such a read means nothing; where none came, whether the
+  -- last read was short stays.
   abbrev pub ShortAfter : BufferedStream T → ℕ → ReadAnswer → BufferedStream T → Type 0
   ShortAfter old len (Moved n) new = (new.is_short ≡ true) ↔ ((n < len) × (old.reads_on ≡ false))
   ShortAfter old len Blocked new = new.is_short ≡ old.is_short
@@ -114,7 +115,7 @@ module _ {T : Type 0} where
     pub reads_on : new.reads_on ≡ old.reads_on
     pub turn : KeepsTurn old new
 
-  -- once bytes were taken after a short read, this drive has read all that is there
+  -- once bytes were written after a short read, this drive has read all that is there
   abbrev pub is_drained_after : WriteAnswer → BufferedStream T → Bool
   is_drained_after (Wrote n) b = b.is_drained || b.is_short
   is_drained_after WriteBlocked b = b.is_drained
@@ -126,7 +127,7 @@ module _ {T : Type 0} where
   is_heavy_after WriteBlocked b = b.is_heavy
   is_heavy_after WriteFailed b = b.is_heavy
 
-  -- and what it took uses up its share
+  -- and what was written uses up its share
   pub record Drains (old : BufferedStream T) (answer : WriteAnswer) (new : BufferedStream T) : Type 0 where
     pub drained : new.is_drained ≡ is_drained_after answer old
     pub short : new.is_short ≡ old.is_short
@@ -135,18 +136,18 @@ module _ {T : Type 0} where
     pub appended : new.appended ≡ old.appended
     pub heavy : new.is_heavy ≡ is_heavy_after answer old
 
-  -- Nothing of what is held has left, and whether it failed to leave is as it was; or some has, and it has not failed
-  -- since.
+  -- Nothing of what is buffered has left, and whether it failed to leave is as it was; or some has, and it has not
+  -- failed since.
   abbrev pub StaysFailed : BufferedStream T → BufferedStream T → Type 0
   StaysFailed old new =
-      ((held_in new.held ≡ held_in old.held) × (new.has_failed ≡ old.has_failed))
-      ⊎ ((length (held_in new.held) < length (held_in old.held)) × (new.has_failed ≡ false))
+      ((buffered_in new.buffered ≡ buffered_in old.buffered) × (new.has_failed ≡ old.has_failed))
+      ⊎ ((length (buffered_in new.buffered) < length (buffered_in old.buffered)) × (new.has_failed ≡ false))
 
-  -- what is held failed to leave, and is held still
+  -- what is buffered failed to leave, and stays buffered
   abbrev pub HasFailed : BufferedStream T → Type 0
-  HasFailed b = (held_in b.held ≢ []) × (b.has_failed ≡ true)
+  HasFailed b = (buffered_in b.buffered ≢ []) × (b.has_failed ≡ true)
 
-  -- whether what is held failed to leave, once it was written
+  -- whether what is buffered failed to leave, once it was to be written
   abbrev pub FlushFails : BufferedStream T → Flushed → BufferedStream T → Type 0
   FlushFails old All new = StaysFailed old new
   FlushFails old FlushBlocked new = StaysFailed old new
@@ -154,59 +155,60 @@ module _ {T : Type 0} where
 
   -- once there was to be room for more: only where there was none has it changed
   abbrev pub StaysWithRoom : BufferedStream T → BufferedStream T → Type 0
-  StaysWithRoom old new = (new.has_failed ≡ old.has_failed) ⊎ ((room_in old.held ≡ 0) × (new.has_failed ≡ false))
+  StaysWithRoom old new = (new.has_failed ≡ old.has_failed) ⊎ ((room_in old.buffered ≡ 0) × (new.has_failed ≡ false))
 
   abbrev pub RoomFails : BufferedStream T → Flushed → BufferedStream T → Type 0
   RoomFails old All new = StaysWithRoom old new × StaysFailed old new
   RoomFails old FlushBlocked new = StaysFailed old new
   RoomFails old FlushFailed new = HasFailed new
 
-  -- once bytes were to be taken
+  -- once bytes were to be written
   abbrev pub WriteFails : BufferedStream T → WriteAnswer → BufferedStream T → Type 0
   WriteFails old (Wrote n) new = StaysWithRoom old new
   WriteFails old WriteBlocked new = StaysFailed old new
-  WriteFails old WriteFailed new = HasFailed new ⊎ ((held_in new.held ≡ []) × StaysFailed old new)
+  WriteFails old WriteFailed new = HasFailed new ⊎ ((buffered_in new.buffered ≡ []) × StaysFailed old new)
 
-  -- once bytes were to be given
+  -- once bytes were to be read
   abbrev pub ReadFails : BufferedStream T → ReadAnswer → BufferedStream T → Type 0
   ReadFails old (Moved n) new = StaysFailed old new
   ReadFails old Blocked new = StaysFailed old new
-  ReadFails old Failed new = HasFailed new ⊎ ((held_in new.held ≡ []) × StaysFailed old new)
+  ReadFails old Failed new = HasFailed new ⊎ ((buffered_in new.buffered ≡ []) × StaysFailed old new)
   ReadFails old Ended new = StaysFailed old new
 
   module _ (traffic : T → Traffic) where
-    -- each call of the stream behind moved bytes, if there was one
+    -- each call of the inner stream moved bytes, if there was one
     abbrev pub BehindMoved : BufferedStream T → BufferedStream T → Type 0
     BehindMoved old new = AllMoved (traffic old.inner) (traffic new.inner)
 
-    -- the last call of the stream behind was this one, and each before it moved bytes
+    -- the last call of the inner stream was this one, and each before it moved bytes
     abbrev pub BehindEnds : Call → BufferedStream T → BufferedStream T → Type 0
     BehindEnds call old new = EndsWith call (traffic old.inner) (traffic new.inner)
 
-    -- there is room for more, or the stream behind blocked or failed
+    -- there is room for more, or the inner stream blocked or failed
     abbrev pub WhyRoom : BufferedStream T → Flushed → BufferedStream T → Type 0
-    WhyRoom old All new = (0 < room_in new.held) × BehindMoved old new
+    WhyRoom old All new = (0 < room_in new.buffered) × BehindMoved old new
     WhyRoom old FlushBlocked new = BehindEnds (Write WriteBlocked) old new
     WhyRoom old FlushFailed new = BehindEnds (Write WriteFailed) old new
 
-    -- why bytes were not taken while some share is left: the stream behind blocked or failed
+    -- why bytes were not written while some share is left: the inner stream blocked or failed
     abbrev pub WhyTookSome : BufferedStream T → WriteAnswer → BufferedStream T → Type 0
     WhyTookSome old (Wrote n) new = BehindMoved old new
     WhyTookSome old WriteBlocked new = BehindEnds (Write WriteBlocked) old new
     WhyTookSome old WriteFailed new = BehindEnds (Write WriteFailed) old new
 
-    -- why a write answers so: it blocks where no share is left, and fails once what is held has failed to leave
+    -- why a write answers so: it blocks where no share is left, and fails once what is buffered has failed to leave
     abbrev pub WhyTook : BufferedStream T → WriteAnswer → BufferedStream T → Type 0
     WhyTook old answer new =
         (Pauses old new × (answer ≡ WriteBlocked))
         ⊎ ((Stops old new × (answer ≡ WriteFailed)) ⊎ (GoesOn old × WhyTookSome old answer new))
 
-    -- the stream behind was read once nothing was held, in a drive that hadn't read all that is there
+    -- the inner stream was read once nothing was buffered, in a drive that hadn't read all that is there
     abbrev pub WasRead : BufferedStream T → ReadAnswer → BufferedStream T → Type 0
-    WasRead old answer new = (old.is_drained ≡ false) × (held_in new.held ≡ []) × BehindEnds (Read answer) old new
+    WasRead old answer new = (old.is_drained ≡ false) × (buffered_in new.buffered ≡ [])
+        × BehindEnds (Read answer) old new
 
-    -- Why a read answers so while some share is left. The stream behind was read, and answered that; or it blocked or
-    -- failed as what is held was written; or this drive had read all that is there, and it wasn't read.
+    -- Why a read answers so while some share is left. The inner stream was read, and answered that; or it blocked or
+    -- failed as what is buffered was written; or this drive had read all that is there, and it wasn't read.
     abbrev pub WhyGaveSome : BufferedStream T → ReadAnswer → BufferedStream T → Type 0
     WhyGaveSome old (Moved n) new = WasRead old (Moved n) new
     WhyGaveSome old Ended new = WasRead old Ended new
@@ -214,50 +216,53 @@ module _ {T : Type 0} where
     WhyGaveSome old Blocked new =
         WasRead old Blocked new
         ⊎ (BehindEnds (Write WriteBlocked) old new
-        ⊎ ((old.is_drained ≡ true) × (held_in new.held ≡ []) × BehindMoved old new))
+        ⊎ ((old.is_drained ≡ true) × (buffered_in new.buffered ≡ []) × BehindMoved old new))
 
-    -- why a read answers so: it blocks where no share is left, and fails once what is held has failed to leave
+    -- why a read answers so: it blocks where no share is left, and fails once what is buffered has failed to leave
     abbrev pub WhyGave : BufferedStream T → ReadAnswer → BufferedStream T → Type 0
     WhyGave old answer new =
         (Pauses old new × (answer ≡ Blocked))
         ⊎ ((Stops old new × (answer ≡ Failed)) ⊎ (GoesOn old × WhyGaveSome old answer new))
 
-    -- a read: why it answers so, whether more is there to read, and whether what is held has failed to leave
+    -- a read: why it answers so, whether more is there to read, and whether what is buffered has failed to leave
     pub record AfterRead (old : BufferedStream T) (len : ℕ) (answer : ReadAnswer) (new : BufferedStream T) : Type 0
       where
         pub why : WhyGave old answer new
         pub short : ReadsShort old len answer new
         pub failed : ReadFails old answer new
 
-    -- a write: why it answers so, what is left of the share, and whether what is held has failed to leave
+    -- a write: why it answers so, what is left of the share, and whether what is buffered has failed to leave
     pub record AfterWrite (old : BufferedStream T) (answer : WriteAnswer) (new : BufferedStream T) : Type 0 where
       pub why : WhyTook old answer new
       pub drains : Drains old answer new
       pub failed : WriteFails old answer new
 
-    -- One write of what is held: so much has left, or the stream behind blocked or failed, and all is held still. It
-    -- has failed after the stream behind failed, and no more after some has left.
-    abbrev pub WhyWroteHeld : BufferedStream T → WriteAnswer → BufferedStream T → Type 0
-    WhyWroteHeld old (Wrote n) new =
-        (0 < n) × (n ≤ length (held_in old.held)) × (held_in new.held ≡ drop n (held_in old.held))
+    -- One write of what is buffered: so much has left, or the inner stream blocked or failed, and all stays buffered.
+    -- It has failed once the inner stream failed, and no longer once some has left.
+    abbrev pub WhyWroteBuffered : BufferedStream T → WriteAnswer → BufferedStream T → Type 0
+    WhyWroteBuffered old (Wrote n) new =
+        (0 < n) × (n ≤ length (buffered_in old.buffered))
+        × (buffered_in new.buffered ≡ drop n (buffered_in old.buffered))
         × (new.has_failed ≡ false) × BehindMoved old new
-    WhyWroteHeld old WriteBlocked new =
-        (held_in new.held ≡ held_in old.held) × BehindEnds (Write WriteBlocked) old new
+    WhyWroteBuffered old WriteBlocked new =
+        (buffered_in new.buffered ≡ buffered_in old.buffered) × BehindEnds (Write WriteBlocked) old new
         × (new.has_failed ≡ old.has_failed)
-    WhyWroteHeld old WriteFailed new =
-        (held_in new.held ≡ held_in old.held) × BehindEnds (Write WriteFailed) old new × (new.has_failed ≡ true)
+    WhyWroteBuffered old WriteFailed new =
+        (buffered_in new.buffered ≡ buffered_in old.buffered) × BehindEnds (Write WriteFailed) old new
+        × (new.has_failed ≡ true)
 
-    -- why no more of what is held was written: nothing is held, or the stream behind blocked or failed
+    -- why no more of what is buffered was written: nothing is left, or the inner stream blocked or failed
     abbrev pub WhyFlushed : BufferedStream T → Flushed → BufferedStream T → Type 0
-    WhyFlushed old All new = (held_in new.held ≡ []) × BehindMoved old new
+    WhyFlushed old All new = (buffered_in new.buffered ≡ []) × BehindMoved old new
     WhyFlushed old FlushBlocked new = BehindEnds (Write WriteBlocked) old new
     WhyFlushed old FlushFailed new = BehindEnds (Write WriteFailed) old new
 
   module _ (tells : Type 0) (traffic : T → Traffic) (moment : ℕ) where
     -- no byte came or went, lost or twice
     pub record KeepsBytes (old new : BufferedStream T) : Type 0 where
-      pub given : tells → (traffic new.inner).given ≡ (traffic old.inner).given
-      pub taken : tells → (traffic new.inner).taken ++ held_in new.held ≡ (traffic old.inner).taken ++ held_in old.held
+      pub received : tells → (traffic new.inner).received ≡ (traffic old.inner).received
+      pub sent : tells → (traffic new.inner).sent ++ buffered_in new.buffered ≡ (traffic old.inner).sent
+          ++ buffered_in old.buffered
       pub departed : tells → DepartAt moment (traffic_through traffic old) (traffic_through traffic new)
       pub counts : new.counts ≡ old.counts
       pub short : new.is_short ≡ old.is_short
@@ -265,16 +270,16 @@ module _ {T : Type 0} where
       pub reads_on : new.reads_on ≡ old.reads_on
       pub turn : KeepsTurn old new
 
-    pub record WritesHeld (old : BufferedStream T) (answer : WriteAnswer) (new : BufferedStream T) : Type 0 where
+    pub record WritesBuffered (old : BufferedStream T) (answer : WriteAnswer) (new : BufferedStream T) : Type 0 where
       pub kept : KeepsBytes old new
-      pub why : WhyWroteHeld traffic old answer new
+      pub why : WhyWroteBuffered traffic old answer new
 
     pub record Flushes (old : BufferedStream T) (answer : Flushed) (new : BufferedStream T) : Type 0 where
       pub kept : KeepsBytes old new
       pub why : WhyFlushed traffic old answer new
       pub failed : FlushFails old answer new
 
-    -- what is held is written, unless the stream behind failed to take it
+    -- what is buffered is written, unless the inner stream failed to take it
     abbrev pub Finishes : BufferedStream T → BufferedStream T → Type 0
     Finishes old new = ((old.has_failed ≡ true) × (new ≡ old))
         ⊎ ((old.has_failed ≡ false) × (answer : Flushed) × Flushes old answer new)
@@ -282,9 +287,9 @@ module _ {T : Type 0} where
     pub record TakesSome (old : BufferedStream T) (from : List ℕ) (answer : WriteAnswer) (new : BufferedStream T) : Type
         0 where
       pub within : WritesWithin answer (length from)
-      pub given : tells → (traffic new.inner).given ≡ (traffic old.inner).given
-      pub taken : tells → (traffic new.inner).taken ++ held_in new.held
-          ≡ ((traffic old.inner).taken ++ held_in old.held) ++ take (bytes_written answer) from
+      pub received : tells → (traffic new.inner).received ≡ (traffic old.inner).received
+      pub sent : tells → (traffic new.inner).sent ++ buffered_in new.buffered
+          ≡ ((traffic old.inner).sent ++ buffered_in old.buffered) ++ take (bytes_written answer) from
       pub departed : tells → DepartAt moment (traffic_through traffic old) (traffic_through traffic new)
       pub counts : new.counts ≡ old.counts
       pub failed : WriteFails old answer new
@@ -296,8 +301,10 @@ module _ {T : Type 0} where
     pub record GivesSome (old : BufferedStream T) (before : List ℕ) (answer : ReadAnswer) (new : BufferedStream T)
         (after : List ℕ) : Type 0 where
       pub within : ReadsWithin answer (length before)
-      pub given : tells → (traffic new.inner).given ≡ (traffic old.inner).given ++ take (bytes_read answer) after
-      pub taken : tells → (traffic new.inner).taken ++ held_in new.held ≡ (traffic old.inner).taken ++ held_in old.held
+      pub received : tells → (traffic new.inner).received ≡ (traffic old.inner).received
+          ++ take (bytes_read answer) after
+      pub sent : tells → (traffic new.inner).sent ++ buffered_in new.buffered ≡ (traffic old.inner).sent
+          ++ buffered_in old.buffered
       pub departed : tells → DepartAt moment (traffic_through traffic old) (traffic_through traffic new)
       pub counts : new.counts ≡ old.counts
       pub failed : ReadFails old answer new

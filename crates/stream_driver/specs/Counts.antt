@@ -5,9 +5,9 @@ use Rattle.stream_driver.specs.Types.{Call, CallCounts}
 
 -- counts and the last call, with the bytes that went each way, what has left, and the number of the connection
 abbrev pub counted_with : CallCounts → List ℕ → List ℕ → List Departure → ℕ → Traffic
-counted_with c given taken departed connection = record {
-  given = given;
-  taken = taken;
+counted_with c received sent departed connection = record {
+  received = received;
+  sent = sent;
   departed = departed;
   read_blocked = c.read_blocked;
   read_failed = c.read_failed;
@@ -23,7 +23,7 @@ counted c = counted_with c [] [] [] 0
 
 -- the last call was this one, and it alone was counted, whatever has moved over the connection
 abbrev pub Notes : Call → CallCounts → CallCounts → Type 0
-Notes call old new = (given taken later_given later_taken : List ℕ) (departed later_departed : List Departure)
+Notes call old new = (received sent later_received later_sent : List ℕ) (departed later_departed : List Departure)
     (connection later : ℕ) → later ≡ connection
-    → EndsWith call (counted_with old given taken departed connection)
-    (counted_with new later_given later_taken later_departed later)
+    → EndsWith call (counted_with old received sent departed connection)
+    (counted_with new later_received later_sent later_departed later)

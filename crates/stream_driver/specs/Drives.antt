@@ -8,14 +8,14 @@ use Rattle.stream_driver.specs.Traffic.{Traffic, AllMoved, EndsWith}
 use Rattle.stream_driver.specs.Types.{Read, Write, Blocked as ReadBlocked, Failed as ReadFailed, Ended as ReadEnded}
 use Rattle.stream_driver.specs.Types.{WriteBlocked, WriteFailed, Progress, Waiting, Again, Gone}
 
--- a run of one session over a stream: what the stream gave received in, each time where the session waited for it, and
--- what was sent the stream took
+-- a run of one session over a stream: what was received over the stream came in, each time where the session waited for
+-- it, and what was reported as sent was sent over the stream
 pub record Carried (s : ℕ) (tells : Type 0) (old : Point) (before : Traffic) (new : Point) (after : Traffic) : Type 0
   where
     pub runs : Runs s old new
     pub in_turn : ComeInTurn old.hub runs.events
-    pub given : tells → after.given ≡ before.given ++ runs.history.received
-    pub taken : tells → after.taken ≡ before.taken ++ runs.history.sent
+    pub received : tells → after.received ≡ before.received ++ runs.history.received
+    pub sent : tells → after.sent ≡ before.sent ++ runs.history.sent
 
 -- Why a drive that has come this far answers so. Each of its calls of the stream moved bytes, but the last one where
 -- that is the reason: so none follows a call that blocked, failed or ended. `Again` comes after 64 requests.

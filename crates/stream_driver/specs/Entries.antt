@@ -77,7 +77,7 @@ module _ {T : Type 0} (tells : Type 0) (traffic : T → Traffic) where
     pub sessions : HaveSessions later new
     pub numbers : KeepSessions slots new
 
--- ---- entries whose streams hold bytes
+-- ---- entries whose streams buffer bytes
 
 abbrev pub is_gone : EntryState → Bool
 is_gone EntryGone = true
@@ -91,7 +91,7 @@ state_at_end Ready had = Ready
 state_at_end EntryGone had = EntryGone
 
 module _ {T : Type 0} where
-  -- it is gone, and its stream holds nothing, or failed to take it
+  -- it is gone, and its stream buffers nothing, or the inner one failed to take it
   abbrev pub is_over : Entry (BufferedStream T) → Bool
   is_over entry = is_gone entry.state && is_settled entry.stream
 
@@ -102,7 +102,7 @@ module _ {T : Type 0} where
     EndsIn EntryGone old new = Finishes tells traffic moment (fresh old) new
 
     -- The end of an entry's drive. It is ready exactly where it was, or where it waits as its stream has had its share.
-    -- What its stream holds was written as far as it goes, at this moment of the device, but for a stream that is
+    -- What its stream buffered was written as far as it goes, at this moment of the device, but for a stream that is
     -- waited for.
     pub record EndsDrive (old new : Entry (BufferedStream T)) : Type 0 where
       pub session : new.session ≡ old.session

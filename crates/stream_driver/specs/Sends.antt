@@ -9,7 +9,7 @@ use Rattle.stream_driver.specs.Traffic.{Departure, IsBeginning, Traffic}
 use Rattle.stream_driver.specs.Types.{EntryGone as Gone, Entry}
 
 -- Some of these events, from this state on, led to one in which the session had been answered these bytes: they begin
--- what it was told to be sent and what is pending for it.
+-- what was reported as sent to it, followed by what is pending for it.
 pub record IsAnswered (s : ℕ) (h : HubState) (events : List (HubEvent × Choice)) (bytes : List ℕ) : Type 0 where
   pub by : List (HubEvent × Choice)
   pub since : List (HubEvent × Choice)
@@ -31,29 +31,29 @@ pub record IsToldBefore {D : Type 0} {g : Ghosts D} (s : ℕ) (h : HubState) (ol
   pub moment_is : d.moment ≡ g.moment (device hub)
   pub told : IsAnswered s h before d.bytes
 
--- what left since is told of so
+-- each departure since was answered so before
 pub record AreToldBefore {D : Type 0} {g : Ghosts D} (s : ℕ) (h : HubState) (old new : Hub D g)
     (events : List (HubEvent × Choice)) (before after : Traffic) : Type 0 where
   pub departures : List Departure
   pub departed_are : after.departed ≡ before.departed ++ departures
   pub each : AllByRecursion (IsToldBefore s h old new events) departures
 
--- the stream took what was told to be sent
+-- what was sent over the stream is what was reported as sent
 pub record HasSent (s : ℕ) (h : HubState) (t : Traffic) : Type 0 where
   pub stream : SessionStream
   pub stream_is : stream_of h s ≡ Some stream
-  pub taken : t.taken ≡ stream.sent
+  pub sent : t.sent ≡ stream.sent
 
--- A run leads from one hub to the other, and what left over the session's stream in it is told before, in each state at
--- which the stream had taken what was told to be sent. All that the stream has taken was answered, so what it still
--- holds may leave later.
+-- A run leads from one hub to the other, and what left over the session's stream in it was answered before, in each
+-- state at which what was sent over the stream is what was reported as sent. All that was sent over it was answered, so
+-- what it still buffers may leave later.
 pub record LeadsTelling {D : Type 0} {g : Ghosts D} (s : ℕ) (tells : Type 0) (old : Hub D g) (before : Traffic)
     (new : Hub D g) (after : Traffic) (P : Point → Point → Type 0) : Type 0 where
   pub leads : Leads old new P
   pub telling : tells → (h : HubState) → StandsFor old h → HasSent s h before
       → AreToldBefore s h old new leads.choices before after
   pub answered : tells → (h : HubState) → StandsFor old h → HasSent s h before
-      → IsAnswered s h leads.choices after.taken
+      → IsAnswered s h leads.choices after.sent
 
 module _ {T : Type 0} (traffic : T → Traffic) where
   -- so it is of each entry that isn't gone
@@ -61,7 +61,7 @@ module _ {T : Type 0} (traffic : T → Traffic) where
   HaveSent h slots = (key : ℕ) (entry : Entry T) → slice_index_or slots key None ≡ Some entry → entry.state ≢ Gone
       → HasSent entry.session h (traffic entry.stream)
 
-  -- what left over the streams of the entries is told before
+  -- what left over the streams of the entries was answered before
   abbrev pub AllTold : {D : Type 0} {g : Ghosts D} → HubState → (old new : Hub D g) → List (HubEvent × Choice)
       → (slots later : List (Option (Entry T))) → Type 0
   AllTold h old new events slots later =
@@ -69,16 +69,16 @@ module _ {T : Type 0} (traffic : T → Traffic) where
       → slice_index_or later key None ≡ Some entry
       → AreToldBefore was.session h old new events (traffic was.stream) (traffic entry.stream)
 
-  -- each of them has taken nothing since, or all that it has taken was answered
+  -- over each of them nothing was sent since, or all that was sent was answered
   abbrev pub AllAnswered : HubState → List (HubEvent × Choice) → (slots later : List (Option (Entry T))) → Type 0
   AllAnswered h events slots later =
       (key : ℕ) (was entry : Entry T) → slice_index_or slots key None ≡ Some was
       → slice_index_or later key None ≡ Some entry
-      → ((traffic entry.stream).taken ≡ (traffic was.stream).taken)
-      ⊎ IsAnswered was.session h events (traffic entry.stream).taken
+      → ((traffic entry.stream).sent ≡ (traffic was.stream).sent)
+      ⊎ IsAnswered was.session h events (traffic entry.stream).sent
 
-  -- A run leads from one hub to the other, and what left over the streams of a table in it is told before; what they
-  -- took was answered.
+  -- A run leads from one hub to the other, and what left over the streams of a table in it was answered before; what
+  -- was sent over them was answered.
   pub record DrivesTelling {D : Type 0} {g : Ghosts D} (tells : Type 0) (old : Hub D g)
       (slots : List (Option (Entry T))) (new : Hub D g) (later : List (Option (Entry T))) (P : Point → Point
       → Type 0) : Type 0 where

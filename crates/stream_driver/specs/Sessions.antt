@@ -83,8 +83,8 @@ session_of (Serves s) = s
 session_of (Sends s n) = s
 session_of (Leaves s) = s
 
--- what came in, the requests that were served, the machine's replies and what was told to be sent go on; what was sent,
--- followed by what is pending, is what was pending, followed by the texts of these replies
+-- what came in, the requests that were served, the machine's replies and what was reported as sent go on; what was
+-- sent, followed by what is pending, is what was pending, followed by the texts of these replies
 pub record GoesOn (first last : SessionStream) : Type 0 where
   pub received : Bytes
   pub received_is : last.received ≡ first.received ++ received

@@ -9,12 +9,12 @@ pub record Departure : Type 0 where
   pub bytes : List ℕ
   pub moment : ℕ
 
--- The bytes that reads gave and writes took, how often each call gave each answer but `Moved`, and the last call with
--- its answer. And what had left for the peer by each moment of the device at which some bytes left: a stream may hold
--- for a while what it has taken. And the number of the connection, which tells it from others.
+-- The bytes that were received and those that were sent, how often each call gave each answer but `Moved`, and the last
+-- call with its answer. And what had left for the peer by each moment of the device at which some bytes left: a stream
+-- may buffer for a while what was sent. And the number of the connection, which tells it from others.
 pub record Traffic : Type 0 where
-  pub given : List ℕ
-  pub taken : List ℕ
+  pub received : List ℕ
+  pub sent : List ℕ
   pub departed : List Departure
   pub read_blocked : ℕ
   pub read_failed : ℕ
@@ -27,8 +27,8 @@ pub record Traffic : Type 0 where
 -- of a stream that was never called, under the number 0
 abbrev pub untouched : Traffic
 untouched = record {
-  given = [];
-  taken = [];
+  received = [];
+  sent = [];
   departed = [];
   read_blocked = 0;
   read_failed = 0;
@@ -60,14 +60,15 @@ abbrev pub bytes_written : WriteAnswer → ℕ
 bytes_written (Wrote n) = n
 bytes_written _ = 0
 
--- where it was to take no more than some bytes, it has taken so many of them, and takes the others at most
+-- where it takes at most some bytes, these were among them, and from now on it takes at most the others
 abbrev pub TakesOf : {T : Type 0} → (ℕ → T → Type 0) → T → ℕ → T → Type 0
 TakesOf most old bytes new = (n : ℕ) → most n old → (bytes ≤ n) × most (n - bytes) new
 
--- and whether it was told that its share ends stays
-pub record KeepsTo {T : Type 0} (most : ℕ → T → Type 0) (told : T → Bool) (old : T) (bytes : ℕ) (new : T) : Type 0 where
-  pub takes : TakesOf most old bytes new
-  pub stays : told new ≡ told old
+-- and whether its share was ended stays
+pub record KeepsTo {T : Type 0} (most : ℕ → T → Type 0) (ended : T → Bool) (old : T) (bytes : ℕ) (new : T) : Type 0
+  where
+    pub takes : TakesOf most old bytes new
+    pub stays : ended new ≡ ended old
 
 -- what the counts are after this answer; all else is the same
 abbrev pub after_read : ReadAnswer → Traffic → Traffic
@@ -90,8 +91,8 @@ SameCounts a b =
 
 -- of the connection under this number: nothing has moved, and no call was made
 pub record IsUncalled (tells : Type 0) (connection : ℕ) (t : Traffic) : Type 0 where
-  pub given : tells → t.given ≡ []
-  pub taken : tells → t.taken ≡ []
+  pub received : tells → t.received ≡ []
+  pub sent : tells → t.sent ≡ []
   pub departed : tells → t.departed ≡ []
   pub counts : SameCounts t (record untouched { connection = connection })
   pub last : t.last ≡ None
@@ -113,8 +114,8 @@ pub record IsBeginning (bytes all : List ℕ) : Type 0 where
   pub rest : List ℕ
   pub all_is : all ≡ bytes ++ rest
 
--- what left in a call left at this moment, and had been taken by its end
+-- what left in a call left at this moment, and had been sent by its end
 pub record DepartAt (moment : ℕ) (before after : Traffic) : Type 0 where
   pub departures : List Departure
   pub departed_are : after.departed ≡ before.departed ++ departures
-  pub each : AllByRecursion (λ d. (d.moment ≡ moment) × IsBeginning d.bytes after.taken) departures
+  pub each : AllByRecursion (λ d. (d.moment ≡ moment) × IsBeginning d.bytes after.sent) departures

@@ -24,4 +24,4 @@ pub use Rattle.stream_driver.specs.declared.driving.OutputState.TheVariants.{Fai
 pub use Rattle.stream_driver.specs.declared.entries.Entry.{Entry}
 pub use Rattle.stream_driver.specs.declared.entries.EntryState.{EntryState}
 pub use Rattle.stream_driver.specs.declared.entries.EntryState.TheVariants.{Idle, Ready, Gone as EntryGone}
-pub use Rattle.stream_driver.specs.declared.held_bytes.HeldBytes.{HeldBytes}
+pub use Rattle.stream_driver.specs.declared.buffered_bytes.BufferedBytes.{BufferedBytes}

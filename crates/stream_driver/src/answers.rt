@@ -1,4 +1,4 @@
-//! What reads, writes and drives answer.
+//! The answers of reads, writes and drives.
 
 /// What a read of a stream answers.
 #[derive(Clone, Copy, PartialEq, Eq, Debug)]

@@ -1,8 +1,9 @@
-//! A stream that holds what it has taken until there is more.
+//! A stream that buffers what is written to it, so that replies which were served together are sent in one call. In a drive it takes no
+//! more than its share.
 
 use crate::answers::{Call, ReadAnswer, WriteAnswer};
+use crate::buffered_bytes::{BUFFERED_MAX, BufferedBytes};
 use crate::counts::CallCounts;
-use crate::held_bytes::{HELD_MAX, HeldBytes};
 use crate::stream::Stream;
 use sector::Sectors;
 use std::alloc::{AllocError, Global};
@@ -13,43 +14,43 @@ pub const SHARE_MAX: usize = 262_144;
 /// The most bytes that a buffered stream takes in a drive that isn't heavy.
 pub const LIGHT_MAX: usize = 32_768;
 
-/// How the writing of what a buffered stream holds came out.
+/// How the writing of what a stream buffers came out.
 #[derive(Clone, Copy, PartialEq, Eq, Debug)]
 pub enum Flushed {
-    /// It holds nothing.
+    /// It buffers nothing.
     All,
-    /// The stream behind it blocked, and the rest is held.
+    /// The inner stream blocked, and the rest stays buffered.
     Blocked,
-    /// The stream behind it failed, and the rest is held.
+    /// The inner stream failed, and the rest stays buffered.
     Failed,
 }
 
-/// A stream before another one: it holds what it has taken, at most `HELD_MAX` bytes, and hands it on in one write once there is no room
-/// for more, before it reads, and where it is told to. So replies that were served together leave together. Where it holds nothing, a
-/// piece of `HELD_MAX` bytes or more goes straight to the stream behind it.
+/// A stream over an inner one: it buffers what is written to it, at most `BUFFERED_MAX` bytes, and passes it on in one write once there is
+/// no room for more, before it reads, and where it is flushed. So replies that were served together leave together. Where it buffers
+/// nothing, a piece of `BUFFERED_MAX` bytes or more goes straight to the inner stream.
 ///
-/// What it has taken is what the stream behind it took, followed by what it holds. A write is answered `Blocked` or `Failed` only where
-/// the stream behind it was written last, and answered so. A read is answered by the stream behind it once nothing is held; before that,
-/// `Blocked` or `Failed` only where that was written last, and answered so. Once what is held has failed to leave, also between two drives,
-/// reads and writes are answered `Failed` with no further call. It counts as failed from a write that failed to the next that moves
-/// bytes. After a read that gave fewer bytes than it asked for nothing more is there, until the poll tells of it: so once a reply to it
-/// was taken, a read is answered `Blocked` with no call, until the next drive begins.
+/// What was sent over it is what was sent over the inner stream, followed by what is buffered. A write is answered `Blocked` or `Failed`
+/// only where the inner stream was written last, and answered so. A read is answered by the inner stream once nothing is buffered; before
+/// that, `Blocked` or `Failed` only where that was written last, and answered so. Once what is buffered has failed to leave, also between
+/// two drives, reads and writes are answered `Failed` with no further call. It counts as failed from a write that failed to the next that
+/// moves bytes. After a read of fewer bytes than it asked for nothing more is there, until the poll reports it: so once a reply to it was
+/// written, a read is answered `Blocked` with no call, until the next drive begins.
 ///
 /// It takes at most `SHARE_MAX` bytes in a drive, its share of a turn: a write takes no more than is left of it. Once none is left, reads
-/// and writes are answered `Blocked` with no call of the stream behind it, until the next drive begins. No poll tells of that, so whoever
-/// drives it asks whether it `has_had_its_share`. A reply that is larger than the share is taken in parts, over several turns.
+/// and writes are answered `Blocked` with no call of the inner stream, until the next drive begins. No poll reports that, so whoever drives
+/// it asks whether it `has_had_its_share`. A reply that is larger than the share is taken in parts, over several turns.
 ///
 /// A drive that appends a record ends the share with the reply to it. That it did is kept (`has_appended`) until the stream begins a turn
 /// of its own, and so is that a drive took more than `LIGHT_MAX` bytes (`is_heavy`).
 #[derive(Drop)]
 pub struct BufferedStream<S: Stream> {
     inner: S,
-    held: HeldBytes,
-    /// The last write of what is held failed.
+    buffered: BufferedBytes,
+    /// The last write of what is buffered failed.
     has_failed: bool,
     /// The last read of this drive gave fewer bytes than it asked for.
     is_short: bool,
-    /// And bytes were taken since.
+    /// And bytes were written to it since.
     is_drained: bool,
     /// A short read means nothing.
     reads_on: bool,
@@ -64,18 +65,18 @@ pub struct BufferedStream<S: Stream> {
 
 impl<S: Stream> BufferedStream<S> {
     ghost use Rattle.std.specs.Prelude.{◌≡◌, ◌≢◌, ◌≤◌, ◌||◌, [], IfOk, true, false};
-    ghost use Rattle.stream_driver.specs.Buffers.{IsNew, fresh, has_had_share, held_in, is_settled};
-    ghost use Rattle.stream_driver.specs.Buffers.{Finishes, Flushes, KeepsBytes, RoomFails, WhyRoom, WritesHeld};
+    ghost use Rattle.stream_driver.specs.Buffers.{IsNew, fresh, has_had_share, buffered_in, is_settled};
+    ghost use Rattle.stream_driver.specs.Buffers.{Finishes, Flushes, KeepsBytes, RoomFails, WhyRoom, WritesBuffered};
     ghost use Rattle.stream_driver.specs.Buffers.{GivesSome, TakesSome, WhyGave, WhyGaveSome, WhyTook, WhyTookSome};
     ghost use Rattle.stream_driver.specs.Traffic.{bytes_written};
 
-    /// The stream before this one, holding nothing. Takes the memory for `HELD_MAX` bytes, and none later.
+    /// A stream over this one, which buffers nothing. Takes the memory for `BUFFERED_MAX` bytes, and none later.
     pub fn new(alloc: Global, inner: S) -> Result<BufferedStream<S>, AllocError>
         ensures { IfOk result (λ stream. IsNew inner stream) }
     {
         Ok(BufferedStream {
             inner,
-            held: HeldBytes::new(alloc)?,
+            buffered: BufferedBytes::new(alloc)?,
             has_failed: false,
             is_short: false,
             is_drained: false,
@@ -87,18 +88,18 @@ impl<S: Stream> BufferedStream<S> {
         })
     }
 
-    /// The stream behind this one. What is held is lost. Takes no memory.
+    /// The inner stream. What is buffered is lost. Takes no memory.
     pub fn into_inner(self) -> S
         ensures { result ≡ self.inner }
     {
         self.inner
     }
 
-    /// Does it hold nothing, or has the stream behind it failed to take it? Takes no memory.
+    /// Does it buffer nothing, or has the inner stream failed to take it? Takes no memory.
     pub fn is_settled(&self) -> bool
         ensures { result ≡ is_settled self.now }
     {
-        self.has_failed || self.held.is_empty()
+        self.has_failed || self.buffered.is_empty()
     }
 
     /// From now on a read that gives fewer bytes than it asked for doesn't mean that nothing more is there. Takes no memory.
@@ -117,8 +118,8 @@ impl<S: Stream> BufferedStream<S> {
         self.share = SHARE_MAX;
     }
 
-    /// Has it taken its share of this turn? Then it answers `Blocked` until the next drive begins, and no poll tells that it goes on. Takes
-    /// no memory.
+    /// Has it taken its share of this turn? Then it answers `Blocked` until the next drive begins, and no poll reports that it goes on.
+    /// Takes no memory.
     pub fn has_had_its_share(&self) -> bool
         ensures { result ≡ has_had_share self.now }
     {
@@ -154,15 +155,15 @@ impl<S: Stream> BufferedStream<S> {
         self.share = 0;
     }
 
-    // One write of what is held.
-    fn write_held<D: Sectors>(&mut self, device: &D) -> WriteAnswer
-        requires { held_in self.old.held ≢ [] }
-        ensures { WritesHeld S.tells S.traffic (D.moment device.now) self.old result self.new }
+    // One write of what is buffered.
+    fn write_buffered<D: Sectors>(&mut self, device: &D) -> WriteAnswer
+        requires { buffered_in self.old.buffered ≢ [] }
+        ensures { WritesBuffered S.tells S.traffic (D.moment device.now) self.old result self.new }
     {
-        let answer = self.inner.write(device, self.held.as_slice());
+        let answer = self.inner.write(device, self.buffered.as_slice());
         match answer {
             WriteAnswer::Moved(n) => {
-                self.held.leave(n);
+                self.buffered.leave(n);
                 self.has_failed = false;
             }
             WriteAnswer::Blocked => {}
@@ -171,12 +172,12 @@ impl<S: Stream> BufferedStream<S> {
         answer
     }
 
-    /// Writes what is held, as far as the stream behind takes it. Takes no memory that a caller sees.
+    /// Writes what is buffered, as far as the inner stream takes it. Takes no memory that a caller sees.
     pub fn flush<D: Sectors>(&mut self, device: &D) -> Flushed
         ensures { Flushes S.tells S.traffic (D.moment device.now) self.old result self.new }
     {
-        while !self.held.is_empty() {
-            match self.write_held(device) {
+        while !self.buffered.is_empty() {
+            match self.write_buffered(device) {
                 WriteAnswer::Moved(_) => {}
                 WriteAnswer::Blocked => return Flushed::Blocked,
                 WriteAnswer::Failed => return Flushed::Failed,
@@ -185,7 +186,7 @@ impl<S: Stream> BufferedStream<S> {
         Flushed::All
     }
 
-    /// Writes what is held, as far as the stream behind takes it, unless that has failed. Takes no memory that a caller sees.
+    /// Writes what is buffered, as far as the inner stream takes it, unless that has failed. Takes no memory that a caller sees.
     pub fn finish<D: Sectors>(&mut self, device: &D)
         ensures { Finishes S.tells S.traffic (D.moment device.now) self.old self.new }
     {
@@ -194,19 +195,19 @@ impl<S: Stream> BufferedStream<S> {
         }
     }
 
-    // Writes what is held where there is no room for more. `All` where there is some then.
+    // Writes what is buffered where there is no room for more. `All` where there is some then.
     fn make_room<D: Sectors>(&mut self, device: &D) -> Flushed
         ensures kept { KeepsBytes S.tells S.traffic (D.moment device.now) self.old self.new }
         ensures why { WhyRoom S.traffic self.old result self.new }
         ensures failed { RoomFails self.old result self.new }
     {
-        if self.held.room() > 0 {
+        if self.buffered.room() > 0 {
             return Flushed::All;
         }
         self.flush(device)
     }
 
-    // Takes bytes from the front. Where nothing is held and there are more than are ever held, the stream behind takes them.
+    // Takes bytes from the front. Where nothing is buffered and there are at least `BUFFERED_MAX`, the inner stream takes them.
     fn take_some<D: Sectors>(&mut self, device: &D, from: &[u8]) -> WriteAnswer
         requires { from.now ≢ [] }
         ensures takes { TakesSome S.tells S.traffic (D.moment device.now) self.old from.now result self.new }
@@ -217,13 +218,13 @@ impl<S: Stream> BufferedStream<S> {
             Flushed::Blocked => return WriteAnswer::Blocked,
             Flushed::Failed => return WriteAnswer::Failed,
         }
-        if from.len() >= HELD_MAX && self.held.is_empty() {
+        if from.len() >= BUFFERED_MAX && self.buffered.is_empty() {
             return self.inner.write(device, from);
         }
-        WriteAnswer::Moved(self.held.put(from))
+        WriteAnswer::Moved(self.buffered.put(from))
     }
 
-    // Takes bytes from the front, no more than are left of the share, and none once what is held has failed to leave.
+    // Takes bytes from the front, no more than are left of the share, and none once what is buffered has failed to leave.
     fn take_in_share<D: Sectors>(&mut self, device: &D, from: &[u8]) -> WriteAnswer
         requires { from.now ≢ [] }
         ensures takes { TakesSome S.tells S.traffic (D.moment device.now) self.old from.now result self.new }
@@ -240,7 +241,7 @@ impl<S: Stream> BufferedStream<S> {
         self.take_some(device, &from[..most])
     }
 
-    // Gives bytes, once nothing is held.
+    // Reads from the inner stream, once nothing is buffered.
     fn give_some<D: Sectors>(&mut self, device: &D, into: &mut [u8]) -> ReadAnswer
         requires { into.old ≢ [] }
         ensures gives { GivesSome S.tells S.traffic (D.moment device.now) self.old into.old result self.new into.new }
@@ -261,7 +262,7 @@ impl<S: Stream> BufferedStream<S> {
         answer
     }
 
-    // Gives bytes, while some of the share is left and what is held hasn't failed to leave.
+    // Reads, while some of the share is left and what is buffered hasn't failed to leave.
     fn give_in_share<D: Sectors>(&mut self, device: &D, into: &mut [u8]) -> ReadAnswer
         requires { into.old ≢ [] }
         ensures gives { GivesSome S.tells S.traffic (D.moment device.now) self.old into.old result self.new into.new }
@@ -289,15 +290,15 @@ impl<S: Stream> Stream for BufferedStream<S> {
 
     ghost keeps_share = { Unit {0} };
 
-    ghost is_told = { λ b. b.appended };
+    ghost has_ended_share = { λ b. b.appended };
 
     ghost traffic = { traffic_through S.traffic };
 
     fn read<D: Sectors>(&mut self, device: &D, into: &mut [u8]) -> ReadAnswer
         requires { 0 < length into.old }
         ensures within { ReadsWithin result (length into.old) }
-        ensures given { S.tells → GivesMore S.traffic self.old (take (bytes_read result) into.new) self.new }
-        ensures taken { S.tells → (traffic_through S.traffic self.new).taken ≡ (traffic_through S.traffic self.old).taken }
+        ensures received { S.tells → GivesMore S.traffic self.old (take (bytes_read result) into.new) self.new }
+        ensures sent { S.tells → (traffic_through S.traffic self.new).sent ≡ (traffic_through S.traffic self.old).sent }
         ensures departed { S.tells → LeavesAt (D.moment device.now) S.traffic self.old self.new }
         ensures answered { EndsWith (Call.Read result) (traffic_through S.traffic self.old) (traffic_through S.traffic self.new) }
         ensures buffer { AfterRead S.traffic self.old (length into.old) result self.new }
@@ -310,8 +311,8 @@ impl<S: Stream> Stream for BufferedStream<S> {
     fn write<D: Sectors>(&mut self, device: &D, from: &[u8]) -> WriteAnswer
         requires { 0 < length from.now }
         ensures within { WritesWithin result (length from.now) }
-        ensures given { S.tells → (traffic_through S.traffic self.new).given ≡ (traffic_through S.traffic self.old).given }
-        ensures taken { S.tells → TakesMore S.traffic self.old (take (bytes_written result) from.now) self.new }
+        ensures received { S.tells → (traffic_through S.traffic self.new).received ≡ (traffic_through S.traffic self.old).received }
+        ensures sent { S.tells → TakesMore S.traffic self.old (take (bytes_written result) from.now) self.new }
         ensures departed { S.tells → LeavesAt (D.moment device.now) S.traffic self.old self.new }
         ensures answered { EndsWith (Call.Write result) (traffic_through S.traffic self.old) (traffic_through S.traffic self.new) }
         ensures buffer { AfterWrite S.traffic self.old result self.new }

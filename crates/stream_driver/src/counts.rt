@@ -1,7 +1,7 @@
-//! Counts of the answers of a stream.
+//! Counts of a stream's calls that moved no bytes, by their answers, and its last call.
 use crate::answers::{Call, ReadAnswer, WriteAnswer};
 
-/// How often each answer of a stream but `Moved` was given, and its last call with the answer. A count stays at its highest.
+/// How often a stream gave each answer but `Moved`, and its last call with the answer. A count stays at its highest.
 #[derive(Clone, Copy, PartialEq, Debug)]
 pub struct CallCounts {
     /// Reads that blocked.

@@ -1,4 +1,4 @@
-//! One drive.
+//! One drive of a session: it reads, serves requests and writes, until the stream blocks, the session leaves, or 64 requests were served.
 ghost use Rattle.std.specs.Prelude.{◌≡◌, ◌≢◌, ◌<◌, true, length, []};
 ghost use Rattle.sessions.specs.StandsFor.{pending_of, records_of, status_of};
 ghost use Rattle.stream_driver.specs.Sessions.{IsPresent, Leads, Stands};
@@ -44,9 +44,9 @@ fn write_some<D: Sectors, S: Stream>(hub: &mut Hub<D>, s: u64, stream: &mut S) -
     requires some { 0 < length (pending_of hub.old s) }
     ensures within { WritesWithin result (length (pending_of hub.old s)) }
     ensures written { LeadsAs s S.tells WritesSome result hub.old (S.traffic stream.old) hub.new (S.traffic stream.new) }
-    ensures spends { Stands hub.old → SpendsShare S.keeps_share S.takes_at_most S.is_told s hub.old stream.old hub.new stream.new }
+    ensures spends { Stands hub.old → SpendsShare S.keeps_share S.takes_at_most S.has_ended_share s hub.old stream.old hub.new stream.new }
 {
-    hub.runs_follow();
+    hub.law_runs_follow();
     let answer = stream.write(hub.device(), hub.pending(s));
     if let WriteAnswer::Moved(n) = answer {
         let _ = hub.step(&Event::Sent(s, n));
@@ -64,9 +64,9 @@ fn write_out<D: Sectors, S: Stream>(
     requires present { IsPresent hub.old s }
     requires pending { pending ≡ length (pending_of hub.old s) }
     ensures written { LeadsAs s S.tells Flushes result hub.old (S.traffic stream.old) hub.new (S.traffic stream.new) }
-    ensures spends { SpendsShare S.keeps_share S.takes_at_most S.is_told s hub.old stream.old hub.new stream.new }
+    ensures spends { SpendsShare S.keeps_share S.takes_at_most S.has_ended_share s hub.old stream.old hub.new stream.new }
 {
-    hub.runs_follow();
+    hub.law_runs_follow();
     let mut owed = pending;
     while owed > 0 {
         match write_some(hub, s, stream) {
@@ -89,9 +89,9 @@ fn read_some<D: Sectors, S: Stream>(
     requires { 0 < room }
     ensures within { ReadsWithin result room }
     ensures read { LeadsAs s S.tells (ReadsInTurn room) result hub.old (S.traffic stream.old) hub.new (S.traffic stream.new) }
-    ensures keeps { Stands hub.old → KeepsShare S.keeps_share S.takes_at_most S.is_told s hub.old stream.old hub.new stream.new }
+    ensures keeps { Stands hub.old → KeepsShare S.keeps_share S.takes_at_most S.has_ended_share s hub.old stream.old hub.new stream.new }
 {
-    hub.runs_follow();
+    hub.law_runs_follow();
     let most = room.min(READ_MAX);
     let piece = &mut buffer[..most];
     let answer = stream.read(hub.device(), piece);
@@ -112,9 +112,9 @@ fn serve_one<D: Sectors, S: Stream>(
     requires opened { status_of hub.old s ≡ Status.Open }
     requires nothing { pending_of hub.old s ≡ [] }
     ensures served { LeadsAs s S.tells Exchanges result hub.old (S.traffic stream.old) hub.new (S.traffic stream.new) }
-    ensures once { ServesOnce S.keeps_share S.takes_at_most S.is_told s hub.old stream.old result hub.new stream.new }
+    ensures once { ServesOnce S.keeps_share S.takes_at_most S.has_ended_share s hub.old stream.old result hub.new stream.new }
 {
-    hub.runs_follow();
+    hub.law_runs_follow();
     let mut room = hub.room(s);
     loop {
         match hub.step(&Event::Serve(s)) {
@@ -148,8 +148,8 @@ fn serve_in_share<D: Sectors, S: Stream>(
     requires nothing { pending_of hub.old s ≡ [] }
     ensures served { LeadsAs s S.tells Exchanges result hub.old (S.traffic stream.old) hub.new (S.traffic stream.new) }
     ensures ended { records_of hub.new ≢ records_of hub.old → S.takes_at_most (length (pending_of hub.new s)) stream.new }
-    ensures told { S.keeps_share → records_of hub.new ≢ records_of hub.old → S.is_told stream.new ≡ true }
-    ensures once { ServesOnce S.keeps_share S.takes_at_most S.is_told s hub.old stream.old result hub.new stream.new }
+    ensures ends { S.keeps_share → records_of hub.new ≢ records_of hub.old → S.has_ended_share stream.new ≡ true }
+    ensures once { ServesOnce S.keeps_share S.takes_at_most S.has_ended_share s hub.old stream.old result hub.new stream.new }
 {
     let records = hub.records();
     let exchange = serve_one(hub, s, stream, buffer);
@@ -178,9 +178,9 @@ pub(crate) fn drive_over<D: Sectors, S: Stream>(
 ) -> Progress
     requires { IsPresent hub.old s }
     ensures driven { LeadsAs s S.tells Drove result hub.old (S.traffic stream.old) hub.new (S.traffic stream.new) }
-    ensures appends { S.keeps_share → AppendsOnce S.is_told hub.old stream.old hub.new stream.new }
+    ensures appends { S.keeps_share → AppendsOnce S.has_ended_share hub.old stream.old hub.new stream.new }
 {
-    hub.runs_follow();
+    hub.law_runs_follow();
     'requests: for _served in 0..REQUESTS_MAX {
         let owed = hub.pending(s).len();
         match write_out(hub, s, owed, stream) {
@@ -221,8 +221,8 @@ pub(crate) fn drive_over<D: Sectors, S: Stream>(
 /// failed, the stream ended (what was read of a request is dropped), a request was refused memory, or there was a broken frame, whose reply
 /// is written. Other sessions are unchanged.
 ///
-/// Where a request appends a record to the log, which syncs, the stream is told that its share of the turn ends with the reply
-/// (`Stream::end_share`). A stream that keeps to that takes no other reply in this drive, so a drive appends one record at most.
+/// Where a request appends a record to the log, which syncs, the stream's share of the turn is ended with the reply (`Stream::end_share`).
+/// A stream that keeps to that takes no other reply in this drive, so a drive appends one record at most.
 ///
 /// Its events are a run of the hub: lawful at each moment, with the device's failures counted, and what a crash leaves known.
 ///
@@ -233,7 +233,7 @@ pub(crate) fn drive_over<D: Sectors, S: Stream>(
 pub fn drive<D: Sectors, S: Stream>(hub: &mut Hub<D>, s: u64, stream: &mut S) -> Progress
     requires { IsPresent hub.old s }
     ensures driven { LeadsAs s S.tells Drove result hub.old (S.traffic stream.old) hub.new (S.traffic stream.new) }
-    ensures appends { S.keeps_share → AppendsOnce S.is_told hub.old stream.old hub.new stream.new }
+    ensures appends { S.keeps_share → AppendsOnce S.has_ended_share hub.old stream.old hub.new stream.new }
 {
     let mut buffer = [0u8; READ_MAX];
     drive_over(hub, s, stream, &mut buffer)

@@ -1,4 +1,4 @@
-//! A table of connections.
+//! The table of connections: drives each that is ready once.
 ghost use Rattle.std.specs.Prelude.{◌≡◌, ◌≢◌};
 ghost use Rattle.stream_driver.specs.Appends.{AppendsAtMost, ready_count, ready_of};
 ghost use Rattle.stream_driver.specs.Sessions.{IsPresent};
@@ -45,7 +45,7 @@ fn drive_entry<D: Sectors, S: Stream>(
     ensures gone { entry.old.state ≡ EntryState.Gone → entry.new.state ≡ EntryState.Gone }
     ensures appends { S.keeps_share → AppendsAtMost (ready_of entry.old.state) hub.old hub.new }
 {
-    hub.runs_follow();
+    hub.law_runs_follow();
     if let EntryState::Ready = entry.state {
         entry.state = match drive_over(hub, entry.session, &mut entry.stream, buffer) {
             Progress::Waiting => EntryState::Idle,
@@ -70,7 +70,7 @@ pub fn drive_ready<D: Sectors, S: Stream>(hub: &mut Hub<D>, table: &mut Slab<Ent
     ensures numbers { KeepSessions table.old.slots table.new.slots }
     ensures appends { S.keeps_share → AppendsAtMost (ready_count table.old.slots) hub.old hub.new }
 {
-    hub.runs_follow();
+    hub.law_runs_follow();
     let mut buffer = [0u8; READ_MAX];
     for key in 0..table.capacity() {
         if let Some(entry) = table.get_mut(key) {
@@ -88,9 +88,9 @@ fn ready_again<S: Stream>(entry: &mut Entry<BufferedStream<S>>)
     }
 }
 
-/// Ends the drive of an entry. One that waits only as its stream has had its share of the turn is ready again, since no poll tells of that.
-/// What the stream holds is written, as far as the stream behind takes it, and the next drive may read and has a share of its own. A
-/// stream that is waited for has blocked, and is left alone. Is the entry gone, and does its stream hold nothing that may still leave?
+/// Ends the drive of an entry. One that waits only as its stream has had its share of the turn is ready again, since no poll reports that.
+/// What the stream buffers is written, as far as the inner stream takes it, and the next drive may read and has a share of its own. A
+/// stream that is waited for has blocked, and is left alone. Is the entry gone, and does its stream buffer nothing that may still leave?
 ///
 /// Takes no memory that a caller sees.
 pub fn end_drive<D: Sectors, S: Stream>(device: &D, entry: &mut Entry<BufferedStream<S>>) -> bool

@@ -1,4 +1,4 @@
-//! What follows for a hub that was led on. The law is the contract of a function that does nothing.
+//! The law that what drives do to a hub is a run of its events: the contract of a function that does nothing.
 ghost use Rattle.stream_driver.specs.Sessions.{LeadsAreRuns};
 
 use sector::Sectors;
@@ -6,8 +6,9 @@ use sessions::Hub;
 
 /// Does nothing, and takes no memory. Its contract says that what leads from one hub to another is a run of the hub, whatever else is
 /// said of it: lawful at each moment, with the failures of the device counted, and what a crash leaves known.
-pub fn leads_are_runs<D: Sectors>(hub: &Hub<D>)
+pub fn law_leads_are_runs<D: Sectors>(hub: &Hub<D>)
     ensures runs { LeadsAreRuns hub.now }
 {
+    // The law speaks of any hub: this one is named for its types alone.
     let _ = hub;
 }

@@ -1,11 +1,11 @@
-//! Connections.
+//! The trait of connections whose calls don't block, with the bytes that they received and sent.
 
 use crate::answers::{Call, ReadAnswer, WriteAnswer};
 use sector::Sectors;
 
 /// A connection whose calls don't wait.
 ///
-/// What it has moved and answered is told by five counts, of each answer but `Moved` of each call, by the last call with its answer, and
+/// What it has moved and answered is known by five counts, of each answer but `Moved` of each call, by the last call with its answer, and
 /// by the bytes that went each way. A count is a u64: it rises with its answer, and once it stands at 2^64 - 1 it stays. The bytes are
 /// claimed under a premise of the type, `tells`: of a peer in memory it holds, and of a socket one may grant it.
 ///
@@ -19,14 +19,14 @@ pub trait Stream: Drop {
     /// The bytes of `traffic` are those that the calls moved: said of each call where this holds.
     ghost tells: { Type 0 };
 
-    /// It takes no more than so many bytes until its next drive. A stream that holds bytes to share a turn by says what this means for it.
+    /// It takes no more than so many bytes until its next drive. A stream that keeps to a share of each turn says what this means for it.
     ghost takes_at_most: { ℕ → Self → Type 0 };
 
-    /// It keeps to what it takes at most, and that it was told so: said of each call where this holds.
+    /// It keeps to what it takes at most, and to whether its share was ended: said of each call where this holds.
     ghost keeps_share: { Type 0 };
 
-    /// It was told that its share of the turn ends with a reply, and has kept it since.
-    ghost is_told: { Self → Bool };
+    /// Its share of a turn was ended with a reply (`end_share`), and it has kept that since.
+    ghost has_ended_share: { Self → Bool };
 
     /// The bytes that were moved, how often each call gave each answer but `Moved`, and the last call with its answer.
     ghost traffic: { Self → Traffic };
@@ -36,26 +36,26 @@ pub trait Stream: Drop {
     fn read<D: Sectors>(&mut self, device: &D, into: &mut [u8]) -> ReadAnswer
         requires { 0 < length into.old }
         ensures within { ReadsWithin result (length into.old) }
-        ensures given { tells → (traffic self.new).given ≡ (traffic self.old).given ++ take (bytes_read result) into.new }
-        ensures taken { tells → (traffic self.new).taken ≡ (traffic self.old).taken }
+        ensures received { tells → (traffic self.new).received ≡ (traffic self.old).received ++ take (bytes_read result) into.new }
+        ensures sent { tells → (traffic self.new).sent ≡ (traffic self.old).sent }
         ensures departed { tells → DepartAt (D.moment device.now) (traffic self.old) (traffic self.new) }
         ensures answered { EndsWith (Call.Read result) (traffic self.old) (traffic self.new) }
-        ensures share { keeps_share → KeepsTo takes_at_most is_told self.old 0 self.new };
+        ensures share { keeps_share → KeepsTo takes_at_most has_ended_share self.old 0 self.new };
 
     /// Writes at least one byte from the front of `from`, or answers why none went. Takes no memory that a caller sees.
     fn write<D: Sectors>(&mut self, device: &D, from: &[u8]) -> WriteAnswer
         requires { 0 < length from.now }
         ensures within { WritesWithin result (length from.now) }
-        ensures given { tells → (traffic self.new).given ≡ (traffic self.old).given }
-        ensures taken { tells → (traffic self.new).taken ≡ (traffic self.old).taken ++ take (bytes_written result) from.now }
+        ensures received { tells → (traffic self.new).received ≡ (traffic self.old).received }
+        ensures sent { tells → (traffic self.new).sent ≡ (traffic self.old).sent ++ take (bytes_written result) from.now }
         ensures departed { tells → DepartAt (D.moment device.now) (traffic self.old) (traffic self.new) }
         ensures answered { EndsWith (Call.Write result) (traffic self.old) (traffic self.new) }
-        ensures share { keeps_share → KeepsTo takes_at_most is_told self.old (bytes_written result) self.new };
+        ensures share { keeps_share → KeepsTo takes_at_most has_ended_share self.old (bytes_written result) self.new };
 
-    /// The drive has appended a record to the log, and a reply of so many bytes tells of it: with these bytes the stream's share of the
-    /// turn ends, so that others have theirs before this session is served again. It moves no byte. Takes no memory.
+    /// The drive has appended a record to the log, and a reply of so many bytes reports it: with these bytes the stream's share of the turn
+    /// ends, so that others have theirs before this session is served again. It moves no byte. Takes no memory.
     fn end_share(&mut self, reply: usize)
         ensures ended { takes_at_most reply self.new }
-        ensures told { keeps_share → is_told self.new ≡ true }
+        ensures ends { keeps_share → has_ended_share self.new ≡ true }
         ensures traffic { traffic self.new ≡ traffic self.old };
 }

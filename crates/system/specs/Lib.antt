@@ -1,2 +1,3 @@
 pub mod CommandLines
+pub mod OneRun
 pub mod SystemTurns

@@ -1,4 +1,4 @@
-//! The program's commands over the system: its files, its ports, and the loop over its sockets.
+//! The program's commands over the operating system: its files, its ports, and the loop over its sockets.
 #![tactic(auto)]
 
 mod ports;

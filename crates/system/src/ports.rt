@@ -1,5 +1,5 @@
-//! The ports of the system, and the loop that serves at one.
-use commands::{Ports, Turns};
+//! Listening at addresses of the operating system, and the server that takes the turns of the loop.
+use commands::{Lines, Ports, Turns};
 use event_loop::EventLoop;
 use sector::FileSectors;
 use sessions::Hub;
@@ -49,6 +49,20 @@ impl<R: Net> Ports<Hub<FileSectors>> for SystemPorts<'_, R> {
 #[derive(Drop)]
 pub struct SystemServer {
     events: EventLoop<FileSectors>,
+}
+
+impl SystemServer {
+    ghost use Rattle.event_loop.specs.Sockets.{SocketsTell};
+    ghost use Rattle.system.specs.OneRun.{ServesInOneRun};
+
+    /// Does nothing, and takes no memory. Its contract is the law of all connections that a server ever has, under the premise that
+    /// sockets tell the bytes that they move: however its turns end, which `serve` takes and reports to `err`, they are in one run from
+    /// the opening, in which all that ever left is kept (`EventLoop::law_all_have_one_run`).
+    pub fn law_serves_in_one_run<E: Lines>(&self, err: &E)
+        ensures run { SocketsTell → ServesInOneRun E.writes self.now err.now }
+    {
+        self.events.law_all_have_one_run();
+    }
 }
 
 impl Turns for SystemServer {

@@ -1,4 +1,4 @@
-//! The commands over the system.
+//! Runs a command line over the operating system's files and ports.
 ghost use Rattle.system.specs.CommandLines.{RunsWords};
 
 use crate::ports::{SystemPorts, SystemServer};
@@ -17,7 +17,7 @@ use std::time::Clock;
 /// Runs the command that the words ask for, the program's name first, and answers the exit status: `DONE`, `REFUSED` for a command line
 /// that was refused, `BAD_LINE` for a line of a script that was, `FAULT` otherwise. What went wrong is written on `err`.
 ///
-/// It takes the memory of the command and of reading the words. Lines of progress are for a terminal alone: `run_watched` tells them.
+/// It takes the memory of the command and of reading the words. Lines of progress are for a terminal alone: `run_watched` prints them.
 pub fn run<'a, R: Files<File = File> + Net + Clock, I: Read + Drop, O: Write, E: Write>(
     rt: &'a R,
     alloc: Global,
@@ -32,7 +32,7 @@ pub fn run<'a, R: Files<File = File> + Net + Clock, I: Read + Drop, O: Write, E:
     run_watched(rt, alloc, words, reader, out, err, false)
 }
 
-/// As `run`; where `err` is a terminal, it also tells there how far a command is that takes long.
+/// As `run`; where `err` is a terminal, it also prints there how far a command is that takes long.
 pub fn run_watched<'a, R: Files<File = File> + Net + Clock, I: Read + Drop, O: Write, E: Write>(
     rt: &'a R,
     alloc: Global,

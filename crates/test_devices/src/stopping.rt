@@ -1,4 +1,4 @@
-//! A device in memory that is stopped after so many calls.
+//! A device in memory that fails from a chosen call on.
 ghost use Rattle.std.specs.Prelude.{◌≡◌, length};
 ghost use Rattle.sector.specs.Failures.{IsCounted};
 

@@ -37,7 +37,7 @@ impl Driven {
         self.hub.status(session) != Status::Absent
     }
 
-    /// Drives a session, and tells of one that is not present that it is gone.
+    /// Drives a session, and reports one that is not present as gone.
     pub fn drive<S: Stream>(&mut self, session: u64, stream: &mut S) -> Progress {
         if self.hub.status(session) == Status::Absent {
             return Progress::Gone;

@@ -5,10 +5,10 @@ ghost use Rattle.sessions.specs.Lives.{IsOpened};
 
 use commit_log::{LogFault, format};
 use model::Memory;
-use rows::Store;
 use sector::{MemSectors, Sectors};
 use sessions::{Event, Hub, Outcome};
 use std::alloc::Global;
+use test_rows::Store;
 
 /// A hub over an empty log of so many sectors. `Full` where there are fewer than two, and `Memory` where it is refused.
 pub fn new_hub(alloc: Global, sectors: u64) -> Result<Hub<MemSectors>, LogFault>

@@ -1,4 +1,4 @@
-//! A peer in memory.
+//! A peer in memory, with trouble at one of its calls.
 ghost use Rattle.std.specs.Prelude.{◌≡◌, ◌≤◌, ◌<◌, ◌+◌, length, vec_len};
 
 use sector::Sectors;
@@ -15,13 +15,13 @@ pub enum Trouble {
     Failed,
 }
 
-/// A peer in memory: it gives its bytes and then ends, keeps what it takes, and meets trouble at one of its calls. Of its bytes it isn't
-/// told when they left.
+/// A peer in memory: it sends its bytes and then ends, keeps what it receives, and meets trouble at one of its calls. When its bytes left
+/// isn't known.
 #[derive(PartialEq, Drop)]
 pub struct Script {
     input: Vec<u8>,
     at: usize,
-    taken: Vec<u8>,
+    sent: Vec<u8>,
     /// The calls that are left until there is trouble, this one included; 0 where there is none.
     left: u64,
     trouble: Trouble,
@@ -30,22 +30,22 @@ pub struct Script {
 }
 
 impl Script {
-    /// A peer that gives these bytes and has taken those. Its `nth` call, from 1, meets trouble; none does where `nth` is 0. Takes no
-    /// memory.
-    pub fn new(input: Vec<u8>, taken: Vec<u8>, nth: u64, trouble: Trouble) -> Script {
+    /// A peer that sends the input and has received what was sent. Its `nth` call, from 1, meets trouble; none does where `nth` is 0. Takes
+    /// no memory.
+    pub fn new(input: Vec<u8>, sent: Vec<u8>, nth: u64, trouble: Trouble) -> Script {
         Script {
             input,
             at: 0,
-            taken,
+            sent,
             left: nth,
             trouble,
             counts: CallCounts::new(),
         }
     }
 
-    /// What it has taken. Takes no memory.
-    pub fn taken(&self) -> &[u8] {
-        self.taken.as_slice()
+    /// What was sent to it. Takes no memory.
+    pub fn sent(&self) -> &[u8] {
+        self.sent.as_slice()
     }
 
     /// Has its trouble come? Takes no memory.
@@ -79,9 +79,9 @@ impl Stream for Script {
 
     ghost keeps_share = { ⊥ };
 
-    ghost is_told = { λ s. false };
+    ghost has_ended_share = { λ s. false };
 
-    ghost traffic = { λ s. counted_with s.counts (take s.at s.input.items) s.taken.items [] 0 };
+    ghost traffic = { λ s. counted_with s.counts (take s.at s.input.items) s.sent.items [] 0 };
 
     fn read<D: Sectors>(&mut self, device: &D, into: &mut [u8]) -> ReadAnswer {
         let _ = device;
@@ -122,7 +122,7 @@ impl Stream for Script {
                 return WriteAnswer::Failed;
             }
         };
-        if self.taken.extend_from_slice(&from[..n]).is_err() {
+        if self.sent.extend_from_slice(&from[..n]).is_err() {
             self.counts.note_write(WriteAnswer::Failed);
             return WriteAnswer::Failed;
         }

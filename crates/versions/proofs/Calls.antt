@@ -18,17 +18,17 @@ use Rattle.versions.proofs.Listings.{groups-found, listed-write}
 use Rattle.versions.proofs.Stores.{HavePlaces, IsPlaced, placed-roomier, sorted_base, places-apart, written_map}
 use Rattle.versions.proofs.Stores.{written_number, ready-apart, maps-step, newest-step, kept-step, ready-prepared}
 use Rattle.versions.proofs.Stores.{kept-put, rising_one, visible-base, newest-base}
-use Rattle.versions.proofs.UnderWitnesses.{added-put, added-refl, added-trans, followed-write}
+use Rattle.versions.proofs.UnderPins.{added-put, added-refl, added-trans, followed-write}
 use Rattle.versions.proofs.Visibles.{value-visible}
 use Rattle.versions.specs.Chains.{IsRisingChain, ChainValue, Chains, ChainsValue, find_chain, seen_in, visible}
 use Rattle.versions.specs.Chains.{IsKept, IsRoomier, HasPlace, HasRoom, added, stamped, fresh_chain, IsReady}
 use Rattle.versions.specs.Chains.{base_chains}
 use Rattle.versions.specs.Groups.{GroupValue, Listed}
-use Rattle.versions.specs.Listings.{is_seen_from, AreSeenFrom, IsFollowed, is_in, is_listed, IsListed, unwitnessed}
+use Rattle.versions.specs.Listings.{is_seen_from, AreSeenFrom, IsFollowed, is_in, is_listed, IsListed, unpinned}
 use Rattle.versions.specs.Listings.{followed}
 use Rattle.versions.specs.Meaning.{kept_in, writes_of}
 use Rattle.versions.specs.StandsFor.{StandsFor}
-use Rattle.versions.specs.Witnesses.{AreUnderWitnesses, IsAddedTo}
+use Rattle.versions.specs.Pins.{AreUnderPins, IsAddedTo}
 
 -- what was found is what number n sees
 pub seen_found : (n : ℕ) (k : Bytes) (es : Chains) (o : Option ChainValue) → IsSorted es → o ≡ find_chain k es → seen_in n o ≡ value_at (visible n es) k
@@ -74,7 +74,7 @@ pub record Installing (n : ℕ) (from es : Chains) (ps : List (Page ChainValue))
   pub maps : (m : ℕ) → written_map n m ws (visible m es) ≡ written_map n m all (visible m from)
   pub newest : (k : Bytes) → written_number n ws k (number_in k es) ≡ written_number n all k (number_in k from)
   pub kept : (k : Bytes) → kept_in (find_chain k es) + writes_of ws k ≡ kept_in (find_chain k from) + writes_of all k
-  pub listed : (gs : List GroupValue) → IsListed from gs → IsListed es (unwitnessed ls ∷ gs)
+  pub listed : (gs : List GroupValue) → IsListed from gs → IsListed es (unpinned ls ∷ gs)
   pub seen : AreSeenFrom (n - 1) ls
   pub added : (k : Bytes) → IsAddedTo n (find_chain k from) (find_chain k es)
   pub followed : AllByRecursion (IsFollowed n es) ls
@@ -97,8 +97,8 @@ installing-step n from es fs ps qs ls us room room' all ws vs w own next g is mo
       maps = λ m. ap (λ (l : Chains). written_map n m ws (visible m l)) is ∙ maps-step n m w ws own es h.in_order.sorted ∙ h.maps m;
       newest = λ k. ap (λ (l : Chains). written_number n ws k (number_in k l)) is ∙ newest-step n k w ws own es ∙ h.newest k;
       kept = λ k. ap (λ (l : Chains). kept_in (find_chain k l) + writes_of ws k) is ∙ kept-step n k w ws own es ∙ h.kept k;
-      listed = λ gs from_listed. subst (λ (l : List Listed). IsListed fs (unwitnessed l ∷ gs)) (sym list)
-          (subst (λ (l : Chains). IsListed l (unwitnessed (ls ++ followed (find_chain w.0 es) w.0 n) ∷ gs)) (sym is)
+      listed = λ gs from_listed. subst (λ (l : List Listed). IsListed fs (unpinned l ∷ gs)) (sym list)
+          (subst (λ (l : Chains). IsListed l (unpinned (ls ++ followed (find_chain w.0 es) w.0 n) ∷ gs)) (sym is)
           (listed-write w.0 n w.1 own es ls gs (h.listed gs from_listed)));
       added = λ k. added-trans n (find_chain k from) (find_chain k es) (find_chain k fs) (h.added k)
           (subst (λ (l : Chains). IsAddedTo n (find_chain k es) (find_chain k l)) (sym is) (added-put n w.0 k w.1 own es));
@@ -123,7 +123,7 @@ installing-begun n last es ps ls room ws us kept lt rising rooms fits list none 
   maps = λ m. refl;
   newest = λ k. refl;
   kept = λ k. refl;
-  listed = λ gs h. groups-found es gs (unwitnessed ls ∷ gs) (λ k n high t. or_right (is_in ls k n high) (is_listed gs k n high) t) h;
+  listed = λ gs h. groups-found es gs (unpinned ls ∷ gs) (λ k n high t. or_right (is_in ls k n high) (is_listed gs k n high) t) h;
   seen = subst (AreSeenFrom (n - 1)) (sym none) tt;
   added = λ k. added-refl n (find_chain k es);
   followed = subst (AllByRecursion (IsFollowed n es)) (sym none) tt;
@@ -146,5 +146,5 @@ stands-opened v m is_map is last none = record {
   maps = λ n t. ap (visible n) is ∙ visible-base n m;
   newest = λ k. ap (λ es. option_map (λ (c : ChainValue). c.newest.number) (find_chain k es)) is ∙ newest-base k m;
   within = omega (arith, last);
-  witnessed = subst (AreUnderWitnesses (λ _. true) v) (sym none) tt;
+  pinned = subst (AreUnderPins (λ _. true) v) (sym none) tt;
 }

@@ -21,19 +21,19 @@ use Rattle.versions.proofs.ChainLaws.{any-weaker, between-wider}
 use Rattle.versions.proofs.Listings.{needed-chain, reclaimed-needed, part-at, part-trans, all-settled-part, left-part}
 use Rattle.versions.proofs.Listings.{listed-part}
 use Rattle.versions.proofs.Stores.{rising_found}
-use Rattle.versions.proofs.UnderWitnesses.{IsUnder}
-use Rattle.versions.proofs.Witnesses.{lists-set, witness-among}
+use Rattle.versions.proofs.UnderPins.{IsUnder}
+use Rattle.versions.proofs.Pins.{lists-set, pin-among}
 use Rattle.versions.specs.Chains.{Stamped, ChainValue, Chains, ChainsValue, find_chain, first_number, is_between}
 use Rattle.versions.specs.Chains.{reclaimed, IsKept, IsReclaimedAt}
 use Rattle.versions.specs.Groups.{GroupValue, Listed}
 use Rattle.versions.specs.Listings.{AreOfBoth, is_seen_from, is_seen_by, AreSeenFrom, is_of, is_in, is_listed}
 use Rattle.versions.specs.Listings.{AreListed, IsListedChain, IsListed, AreFound, has_version, AreNeeded}
 use Rattle.versions.specs.Listings.{IsNeededChain, IsAllReclaimed, IsSettled, IsPartReclaimed, AreKept, AreAmong}
-use Rattle.versions.specs.Listings.{versions_in, witness_for, witnesses, lists_in}
-use Rattle.versions.specs.Meaning.{is_among, due_for, due_in, lists_a_step}
+use Rattle.versions.specs.Listings.{versions_in, pin_for, pins, lists_in}
+use Rattle.versions.specs.Meaning.{is_among, garbage_for, garbage_in, lists_a_step}
 use Rattle.versions.specs.Reclaiming.{AreLookedAt, DropsFromGroup, IsLookedAfter, KeepsListed, ReclaimsChains}
 use Rattle.versions.specs.Reclaiming.{ReclaimsStep}
-use Rattle.versions.specs.Witnesses.{GroupStaysUnder, GroupsJoinUnder, AreUnder, AreUnderWitnesses, IsUnderWitness}
+use Rattle.versions.specs.Pins.{GroupStaysUnder, GroupsJoinUnder, AreUnder, AreUnderPins, IsUnderPin}
 
 -- ---- a fact of each element
 
@@ -87,7 +87,7 @@ all-between bs es n vs t h = all-each (λ v. is_seen_from n v ≡ true) (IsSettl
 
 -- ---- the loop over a group's versions
 
--- those from `left` on were looked after
+-- those from `left` on were looked at
 pub record Dropping (bs : List ℕ) (old now : Chains) (os vs : List Listed) (left : ℕ) : Type 0 where
   pub in_range : left ≤ length vs
   pub part : IsPartReclaimed bs old now
@@ -95,7 +95,7 @@ pub record Dropping (bs : List ℕ) (old now : Chains) (os vs : List Listed) (le
   pub settled : AllByRecursion (IsSettled bs now) (drop left vs)
   pub left_out : AreKept os vs now
   pub seen : (n : ℕ) → AreSeenFrom n os → AreSeenFrom n vs
-  pub each : (held : ℕ → Bool) (v : ChainsValue) (w : ℕ) → AllByRecursion (IsUnderWitness held v w) os → AllByRecursion (IsUnderWitness held v w) vs
+  pub each : (active : ℕ → Bool) (v : ChainsValue) (w : ℕ) → AllByRecursion (IsUnderPin active v w) os → AllByRecursion (IsUnderPin active v w) vs
 
 -- some number sees the version
 pub dropping-seen : (bs : List ℕ) (old now : Chains) (os vs : List Listed) (m left : ℕ) (v : Listed) (o : Option ℕ) → left ≡ m + 1 → v ≡ get_or vs m v
@@ -145,13 +145,13 @@ module _ (bs : List ℕ) (old now new : Chains) (os vs : List Listed) (m left la
         let split = list_any-IsPermutation (is_of k n high) vs (v ∷ swap_remove vs m v) (IsPermutation-swap_remove vs m v within at) in
         grind (arith, nat_tests, same_key k v.key));
     seen = λ n h. subst (AreSeenFrom n) (sym is) (all-swap_remove (λ x. is_seen_from n x ≡ true) vs m v within (d.seen n h));
-    each = λ held u w h. subst (λ l. AllByRecursion (IsUnderWitness held u w) l) (sym is)
-        (all-swap_remove (IsUnderWitness held u w) vs m v within (d.each held u w h));
+    each = λ active u w h. subst (λ l. AllByRecursion (IsUnderPin active u w) l) (sym is)
+        (all-swap_remove (IsUnderPin active u w) vs m v within (d.each active u w h));
   }
 
 -- ---- the loop over groups
 
--- what was looked after stays so where chains are reclaimed
+-- what was looked at stays so where chains are reclaimed
 looked-part : (bs : List ℕ) (now new : Chains) → IsPartReclaimed bs now new → (g : GroupValue) → IsLookedAfter bs now g → IsLookedAfter bs new g
 looked-part bs now new p g h = record {
   settled = λ none. all-settled-part bs now new p g.versions (h.settled none);
@@ -161,17 +161,17 @@ looked-part bs now new p g h = record {
 
 -- ---- groups that were not looked at yet
 
--- what is under a witness is under the one that stands for it
+-- what is under a pin is under the one that replaces it
 abbrev pub StandsUnder : List ℕ → (ℕ → Bool) → ChainsValue → (ℕ → Bool) → ChainsValue → Type 0
-StandsUnder bs more v held u = (w : ℕ) (x : Listed) → IsUnderWitness more v w x → IsUnderWitness held u (witness_for bs w) x
+StandsUnder bs more v active u = (w : ℕ) (x : Listed) → IsUnderPin more v w x → IsUnderPin active u (pin_for bs w) x
 
-stays-under : (bs : List ℕ) (more held : ℕ → Bool) (v u : ChainsValue) (g h : GroupValue) → h.witness ≡ witness_for bs g.witness → GroupStaysUnder g h
-    → StandsUnder bs more v held u → IsUnder more v g → IsUnder held u h
-stays-under bs more held v u g h is stays stands under =
-    let w = witness_for bs g.witness in
-    let left = stays more v g.witness under.0 under.1 in
-    let step = λ (xs : List Listed). all-each (IsUnderWitness more v g.witness) (IsUnderWitness held u w) xs (stands g.witness) in
-    subst (λ n. AllByRecursion (IsUnderWitness held u n) h.versions × AllByRecursion (IsUnderWitness held u n) h.mixed) (sym is)
+stays-under : (bs : List ℕ) (more active : ℕ → Bool) (v u : ChainsValue) (g h : GroupValue) → h.pin ≡ pin_for bs g.pin → GroupStaysUnder g h
+    → StandsUnder bs more v active u → IsUnder more v g → IsUnder active u h
+stays-under bs more active v u g h is stays stands under =
+    let w = pin_for bs g.pin in
+    let left = stays more v g.pin under.0 under.1 in
+    let step = λ (xs : List Listed). all-each (IsUnderPin more v g.pin) (IsUnderPin active u w) xs (stands g.pin) in
+    subst (λ n. AllByRecursion (IsUnderPin active u n) h.versions × AllByRecursion (IsUnderPin active u n) h.mixed) (sym is)
     (step h.versions left.0, step h.mixed left.1)
 
 -- what is listed with another group in a group's place
@@ -181,37 +181,37 @@ listed-set gs i g h k n high lt at more t =
     let p = λ (y : GroupValue). is_in y.versions k n high in
     grind (arith, any-remove p gs i g lt at, any-set p gs i h lt)
 
-due-sum : (bs : List ℕ) (gs : List GroupValue) → due_in bs gs ≡ sum_by (due_for bs) gs
-due-sum bs = is_sum_by (due_in bs) (due_for bs) refl (λ _ _. refl)
+garbage-sum : (bs : List ℕ) (gs : List GroupValue) → garbage_in bs gs ≡ sum_by (garbage_for bs) gs
+garbage-sum bs = is_sum_by (garbage_in bs) (garbage_for bs) refl (λ _ _. refl)
 
--- what is due with another group in a group's place
-due-set : (bs : List ℕ) (gs : List GroupValue) (i : ℕ) (g h : GroupValue) → i < length gs → g ≡ get_or gs i g
-    → due_in bs (set gs i h) + due_for bs g ≡ due_in bs gs + due_for bs h
-due-set bs gs i g h lt at = grind (arith, common_steps, due-sum bs)
+-- the garbage with another group in a group's place
+garbage-set : (bs : List ℕ) (gs : List GroupValue) (i : ℕ) (g h : GroupValue) → i < length gs → g ≡ get_or gs i g
+    → garbage_in bs (set gs i h) + garbage_for bs g ≡ garbage_in bs gs + garbage_for bs h
+garbage-set bs gs i g h lt at = grind (arith, common_steps, garbage-sum bs)
 
--- what is due from there on
-due-put : (bs : List ℕ) (gs : List GroupValue) (i : ℕ) (h : GroupValue) → i < length gs
-    → due_in bs (drop i (set gs i h)) ≡ due_for bs h + due_in bs (drop (suc i) gs)
-due-put bs gs i h lt = rw (drop-set, add-one)
+-- the garbage from there on
+garbage-put : (bs : List ℕ) (gs : List GroupValue) (i : ℕ) (h : GroupValue) → i < length gs
+    → garbage_in bs (drop i (set gs i h)) ≡ garbage_for bs h + garbage_in bs (drop (suc i) gs)
+garbage-put bs gs i h lt = rw (drop-set, add-one)
 
--- the witness is one of the numbers or 0
-abbrev pub IsHeld : List ℕ → GroupValue → Type 0
-IsHeld bs g = is_among (0 ∷ bs) g.witness ≡ true
+-- the pin is one of the numbers or 0
+abbrev pub IsActive : List ℕ → GroupValue → Type 0
+IsActive bs g = is_among (0 ∷ bs) g.pin ≡ true
 
--- the groups from `left` on were looked at, and `most` of the lists that are due may be looked at still
+-- the groups from `left` on were looked at, and `most` of the garbage lists may be looked at still
 pub record Settling (bs : List ℕ) (old now : Chains) (olds gs : List GroupValue) (left most : ℕ) : Type 0 where
   pub in_range : left ≤ length gs
   pub part : IsPartReclaimed bs old now
   pub kept : (last : ℕ) → IsKept old last → IsKept now last
   pub listed : IsListed now gs
   pub looked_after : AllByRecursion (IsLookedAfter bs now) (drop left gs)
-  pub looked_at : due_in bs gs + lists_a_step ≡ due_in bs olds + most
-  pub none_behind : 0 < most → due_in bs (drop left gs) ≡ 0
+  pub looked_at : garbage_in bs gs + lists_a_step ≡ garbage_in bs olds + most
+  pub none_behind : 0 < most → garbage_in bs (drop left gs) ≡ 0
   pub few : most ≤ lists_a_step
-  pub held : AllByRecursion (IsHeld bs) (drop left gs)
+  pub active : AllByRecursion (IsActive bs) (drop left gs)
   pub lists : lists_in gs ≤ lists_in olds
-  pub each : (more held : ℕ → Bool) (v u : ChainsValue) → StandsUnder bs more v held u → AreUnderWitnesses more v olds → AreUnderWitnesses held u (drop left gs)
-  pub before : (more : ℕ → Bool) (v : ChainsValue) → AreUnderWitnesses more v olds → AreUnderWitnesses more v (take left gs)
+  pub each : (more active : ℕ → Bool) (v u : ChainsValue) → StandsUnder bs more v active u → AreUnderPins more v olds → AreUnderPins active u (drop left gs)
+  pub before : (more : ℕ → Bool) (v : ChainsValue) → AreUnderPins more v olds → AreUnderPins more v (take left gs)
 
 -- no group was looked at
 pub settling-none : (bs : List ℕ) (es : Chains) (gs : List GroupValue) → IsListed es gs → Settling bs es es gs gs (length gs) lists_a_step
@@ -224,27 +224,27 @@ settling-none bs es gs listed =
       listed = listed;
       looked_after = all-none (IsLookedAfter bs es) gs;
       looked_at = refl;
-      none_behind = λ some. ap (due_in bs) none;
+      none_behind = λ some. ap (garbage_in bs) none;
       few = omega arith;
-      held = all-none (IsHeld bs) gs;
+      active = all-none (IsActive bs) gs;
       lists = omega arith;
-      each = λ more held v u stands under. all-none (IsUnder held u) gs;
-      before = λ more v under. subst (AreUnderWitnesses more v) (sym (take_all (length gs) gs (omega arith))) under;
+      each = λ more active v u stands under. all-none (IsUnder active u) gs;
+      before = λ more v under. subst (AreUnderPins more v) (sym (take_all (length gs) gs (omega arith))) under;
     }
 
 -- the group before them was looked at
 pub settling-settled : (bs : List ℕ) (old now new : Chains) (olds gs : List GroupValue) (i left last most more : ℕ) (g h : GroupValue) → left ≡ i + 1
-    → g ≡ get_or gs i g → IsKept old last → more ≡ most - due_for bs g → due_for bs h ≡ due_for bs g - most
-    → ReclaimsChains bs now new → DropsFromGroup new (witness_for bs g.witness) g h → IsLookedAfter bs new h
+    → g ≡ get_or gs i g → IsKept old last → more ≡ most - garbage_for bs g → garbage_for bs h ≡ garbage_for bs g - most
+    → ReclaimsChains bs now new → DropsFromGroup new (pin_for bs g.pin) g h → IsLookedAfter bs new h
     → Settling bs old now olds gs left most
     → Settling bs old new olds (set gs i h) i more
-settling-settled bs old now new olds gs i left last most more g h next at ordered spare due chains group looked t =
+settling-settled bs old now new olds gs i left last most more g h next at ordered spare garbage chains group looked t =
     let p = chains.part in
-    let held : IsHeld bs h = ap (is_among (0 ∷ bs)) group.witness ∙ witness-among bs g.witness in
+    let active : IsActive bs h = ap (is_among (0 ∷ bs)) group.pin ∙ pin-among bs g.pin in
     let counted = group.lists in
     let s = subst (λ n. Settling bs old now olds gs n most) {x = left} {y = suc i} (omega (arith, next)) t in
     let lt : i < length gs = omega arith in
-    let sum = due-set bs gs i g h lt at in
+    let sum = garbage-set bs gs i g h lt at in
     let lists = lists-set gs i g h lt at in
     record {
       in_range = omega (arith, lt, length-set {A = GroupValue});
@@ -255,13 +255,13 @@ settling-settled bs old now new olds gs i left last most more g h next at ordere
       looked_after = all-put (IsLookedAfter bs new) gs i h lt looked
           (all-each (IsLookedAfter bs now) _ (drop (suc i) gs) (looked-part bs now new p) s.looked_after);
       looked_at = omega arith;
-      none_behind = λ some. omega (arith, due-put bs gs i h lt, s.none_behind);
+      none_behind = λ some. omega (arith, garbage-put bs gs i h lt, s.none_behind);
       few = omega arith;
-      held = all-put (IsHeld bs) gs i h lt held s.held;
+      active = all-put (IsActive bs) gs i h lt active s.active;
       lists = omega arith;
-      each = λ more held v u stands under.
+      each = λ more active v u stands under.
           let own = all-last (IsUnder more v) gs i g lt at (s.before more v under) in
-          all-put (IsUnder held u) gs i h lt (stays-under bs more held v u g h group.witness group.each stands own) (s.each more held v u stands under);
+          all-put (IsUnder active u) gs i h lt (stays-under bs more active v u g h group.pin group.each stands own) (s.each more active v u stands under);
       before = λ more v under. all-ahead (IsUnder more v) gs i h (s.before more v under);
     }
 
@@ -280,7 +280,7 @@ group-needed : (bs : List ℕ) (es : Chains) (k : Bytes) (n high : ℕ) (gs : Li
 group-needed bs es k n high [] h t = absurd (both_ways _ refl t)
 group-needed bs es k n high (g ∷ gs) h t = grind (arith, listed-needed bs es k n high g.versions h.0, group-needed bs es k n high gs h.1)
 
--- all versions of the chain are needed, or one of them tells so of the chain
+-- all versions of the chain are needed, or one of them says so of the chain
 each-needed : (bs : List ℕ) (es : Chains) (k : Bytes) (next : ℕ) (gs : List GroupValue) (us : List Stamped)
     → AllByRecursion (λ g. AllByRecursion (IsSettled bs es) g.versions) gs → AreListed gs k next us → AreNeeded bs next us ⊎ IsNeededChain bs (find_chain k es)
 each-needed bs es k next gs [] h l = inl tt
@@ -291,25 +291,25 @@ chain-needed : (bs : List ℕ) (es : Chains) (k : Bytes) (gs : List GroupValue) 
 chain-needed bs es k gs None e h l = tt
 chain-needed bs es k gs (Some c) e h l = grind (arith, each-needed bs es k c.newest.number gs c.older h l)
 
-all-settled : (bs : List ℕ) (es : Chains) (gs : List GroupValue) → due_in bs gs ≡ 0 → AllByRecursion (IsLookedAfter bs es) gs
+all-settled : (bs : List ℕ) (es : Chains) (gs : List GroupValue) → garbage_in bs gs ≡ 0 → AllByRecursion (IsLookedAfter bs es) gs
     → AllByRecursion (λ g. AllByRecursion (IsSettled bs es) g.versions) gs
 all-settled bs es [] none h = tt
 all-settled bs es (g ∷ gs) none h = (h.0.settled (omega (arith, none)), all-settled bs es gs (omega (arith, none)) h.1)
 
--- so many lists are due no more
-settling-due : (bs : List ℕ) (old now : Chains) (olds gs : List GroupValue) (most : ℕ) → Settling bs old now olds gs 0 most
-    → due_in bs gs ≡ due_in bs olds - lists_a_step
-settling-due bs old now olds gs most s =
-    let none : 0 < most → due_in bs gs ≡ 0 = s.none_behind in
+-- so many lists are no longer garbage
+settling-garbage : (bs : List ℕ) (old now : Chains) (olds gs : List GroupValue) (most : ℕ) → Settling bs old now olds gs 0 most
+    → garbage_in bs gs ≡ garbage_in bs olds - lists_a_step
+settling-garbage bs old now olds gs most s =
+    let none : 0 < most → garbage_in bs gs ≡ 0 = s.none_behind in
     grind (arith, s.looked_at, s.few)
 
--- each witness is one of the numbers or 0
-settling-held : (bs : List ℕ) (old now : Chains) (olds gs : List GroupValue) (most : ℕ) → Settling bs old now olds gs 0 most
-    → AreAmong (0 ∷ bs) (witnesses gs)
-settling-held bs old now olds gs most s = all-map (λ n. is_among (0 ∷ bs) n ≡ true) (λ g. g.witness) gs s.held
+-- each pin is one of the numbers or 0
+settling-active : (bs : List ℕ) (old now : Chains) (olds gs : List GroupValue) (most : ℕ) → Settling bs old now olds gs 0 most
+    → AreAmong (0 ∷ bs) (pins gs)
+settling-active bs old now olds gs most s = all-map (λ n. is_among (0 ∷ bs) n ≡ true) (λ g. g.pin) gs s.active
 
--- where none is due, all chains were reclaimed
-settling-ended : (bs : List ℕ) (old now : Chains) (olds gs : List GroupValue) (most : ℕ) → Settling bs old now olds gs 0 most → due_in bs gs ≡ 0
+-- where none is garbage, all chains were reclaimed
+settling-ended : (bs : List ℕ) (old now : Chains) (olds gs : List GroupValue) (most : ℕ) → Settling bs old now olds gs 0 most → garbage_in bs gs ≡ 0
     → IsAllReclaimed bs old now
 settling-ended bs old now olds gs most s none k =
     let settled = all-settled bs now gs none s.looked_after in
@@ -320,7 +320,7 @@ settling-ended bs old now olds gs most s none k =
 pub settling-step : (bs : List ℕ) (old now : Chains) (olds gs : List GroupValue) (most : ℕ) → Settling bs old now olds gs 0 most
     → ReclaimsStep bs old now olds gs
 settling-step bs old now olds gs most s = record {
-  due = settling-due bs old now olds gs most s;
+  garbage = settling-garbage bs old now olds gs most s;
   chains = record { part = s.part; kept = s.kept };
   all = settling-ended bs old now olds gs most s;
 }
@@ -331,37 +331,37 @@ pub settling-all : (bs : List ℕ) (old now : Chains) (olds gs : List GroupValue
 settling-all bs old now olds gs most s = record {
   listed = s.listed;
   lists = s.lists;
-  held = settling-held bs old now olds gs most s;
+  active = settling-active bs old now olds gs most s;
   truly = all-each (IsLookedAfter bs now) _ gs (λ g h. h.truly) s.looked_after;
   mixed = all-each (IsLookedAfter bs now) _ gs (λ g h. h.mixed) s.looked_after;
   each = s.each;
 }
 
--- some list is due
-pub any-due : (bs : List ℕ) (gs : List GroupValue) → list_any (λ g. nat_lt 0 (due_for bs g)) gs ≡ nat_lt 0 (due_in bs gs)
-any-due bs [] = refl
-any-due bs (g ∷ gs) = grind (arith, nat_tests, any-due bs gs)
+-- some list is garbage
+pub any-garbage : (bs : List ℕ) (gs : List GroupValue) → list_any (λ g. nat_lt 0 (garbage_for bs g)) gs ≡ nat_lt 0 (garbage_in bs gs)
+any-garbage bs [] = refl
+any-garbage bs (g ∷ gs) = grind (arith, nat_tests, any-garbage bs gs)
 
 -- ---- groups that are joined
 
 pub keeps-itself : (gs : List GroupValue) → KeepsListed gs gs
 keeps-itself gs = record {
   found = λ k n high t. t;
-  due = λ bs. refl;
-  held = λ bs h. h;
+  garbage = λ bs. refl;
+  active = λ bs h. h;
   truly = λ bs h. h;
   mixed = λ bs es h. h;
-  each = λ held v h. h;
+  each = λ active v h. h;
 }
 
 pub keeps-on : (gs hs js : List GroupValue) → KeepsListed gs hs → KeepsListed hs js → KeepsListed gs js
 keeps-on gs hs js one two = record {
   found = λ k n high t. two.found k n high (one.found k n high t);
-  due = λ bs. two.due bs ∙ one.due bs;
-  held = λ bs h. two.held bs (one.held bs h);
+  garbage = λ bs. two.garbage bs ∙ one.garbage bs;
+  active = λ bs h. two.active bs (one.active bs h);
   truly = λ bs h. two.truly bs (one.truly bs h);
   mixed = λ bs es h. two.mixed bs es (one.mixed bs es h);
-  each = λ held v h. two.each held v (one.each held v h);
+  each = λ active v h. two.each active v (one.each active v h);
 }
 
 pub found-remove : (gs hs : List GroupValue) (i : ℕ) (g : GroupValue) → i < length gs → g ≡ get_or gs i g → hs ≡ remove gs i
@@ -379,17 +379,18 @@ join-found gs hs i m a g j lt second less short first both k n high t =
     let other = any-remove p hs m a short first in
     grind (arith, both k n high, ap (list_any p) less, any-set p hs m j short)
 
--- ---- what is due stays when groups are joined
+-- ---- the garbage stays when groups are joined
 
-pub due-empty : (bs : List ℕ) (gs hs : List GroupValue) (i : ℕ) (g : GroupValue) → i < length gs → g ≡ get_or gs i g → hs ≡ remove gs i → due_for bs g ≡ 0
-    → due_in bs hs ≡ due_in bs gs
-due-empty bs gs hs i g lt at is none = grind (arith, common_steps, due-sum bs, ap (due_in bs) is)
+pub garbage-empty : (bs : List ℕ) (gs hs : List GroupValue) (i : ℕ) (g : GroupValue) → i < length gs → g ≡ get_or gs i g → hs ≡ remove gs i
+    → garbage_for bs g ≡ 0
+    → garbage_in bs hs ≡ garbage_in bs gs
+garbage-empty bs gs hs i g lt at is none = grind (arith, common_steps, garbage-sum bs, ap (garbage_in bs) is)
 
-pub due-joined : (bs : List ℕ) (gs hs : List GroupValue) (i m : ℕ) (a g j : GroupValue) → i < length gs → g ≡ get_or gs i g → hs ≡ remove gs i
-    → a ≡ get_or hs m a → m < length hs → due_for bs j ≡ due_for bs a + due_for bs g → due_in bs (set hs m j) ≡ due_in bs gs
-due-joined bs gs hs i m a g j lt second less first short both =
-    let left = ap (due_in bs) less in
-    grind (arith, common_steps, due-set bs hs m a j short first, due-sum bs)
+pub garbage-joined : (bs : List ℕ) (gs hs : List GroupValue) (i m : ℕ) (a g j : GroupValue) → i < length gs → g ≡ get_or gs i g → hs ≡ remove gs i
+    → a ≡ get_or hs m a → m < length hs → garbage_for bs j ≡ garbage_for bs a + garbage_for bs g → garbage_in bs (set hs m j) ≡ garbage_in bs gs
+garbage-joined bs gs hs i m a g j lt second less first short both =
+    let left = ap (garbage_in bs) less in
+    grind (arith, common_steps, garbage-set bs hs m a j short first, garbage-sum bs)
 
 -- ---- what is mixed
 
@@ -414,10 +415,10 @@ all-joined P gs hs i m a g j lt at less within other joins h =
     let left = subst (λ l. AllByRecursion P l) (sym less) (all-remove P gs i h) in
     all-set P hs m j (joins (subst P (sym other) (all-get P hs m a within left)) (subst P (sym at) (all-get P gs i g lt h))) left
 
--- two groups of one witness are joined, and what they list stays under it
-pub under-joined : (held : ℕ → Bool) (v : ChainsValue) (a g j : GroupValue) → a.witness ≡ g.witness → j.witness ≡ a.witness
-    → GroupsJoinUnder a g j → IsUnder held v a → IsUnder held v g → IsUnder held v j
-under-joined held v a g j one own each ha hg =
-    let at = λ (x : GroupValue) (n : ℕ). AreUnder held v n x.versions × AreUnder held v n x.mixed in
+-- two groups with the same pin are joined, and what they list stays under it
+pub under-joined : (active : ℕ → Bool) (v : ChainsValue) (a g j : GroupValue) → a.pin ≡ g.pin → j.pin ≡ a.pin
+    → GroupsJoinUnder a g j → IsUnder active v a → IsUnder active v g → IsUnder active v j
+under-joined active v a g j one own each ha hg =
+    let at = λ (x : GroupValue) (n : ℕ). AreUnder active v n x.versions × AreUnder active v n x.mixed in
     let other = subst (at g) (sym one) hg in
-    subst (at j) (sym own) (each held v a.witness ha.0 ha.1 other.0 other.1)
+    subst (at j) (sym own) (each active v a.pin ha.0 ha.1 other.0 other.1)

@@ -8,11 +8,11 @@ use Rattle.model.proofs.Lookups.{IsMap-after_writes}
 use Rattle.model.specs.Dependency.{writes_key}
 use Rattle.model.specs.History.{Record, map_at}
 use Rattle.model.specs.Map.{Bytes, KeyMap, KeyWrite, IsMap, after_writes, value_at}
-use Rattle.versions.proofs.UnderWitnesses.{groups-under, under-roomier, under-roomy}
+use Rattle.versions.proofs.UnderPins.{groups-under, under-roomier, under-roomy}
 use Rattle.versions.specs.Chains.{ChainsValue, IsRoomier}
 use Rattle.versions.specs.Meaning.{is_among, IsSameMeaning, IsInstalled, IsSeenSame}
-use Rattle.versions.specs.StandsFor.{StandsFor, StandWhereAmong, UnmixedWhereHeld, last_writer_from}
-use Rattle.versions.specs.Witnesses.{AreUnderWitnesses}
+use Rattle.versions.specs.StandsFor.{StandsFor, StandWhereAmong, UnmixedWhereActive, last_writer_from}
+use Rattle.versions.specs.Pins.{AreUnderPins}
 
 pub map_at-push : (base : KeyMap) (rs : List Record) (r : Record) (n : ℕ)
     → map_at base (rs ++ r ∷ []) n ≡ (if nat_le r.commit n then after_writes (map_at base rs n) r.writes else map_at base rs n)
@@ -24,40 +24,40 @@ last_writer-push : (d : Option ℕ) (rs : List Record) (r : Record) (k : Bytes)
 last_writer-push d [] r k = refl
 last_writer-push d (s ∷ rs) r k = last_writer-push (if writes_key s k then Some s.commit else d) rs r k
 
-module _ (v : ChainsValue) (held : ℕ → Bool) (base : KeyMap) (history : List Record) where
+module _ (v : ChainsValue) (active : ℕ → Bool) (base : KeyMap) (history : List Record) where
   -- a record without writes
-  pub stands-read_only : (r : Record) → r.writes ≡ [] → StandsFor v held base history → StandsFor v held base (history ++ r ∷ [])
+  pub stands-read_only : (r : Record) → r.writes ≡ [] → StandsFor v active base history → StandsFor v active base (history ++ r ∷ [])
   stands-read_only r e s = record {
     is_map = s.is_map;
     maps = λ n t. s.maps n t ∙ sym (let same = e in grind (arith, map_at-push base history r n));
     newest = λ k. grind (arith, s.newest k, last_writer-push (option_map (λ _. 0) (value_at base k)) history r k, e);
     within = (let w = s.within in omega (arith, length-append history (r ∷ [])));
-    witnessed = s.witnessed;
+    pinned = s.pinned;
   }
 
   module _ (new : ChainsValue) where
-    pub stands-same : IsSameMeaning v new → IsRoomier v.chains new.chains → new.groups ≡ v.groups → StandsFor v held base history
-        ↔ StandsFor new held base history
+    pub stands-same : IsSameMeaning v new → IsRoomier v.chains new.chains → new.groups ≡ v.groups → StandsFor v active base history
+        ↔ StandsFor new active base history
     stands-same h more same = (
       λ s. record {
         is_map = s.is_map;
         maps = λ n t. (let last = h.last in grind (arith, h.maps n, s.maps n));
         newest = λ k. h.newest k ∙ s.newest k;
         within = subst (λ l. l ≤ length history) (sym h.last) s.within;
-        witnessed = subst (AreUnderWitnesses held new) (sym same) (groups-under held held v new v.groups (under-roomier held v new more h.last) s.witnessed);
+        pinned = subst (AreUnderPins active new) (sym same) (groups-under active active v new v.groups (under-roomier active v new more h.last) s.pinned);
       },
       λ s. record {
         is_map = s.is_map;
         maps = λ n t. (let last = h.last in grind (arith, h.maps n, s.maps n));
         newest = λ k. sym (h.newest k) ∙ s.newest k;
         within = subst (λ l. l ≤ length history) h.last s.within;
-        witnessed = groups-under held held new v v.groups (under-roomy held v new more h.last) (subst (AreUnderWitnesses held new) same s.witnessed);
+        pinned = groups-under active active new v v.groups (under-roomy active v new more h.last) (subst (AreUnderPins active new) same s.pinned);
       },
     )
 
     pub stands-installed : (n : ℕ) (ws : List KeyWrite) (r : Record) → IsInstalled v new n ws
-        → (AreUnderWitnesses held v v.groups → AreUnderWitnesses held new new.groups) → v.last < n → length history + 1 ≡ n → r.commit ≡ n → r.writes ≡ ws
-        → StandsFor v held base history → StandsFor new held base (history ++ r ∷ [])
+        → (AreUnderPins active v v.groups → AreUnderPins active new new.groups) → v.last < n → length history + 1 ≡ n → r.commit ≡ n → r.writes ≡ ws
+        → StandsFor v active base history → StandsFor new active base (history ++ r ∷ [])
     stands-installed n ws r h under lt long commit is s =
         let last = h.last in
         record {
@@ -65,12 +65,12 @@ module _ (v : ChainsValue) (held : ℕ → Bool) (base : KeyMap) (history : List
           maps = λ m t. grind (arith, nat_tests, h.maps m, s.maps m, map_at-push base history r m, commit, is);
           newest = λ k. grind (arith, h.newest k, s.newest k, last_writer-push (option_map (λ _. 0) (value_at base k)) history r k);
           within = omega (arith, length-append history (r ∷ []));
-          witnessed = under s.witnessed;
+          pinned = under s.pinned;
         }
 
     pub stands-reclaimed : (bs : List ℕ) → IsSeenSame v new bs
-        → (AreUnderWitnesses held v v.groups → AreUnderWitnesses (λ n. held n && is_among bs n) new new.groups) → StandsFor v held base history
-        → StandsFor new (λ n. held n && is_among bs n) base history
+        → (AreUnderPins active v v.groups → AreUnderPins (λ n. active n && is_among bs n) new new.groups) → StandsFor v active base history
+        → StandsFor new (λ n. active n && is_among bs n) base history
     stands-reclaimed bs h under s =
         let last = h.last in
         record {
@@ -78,44 +78,44 @@ module _ (v : ChainsValue) (held : ℕ → Bool) (base : KeyMap) (history : List
           maps = λ n t. grind (arith, h.maps n, s.maps n);
           newest = λ k. h.newest k ∙ s.newest k;
           within = omega (arith, s.within);
-          witnessed = under s.witnessed;
+          pinned = under s.pinned;
         }
 
 -- ---- a reclaim, step by step
 
--- a number that is held twice is held
-abbrev held_twice : (bs : List ℕ) (held : ℕ → Bool) (n : ℕ) → ((held n && is_among bs n) && is_among bs n) ≡ (held n && is_among bs n)
-held_twice bs held n = grind arith
+-- the same numbers taken in twice leave the same ones active
+abbrev active_twice : (bs : List ℕ) (active : ℕ → Bool) (n : ℕ) → ((active n && is_among bs n) && is_among bs n) ≡ (active n && is_among bs n)
+active_twice bs active n = grind arith
 
 pub stands-on : (bs : List ℕ) (old mid new : ChainsValue) → StandWhereAmong bs old mid → StandWhereAmong bs mid new → StandWhereAmong bs old new
-stands-on bs old mid new g h = λ held base history s.
-    subst (λ (f : ℕ → Bool). StandsFor new f base history) (λ i n. held_twice bs held n i)
-    (h (λ n. held n && is_among bs n) base history (g held base history s))
+stands-on bs old mid new g h = λ active base history s.
+    subst (λ (f : ℕ → Bool). StandsFor new f base history) (λ i n. active_twice bs active n i)
+    (h (λ n. active n && is_among bs n) base history (g active base history s))
 
-pub unmixed-on : (bs : List ℕ) (old mid new : ChainsValue) → StandWhereAmong bs old mid → UnmixedWhereHeld bs mid new → UnmixedWhereHeld bs old new
-unmixed-on bs old mid new g h = λ held base history s all.
-    h (λ n. held n && is_among bs n) base history (g held base history s) (λ n t. ap (λ b. b && is_among bs n) (all n t) ∙ t)
+pub unmixed-on : (bs : List ℕ) (old mid new : ChainsValue) → StandWhereAmong bs old mid → UnmixedWhereActive bs mid new → UnmixedWhereActive bs old new
+unmixed-on bs old mid new g h = λ active base history s all.
+    h (λ n. active n && is_among bs n) base history (g active base history s) (λ n t. ap (λ b. b && is_among bs n) (all n t) ∙ t)
 
 pub stands-itself : (bs : List ℕ) (v : ChainsValue) → StandWhereAmong bs v v
-stands-itself bs v = λ held base history s. record {
+stands-itself bs v = λ active base history s. record {
   is_map = s.is_map;
-  maps = λ n t. s.maps n (elim (or_cases (held n && is_among bs n) (nat_le v.last n) t) [
-    | inl e ↦ or_left (held n) (nat_le v.last n) (and_parts (held n) (is_among bs n) e).0
-    | inr e ↦ or_right (held n) (nat_le v.last n) e
+  maps = λ n t. s.maps n (elim (or_cases (active n && is_among bs n) (nat_le v.last n) t) [
+    | inl e ↦ or_left (active n) (nat_le v.last n) (and_parts (active n) (is_among bs n) e).0
+    | inr e ↦ or_right (active n) (nat_le v.last n) e
   ]);
   newest = s.newest;
   within = s.within;
-  witnessed = groups-under held (λ n. held n && is_among bs n) v v v.groups (λ w x h. record {
+  pinned = groups-under active (λ n. active n && is_among bs n) v v v.groups (λ w x h. record {
     before = h.before;
     rises = h.rises;
     installed = h.installed;
-    between = λ b t. h.between b (and_parts (held b) (is_among bs b) t).0;
+    between = λ b t. h.between b (and_parts (active b) (is_among bs b) t).0;
     chain = λ c found. (let u = h.chain c found in record {
       behind = u.behind;
       installed = u.installed;
-      sees = λ b t. u.sees b (and_parts (held b) (is_among bs b) t).0;
+      sees = λ b t. u.sees b (and_parts (active b) (is_among bs b) t).0;
     });
-  }) s.witnessed;
+  }) s.pinned;
 }
 
 -- what stands for a history sees maps

@@ -20,7 +20,7 @@ use Rattle.versions.specs.Chains.{seen_by, reclaimed, base_chains, IsKept, IsRis
 use Rattle.versions.specs.Chains.{IsRoomier}
 use Rattle.versions.specs.Groups.{GroupValue, Listed}
 use Rattle.versions.specs.Listings.{is_of, is_in, is_listed, AreListed, IsListedChain, IsListed, AreFound}
-use Rattle.versions.specs.Listings.{unwitnessed, followed, has_version, AreNeeded, IsNeededChain, IsSettled}
+use Rattle.versions.specs.Listings.{unpinned, followed, has_version, AreNeeded, IsNeededChain, IsSettled}
 use Rattle.versions.specs.Listings.{IsPartReclaimed, AreKept}
 
 -- ---- more groups
@@ -77,11 +77,11 @@ listed-put k v room es gs hs more h l q =
     (λ s. subst (λ (j : Bytes). IsListedChain hs j (Some c)) (sym (same_key q k s)) (listed-added gs hs more k (find_chain k es) v room (h k) l))
     (λ f. groups-found es gs hs more h q))
 
-found-push : (ls us : List Listed) (gs : List GroupValue) → AreFound (unwitnessed ls ∷ gs) (unwitnessed (ls ++ us) ∷ gs)
+found-push : (ls us : List Listed) (gs : List GroupValue) → AreFound (unpinned ls ∷ gs) (unpinned (ls ++ us) ∷ gs)
 found-push ls us gs k n high t = grind (arith, list_any-append (is_of k n high) ls us)
 
 listed-followed : (ls : List Listed) (gs : List GroupValue) (k : Bytes) (n : ℕ) (o : Option ChainValue) (c : ChainValue) → o ≡ Some c
-    → is_listed (unwitnessed (ls ++ followed o k n) ∷ gs) k c.newest.number n ≡ true
+    → is_listed (unpinned (ls ++ followed o k n) ∷ gs) k c.newest.number n ≡ true
 listed-followed ls gs k n None c e = cc
 listed-followed ls gs k n (Some d) c e =
     let same : d ≡ c = cc in
@@ -89,15 +89,15 @@ listed-followed ls gs k n (Some d) c e =
 
 -- a write comes in
 pub listed-write : (k : Bytes) (n : ℕ) (value : Option Bytes) (room : ℕ) (es : Chains) (ls : List Listed) (gs : List GroupValue)
-    → IsListed es (unwitnessed ls ∷ gs)
-    → IsListed (put (slice_cmp nat_cmp) k (added (find_chain k es) (stamped n value) room) es) (unwitnessed (ls ++ followed (find_chain k es) k n) ∷ gs)
+    → IsListed es (unpinned ls ∷ gs)
+    → IsListed (put (slice_cmp nat_cmp) k (added (find_chain k es) (stamped n value) room) es) (unpinned (ls ++ followed (find_chain k es) k n) ∷ gs)
 listed-write k n value room es ls gs h =
-    listed-put k (stamped n value) room es (unwitnessed ls ∷ gs) (unwitnessed (ls ++ followed (find_chain k es) k n)
+    listed-put k (stamped n value) room es (unpinned ls ∷ gs) (unpinned (ls ++ followed (find_chain k es) k n)
     ∷ gs) (found-push ls (followed (find_chain k es) k n) gs) h
     (λ c e. listed-followed ls gs k n (find_chain k es) c e)
 
 -- the list becomes the last of the groups
-pub found-last : (gs : List GroupValue) (vs : List Listed) (g : GroupValue) → g.versions ≡ vs → AreFound (unwitnessed vs ∷ gs) (gs ++ g ∷ [])
+pub found-last : (gs : List GroupValue) (vs : List Listed) (g : GroupValue) → g.versions ≡ vs → AreFound (unpinned vs ∷ gs) (gs ++ g ∷ [])
 found-last gs vs g e k n high t =
     grind (arith, list_any-append (λ (g : GroupValue). is_in g.versions k n high) gs (g ∷ []), ap (λ l. is_in l k n high) e)
 

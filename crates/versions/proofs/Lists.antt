@@ -17,7 +17,7 @@ use Rattle.versions.specs.Groups.{Listed}
 use Rattle.versions.specs.Listings.{is_seen_from, AreSeenFrom, is_of, IsSettled, IsPartReclaimed, AreKept}
 use Rattle.versions.specs.Listings.{versions_in}
 use Rattle.versions.specs.Reclaiming.{DropsUnseen, ReclaimsChains}
-use Rattle.versions.specs.Witnesses.{IsUnderWitness}
+use Rattle.versions.specs.Pins.{IsUnderPin}
 
 -- ---- lists, one after the other
 
@@ -46,14 +46,14 @@ in-seen n (x ∷ xs) t =
 
 -- ---- the loop
 
--- the versions of `done` were looked after, and those of `rest` are left
+-- the versions of `done` were looked at, and those of `rest` are left
 pub record Settled (bs : List ℕ) (old now : Chains) (os done rest : List Listed) : Type 0 where
   pub part : IsPartReclaimed bs old now
   pub kept : (last : ℕ) → IsKept old last → IsKept now last
   pub settled : AllByRecursion (IsSettled bs now) done
   pub left_out : AreKept os (done ++ rest) now
   pub seen : (n : ℕ) → AreSeenFrom n os → AreSeenFrom n (done ++ rest)
-  pub each : (held : ℕ → Bool) (v : ChainsValue) (w : ℕ) → AllByRecursion (IsUnderWitness held v w) os → AllByRecursion (IsUnderWitness held v w) (done ++ rest)
+  pub each : (active : ℕ → Bool) (v : ChainsValue) (w : ℕ) → AllByRecursion (IsUnderPin active v w) os → AllByRecursion (IsUnderPin active v w) (done ++ rest)
 
 -- where each of the versions `us` and of `rest` is such, so is each of `vs` and of `rest`
 all-replaced : (P : Listed → Type 0) (done us vs rest : List Listed) → (AllByRecursion P us → AllByRecursion P vs) → AllByRecursion P (done ++ (us ++ rest))
@@ -68,7 +68,7 @@ pub in-parts : {Z : Type 0} (n : ℕ) (xs front rest : List (Vec Listed Z)) → 
 in-parts n xs front rest first others =
     sym (ap versions_in (take-append-drop n xs)) ∙ in-append (take n xs) (drop n xs) ∙ λ i. versions_in (sym first i) ++ versions_in (sym others i)
 
--- the first of the lists was looked after, and what is left of it was put behind the others
+-- the first of the lists was looked at, and what is left of it was put behind the others
 pub settled-list : {Z : Type 0} (bs : List ℕ) (old now new : Chains) (os : List Listed) (ls hs lists first left rest : List (Vec Listed Z)) (last : ℕ)
     → IsKept old last → first ≡ take 1 lists → rest ≡ drop 1 lists
     → versions_in hs ≡ versions_in ls ++ versions_in left → ReclaimsChains bs now new
@@ -91,7 +91,7 @@ settled-list bs old now new os ls hs lists first left rest last ordered one othe
         list_any-append (is_of k n high),
       );
       seen = λ n h. all-replaced (λ v. is_seen_from n v ≡ true) done us vs more (drops.seen n) (before.seen n h);
-      each = λ held v w h. all-replaced (IsUnderWitness held v w) done us vs more (drops.each held v w) (before.each held v w h);
+      each = λ active v w h. all-replaced (IsUnderPin active v w) done us vs more (drops.each active v w) (before.each active v w h);
     })
 
 pub in-none : {Z : Type 0} (done : List Listed) (xs : List (Vec Listed Z)) → length xs ≡ 0 → done ++ versions_in xs ≡ done

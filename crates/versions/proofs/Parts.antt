@@ -1,4 +1,4 @@
--- The lists of one group: those that are seen, those that are due, and the mixed.
+-- The lists of one group: those that the pin sees, the garbage, and the mixed.
 use Rattle.std.proofs.Common.{◌≡◌, ℕ, true, List, ◌++◌, length, sym, ap, subst, arith}
 use Rattle.std.proofs.lemmas.List.{nil_from_length}
 use Rattle.std.proofs.lemmas.List.Folds.{list_any-append}
@@ -12,16 +12,16 @@ use Rattle.versions.specs.Chains.{Chains}
 use Rattle.versions.specs.Groups.{Listed, GroupValue}
 use Rattle.versions.specs.Listings.{AreIn, AreKept, AreSeenFrom, IsSettled, IsTakenIn, IsPartReclaimed, is_of}
 use Rattle.versions.specs.Listings.{versions_in}
-use Rattle.versions.specs.Meaning.{is_among, due_for}
+use Rattle.versions.specs.Meaning.{is_among, garbage_for}
 
 -- ---- versions that are among others
 
 -- ---- versions that are listed still, or are gone
 
--- the first of the due lists were looked after, and are among those that are kept
-pub kept-due : (us ds ms ts xs rs new : List Listed) (es : Chains) → ds ≡ ts ++ rs → AreKept ts xs es → AreIn (us ++ (rs ++ ms)) new → AreIn xs new
+-- the first of the garbage lists were looked at, and what is left of them is among those that are kept
+pub kept-garbage : (us ds ms ts xs rs new : List Listed) (es : Chains) → ds ≡ ts ++ rs → AreKept ts xs es → AreIn (us ++ (rs ++ ms)) new → AreIn xs new
     → AreKept (us ++ (ds ++ ms)) new es
-kept-due us ds ms ts xs rs new es is looked rest these k n high t =
+kept-garbage us ds ms ts xs rs new es is looked rest these k n high t =
     let p = is_of k n high in
     let split = ap (list_any p) is in
     grind (arith, list_any-append p, looked k n high, rest k n high, these k n high)
@@ -51,19 +51,19 @@ pub kept-twice : (bs : List ℕ) (now new : Chains) (ls us vs ws : List Listed) 
 kept-twice bs now new ls us vs ws found part one two k n high t =
     grind (arith, found k n high, left-part bs now new us vs part one k n high, two k n high)
 
--- ---- what is due
+-- ---- what is garbage
 
-pub due-taken : (bs : List ℕ) (g : GroupValue) → IsTakenIn bs g → due_for bs g ≡ g.due
-due-taken bs g t = grind arith
+pub garbage-taken : (bs : List ℕ) (g : GroupValue) → IsTakenIn bs g → garbage_for bs g ≡ g.garbage
+garbage-taken bs g t = grind arith
 
 pub no-versions : {Z : Type 0} (P : Listed → Type 0) (xs : List (Vec Listed Z)) → length xs ≡ 0 → AllByRecursion P (versions_in xs)
 no-versions P xs none = subst (λ l. AllByRecursion P (versions_in l)) (sym (nil_from_length xs none)) tt
 
--- where no list is due, each version is settled
+-- where no list is garbage, each version is settled
 pub parts-settled : {Z : Type 0} (bs : List ℕ) (es : Chains) (n : ℕ) (ls ds ms : List (Vec Listed Z)) → (is_among bs n ≡ true) ⊎ (length ls ≡ 0)
     → AreSeenFrom n (versions_in ls) → length ds ≡ 0 → AllByRecursion (IsSettled bs es) (versions_in ms)
     → AllByRecursion (IsSettled bs es) (versions_in ls ++ (versions_in ds ++ versions_in ms))
-parts-settled bs es n ls ds ms held seen none mixed =
+parts-settled bs es n ls ds ms active seen none mixed =
     all-append (IsSettled bs es) (versions_in ls) (versions_in ds ++ versions_in ms)
     (grind (arith, λ (t : is_among bs n ≡ true). all-between bs es n (versions_in ls) t seen, no-versions (IsSettled bs es) ls))
     (all-append (IsSettled bs es) (versions_in ds) (versions_in ms) (no-versions (IsSettled bs es) ds none) mixed)

@@ -28,7 +28,8 @@ use Rattle.versions.specs.Chains.{Stamped, ChainValue, Chains, ChainsValue, find
 use Rattle.versions.specs.Chains.{visible, with_value, added, stamped, IsReady, HasPlace, HasRoom, reclaimed}
 use Rattle.versions.specs.Chains.{IsReclaimedAt, base_chains, IsKept, IsRisingChain, IsRoomier, IsRoomierChain}
 use Rattle.versions.specs.Listings.{IsPartReclaimed}
-use Rattle.versions.specs.Meaning.{kept_in, is_written_by, is_among, due_of, lists_a_step, IsSameMeaning, IsReclaimed}
+use Rattle.versions.specs.Meaning.{kept_in, is_written_by, is_among}
+use Rattle.versions.specs.Meaning.{garbage_of, lists_a_step, IsSameMeaning, IsReclaimed}
 use Rattle.versions.specs.Meaning.{IsReclaimedInPart, IsSeenSame, IsTightChain, writes_of}
 
 -- ---- a fact of all chains
@@ -272,13 +273,13 @@ seen-part old new bs h g e part = record {
 }
 
 pub reclaimed-part : (old new : ChainsValue) (bs : List ℕ) → IsKept old.chains old.last → IsKept new.chains new.last → new.last ≡ old.last
-    → due_of bs new ≡ due_of bs old - lists_a_step → IsPartReclaimed bs old.chains new.chains
-    → (due_of bs new ≡ 0 → (k : Bytes) → find_chain k new.chains ≡ option_map (reclaimed bs) (find_chain k old.chains)) → IsReclaimedInPart old new bs
-reclaimed-part old new bs h g e due part is =
+    → garbage_of bs new ≡ garbage_of bs old - lists_a_step → IsPartReclaimed bs old.chains new.chains
+    → (garbage_of bs new ≡ 0 → (k : Bytes) → find_chain k new.chains ≡ option_map (reclaimed bs) (find_chain k old.chains)) → IsReclaimedInPart old new bs
+reclaimed-part old new bs h g e garbage part is =
     let seen = seen-part old new bs h g e part in
     record {
       seen = seen;
-      due = due;
+      garbage = garbage;
       kept = λ k. grind (arith, part k);
       all = λ none. record {
         seen = seen;

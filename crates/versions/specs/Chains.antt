@@ -25,12 +25,12 @@ pub record ChainValue : Type 0 where
 abbrev pub Chains : Type 0
 Chains = List (Bytes × ChainValue)
 
--- the chains by rising key, the pages that they stand in, the groups of their older versions, and the greatest number
--- that was installed, or 0
+-- the chains by rising key, the pages that they stand in, the groups of their superseded versions, and the greatest
+-- number that was installed, or 0
 pub record ChainsValue : Type 0 where
   pub chains : Chains
   pub pages : List (Page ChainValue)
-  -- how many more older versions, and groups of them, are listed without memory
+  -- how many more superseded versions, and groups of them, are listed without memory
   pub listed_spare : ℕ
   pub groups_spare : ℕ
   pub groups : List GroupValue
@@ -165,7 +165,7 @@ thinned bs c = record {
   room = c.room + (length c.older - length (seen_by bs c.newest.number c.older));
 }
 
--- the room for more is given back with the last older version
+-- the room for more is freed with the last older version
 abbrev pub room_left : ChainValue → List Stamped → ℕ
 room_left c left = if length left == length c.older then c.room else (if length left == 0 then 0 else c.room
     + (length c.older - length left))

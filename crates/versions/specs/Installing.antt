@@ -9,7 +9,7 @@ use Rattle.versions.specs.Chains.{ChainValue, Chains, ChainsValue, HasPlaceAt, H
 use Rattle.versions.specs.Groups.{Listed}
 use Rattle.versions.specs.Listings.{AreSeenFrom, IsFollowed, StayListed}
 use Rattle.versions.specs.Meaning.{AreInstalled}
-use Rattle.versions.specs.Witnesses.{IsAddedTo}
+use Rattle.versions.specs.Pins.{IsAddedTo}
 
 -- nothing has changed but the room in chains and pages, and there is no less of it
 pub record HasMoreRoom (old new : ChainsValue) : Type 0 where
@@ -36,7 +36,7 @@ pub record AddsWrites (old new : Chains) (n : ℕ) (ws : List KeyWrite) : Type 0
   pub installed : AreInstalled old new n ws
   pub added : (k : Bytes) → IsAddedTo n (find_chain k old) (find_chain k new)
 
--- these are the versions that those of number n came behind: n - 1 sees each of them
+-- these are the versions that those of number n superseded: n - 1 sees each of them
 pub record ListsFollowed (old new : Chains) (n : ℕ) (vs : List Listed) : Type 0 where
   pub listed : StayListed old new vs
   pub seen : AreSeenFrom (n - 1) vs

@@ -5,16 +5,16 @@ use Rattle.model.specs.Map.{KeyMap, IsMap}
 use Rattle.versions.specs.Chains.{ChainsValue}
 use Rattle.versions.specs.StandsFor.{StandsFor}
 
--- numbers may be held no more, and numbers from the greatest installed on may be held from now on
+-- numbers may cease to be active, and numbers from the greatest installed on may become active
 abbrev pub HoldingLaw : Type 0
-HoldingLaw = (v : ChainsValue) (held others : ℕ → Bool) (base : KeyMap) (history : List Record)
-    → ((n : ℕ) → IsTrue (others n) → IsTrue (held n || nat_le v.last n)) → StandsFor v held base history
+HoldingLaw = (v : ChainsValue) (active others : ℕ → Bool) (base : KeyMap) (history : List Record)
+    → ((n : ℕ) → IsTrue (others n) → IsTrue (active n || nat_le v.last n)) → StandsFor v active base history
     → StandsFor v others base history
 
 -- a record that wrote nothing may follow
 abbrev pub ReadOnlyLaw : Type 0
-ReadOnlyLaw = (v : ChainsValue) (held : ℕ → Bool) (base : KeyMap) (history : List Record) (r : Record)
-    → r.writes ≡ [] → StandsFor v held base history → StandsFor v held base (history ++ r ∷ [])
+ReadOnlyLaw = (v : ChainsValue) (active : ℕ → Bool) (base : KeyMap) (history : List Record) (r : Record)
+    → r.writes ≡ [] → StandsFor v active base history → StandsFor v active base (history ++ r ∷ [])
 
 -- over a map, the records of a history leave a map at each number
 abbrev pub MapsLaw : Type 0

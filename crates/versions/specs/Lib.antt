@@ -3,7 +3,7 @@ pub mod Chains
 pub mod Kept
 pub mod Listings
 pub mod Meaning
-pub mod Witnesses
+pub mod Pins
 pub mod Reclaiming
 pub mod Installing
 pub mod StandsFor

@@ -62,9 +62,9 @@ IsListed chains gs = (k : Bytes) → IsListedChain gs k (find_chain k chains)
 abbrev pub AreFound : List GroupValue → List GroupValue → Type 0
 AreFound gs hs = (k : Bytes) (n high : ℕ) → IsTrue (is_listed gs k n high) → IsTrue (is_listed hs k n high)
 
--- two groups have one witness, and their lists can be counted
+-- two groups have the same pin, and their lists can be counted
 abbrev pub CanJoin : GroupValue → GroupValue → Type 0
-CanJoin g h = (g.witness ≡ h.witness) × (g.lists + h.lists < 2 ^ 63)
+CanJoin g h = (g.pin ≡ h.pin) × (g.lists + h.lists < 2 ^ 63)
 
 -- how many lists the groups have
 abbrev pub lists_in : List GroupValue → ℕ
@@ -77,18 +77,18 @@ pub record HasFewLists {Z : Type 0} (gs : List GroupValue) (next : List (Vec Lis
   pub ready : length next ≤ 1
   pub fits : last < 2 ^ 63
 
--- ---- under which number a group stands
+-- ---- under which pin a group stands
 
 -- the greatest of the numbers below this one, and 0 where none is
 abbrev pub greatest_below : List ℕ → ℕ → ℕ
 greatest_below bs high = fold (λ greatest b. if nat_lt b high then max greatest b else greatest) 0 bs
 
--- the witness where it is one of the numbers, and else the greatest below it
-abbrev pub witness_for : List ℕ → ℕ → ℕ
-witness_for bs w = if is_among bs w then w else greatest_below bs w
+-- the pin where it is one of the numbers, and else the greatest of them below it
+abbrev pub pin_for : List ℕ → ℕ → ℕ
+pin_for bs w = if is_among bs w then w else greatest_below bs w
 
-abbrev pub witnesses : List GroupValue → List ℕ
-witnesses = map (λ g. g.witness)
+abbrev pub pins : List GroupValue → List ℕ
+pins = map (λ g. g.pin)
 
 -- no two of the numbers are the same
 abbrev pub AreApart : List ℕ → Type 0
@@ -101,18 +101,18 @@ AreAmong bs ns = AllByRecursion (λ n. IsTrue (is_among bs n)) ns
 
 -- ---- what is to be looked at
 
--- the witness is one of the numbers, or no list counts as seen from it
+-- the pin is one of the numbers, or no list counts as seen from it
 abbrev pub IsTakenIn : List ℕ → GroupValue → Type 0
-IsTakenIn bs g = IsTrue (is_among bs g.witness) ⊎ (g.seen ≡ 0)
+IsTakenIn bs g = IsTrue (is_among bs g.pin) ⊎ (g.seen ≡ 0)
 
--- the witness is one of the numbers, and sees each version of the mixed lists
+-- the pin is one of the numbers, and sees each version of the mixed lists
 abbrev pub sees_mixed : List ℕ → GroupValue → Bool
-sees_mixed bs g = is_among bs g.witness && list_all (is_seen_from g.witness) g.mixed
+sees_mixed bs g = is_among bs g.pin && list_all (is_seen_from g.pin) g.mixed
 
--- there are no more mixed lists than versions in them; and there is no such version, or the witness is none of the
--- numbers or doesn't see all of them
+-- there are no more mixed lists than versions in them; and there is no such version, or the pin is none of the numbers
+-- or doesn't see all of them
 abbrev pub IsTrulyMixed : List ℕ → GroupValue → Type 0
-IsTrulyMixed bs g = (g.lists ≤ g.seen + g.due + length g.mixed) × ((g.mixed ≡ []) ⊎ (sees_mixed bs g ≡ false))
+IsTrulyMixed bs g = (g.lists ≤ g.seen + g.garbage + length g.mixed) × ((g.mixed ≡ []) ⊎ (sees_mixed bs g ≡ false))
 
 -- each of the versions is among the others
 abbrev pub AreIn : List Listed → List Listed → Type 0
@@ -124,20 +124,20 @@ AreOfBoth us ws vs = (k : Bytes) (n high : ℕ) → is_in vs k n high ≡ (is_in
 
 -- ---- a version more
 
--- a group of these versions, whatever its witness
-abbrev pub unwitnessed : List Listed → GroupValue
-unwitnessed vs = record { witness = 0; versions = vs; mixed = []; seen = 0; due = 0; lists = 0 }
+-- a group of these versions, whatever its pin
+abbrev pub unpinned : List Listed → GroupValue
+unpinned vs = record { pin = 0; versions = vs; mixed = []; seen = 0; garbage = 0; lists = 0 }
 
 -- where the old chains were listed, the new ones are, with these versions more
 abbrev pub StayListed : Chains → Chains → List Listed → Type 0
-StayListed old new more = (groups : List GroupValue) → IsListed old groups → IsListed new (unwitnessed more ∷ groups)
+StayListed old new more = (groups : List GroupValue) → IsListed old groups → IsListed new (unpinned more ∷ groups)
 
--- what is listed of a key when a version of number n follows its newest
+-- what is listed of a key when a version of number n supersedes its newest
 abbrev pub followed : Option ChainValue → Bytes → ℕ → List Listed
 followed None k n = []
 followed (Some c) k n = record { key = k; number = c.newest.number; next = n } ∷ []
 
--- the listed version is behind n, the newest number of its key
+-- the listed version was superseded by number n, the newest of its key
 pub record IsFollowed (n : ℕ) (chains : Chains) (v : Listed) : Type 0 where
   pub number : v.number < n
   pub next : v.next ≡ n
@@ -179,7 +179,7 @@ StaySettled bs old more new =
     (chains : Chains) → AllByRecursion (IsSettled bs chains) old → AllByRecursion (IsSettled bs chains) more
     → AllByRecursion (IsSettled bs chains) new
 
--- a version that is listed no more is in its chain no more
+-- a version that is no longer listed is no longer in its chain
 abbrev pub AreKept : List Listed → List Listed → Chains → Type 0
 AreKept old new chains = (k : Bytes) (n high : ℕ) → IsTrue (is_in old k n high)
     → IsTrue (is_in new k n high || not (has_version n (find_chain k chains)))
@@ -190,4 +190,4 @@ AreMixedSettled bs chains gs = AllByRecursion (λ g. AllByRecursion (IsSettled b
 
 -- no list is mixed
 abbrev pub IsUnmixed : GroupValue → Type 0
-IsUnmixed g = (g.mixed ≡ []) × (g.lists ≤ g.seen + g.due)
+IsUnmixed g = (g.mixed ≡ []) × (g.lists ≤ g.seen + g.garbage)

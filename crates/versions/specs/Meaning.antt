@@ -26,19 +26,19 @@ kept_of v k = kept_in (find_chain k v.chains)
 abbrev pub is_among : List ℕ → ℕ → Bool
 is_among bs n = list_any (λ b. b == n) bs
 
--- how many of the group's lists are to be looked at where these numbers are held
-abbrev pub due_for : List ℕ → GroupValue → ℕ
-due_for bs g = if is_among bs g.witness then g.due else g.seen + g.due
+-- how many of the group's lists are garbage where these numbers are active
+abbrev pub garbage_for : List ℕ → GroupValue → ℕ
+garbage_for bs g = if is_among bs g.pin then g.garbage else g.seen + g.garbage
 
-abbrev pub due_in : List ℕ → List GroupValue → ℕ
-due_in bs [] = 0
-due_in bs (g ∷ gs) = due_for bs g + due_in bs gs
+abbrev pub garbage_in : List ℕ → List GroupValue → ℕ
+garbage_in bs [] = 0
+garbage_in bs (g ∷ gs) = garbage_for bs g + garbage_in bs gs
 
--- how many lists of older versions are to be looked at where these numbers are held
-abbrev pub due_of : List ℕ → ChainsValue → ℕ
-due_of bs v = due_in bs v.groups
+-- how many lists of superseded versions are garbage where these numbers are active
+abbrev pub garbage_of : List ℕ → ChainsValue → ℕ
+garbage_of bs v = garbage_in bs v.groups
 
--- in how many groups the older versions stand
+-- in how many groups the superseded versions stand
 abbrev pub groups_of : ChainsValue → ℕ
 groups_of v = length v.groups
 
@@ -87,7 +87,7 @@ IsTight bs v = (k : Bytes) (c : ChainValue) → find_chain k v.chains ≡ Some c
 abbrev pub needed_of : List ℕ → ChainsValue → Bytes → ℕ
 needed_of bs v k = kept_in (option_map (reclaimed bs) (find_chain k v.chains))
 
--- how many lists of older versions a step of a reclaim looks at; a list has what one commit replaced
+-- how many garbage lists a step of a reclaim looks at; a list has what one commit superseded
 abbrev pub lists_a_step : ℕ
 lists_a_step = 2
 
@@ -106,10 +106,10 @@ pub record IsReclaimed (old new : ChainsValue) (bs : List ℕ) : Type 0 where
   pub kept : (k : Bytes) → kept_of new k ≡ needed_of bs old k
   pub tight : IsTight bs new
 
--- A step of that: so many lists are due no more. Each key has all its versions still or those alone that are needed,
--- and where no list is due, all of it is done.
+-- A step of that: so many lists are no longer garbage. Each key has all its versions still or those alone that are
+-- needed, and where no list is garbage, all of it is done.
 pub record IsReclaimedInPart (old new : ChainsValue) (bs : List ℕ) : Type 0 where
   pub seen : IsSeenSame old new bs
-  pub due : due_of bs new ≡ due_of bs old - lists_a_step
+  pub garbage : garbage_of bs new ≡ garbage_of bs old - lists_a_step
   pub kept : (k : Bytes) → (kept_of new k ≡ kept_of old k) ⊎ (kept_of new k ≡ needed_of bs old k)
-  pub all : due_of bs new ≡ 0 → IsReclaimed old new bs
+  pub all : garbage_of bs new ≡ 0 → IsReclaimed old new bs

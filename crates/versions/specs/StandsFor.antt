@@ -8,7 +8,7 @@ use Rattle.model.specs.Map.{Bytes, KeyMap, KeyWrite, IsMap, value_at}
 use Rattle.versions.specs.Chains.{ChainsValue}
 use Rattle.versions.specs.Listings.{IsUnmixed}
 use Rattle.versions.specs.Meaning.{map_seen, newest_of, is_among}
-use Rattle.versions.specs.Witnesses.{AreUnderWitnesses}
+use Rattle.versions.specs.Pins.{AreUnderPins}
 
 -- the commit number of the last record that writes the key, and d where none does
 abbrev pub last_writer_from : Option ℕ → List Record → Bytes → Option ℕ
@@ -19,37 +19,38 @@ last_writer_from d (r ∷ rs) k = last_writer_from (if writes_key r k then Some 
 abbrev pub last_writer : KeyMap → List Record → Bytes → Option ℕ
 last_writer base history k = last_writer_from (option_map (λ _. 0) (value_at base k)) history k
 
--- the versions stand for the history over the base at the numbers that are held
-pub record StandsFor (v : ChainsValue) (held : ℕ → Bool) (base : KeyMap) (history : List Record) : Type 0 where
+-- the versions stand for the history over the base at the active numbers
+pub record StandsFor (v : ChainsValue) (active : ℕ → Bool) (base : KeyMap) (history : List Record) : Type 0 where
   pub is_map : IsMap base
-  -- a number that is held, or that is at least the greatest installed, sees the map at that number
-  pub maps : (n : ℕ) → IsTrue (held n || nat_le v.last n) → map_seen v n ≡ map_at base history n
+  -- a number that is active, or that is at least the greatest installed, sees the map at that number
+  pub maps : (n : ℕ) → IsTrue (active n || nat_le v.last n) → map_seen v n ≡ map_at base history n
   pub newest : (k : Bytes) → newest_of v k ≡ last_writer base history k
   -- what was installed has the number of a record
   pub within : v.last ≤ length history
-  -- what is listed under a number that is held no more is looked at by the greatest held number below it
-  pub witnessed : AreUnderWitnesses held v v.groups
+  -- no active number above a pin sees what is listed under it, so the greatest below can take its place
+  pub pinned : AreUnderPins active v v.groups
 
 -- both stand for the same histories
 abbrev pub StandForSame : ChainsValue → ChainsValue → Type 0
-StandForSame old new = (held : ℕ → Bool) (base : KeyMap) (history : List Record) → StandsFor old held base history
-    ↔ StandsFor new held base history
+StandForSame old new = (active : ℕ → Bool) (base : KeyMap) (history : List Record) → StandsFor old active base history
+    ↔ StandsFor new active base history
 
 -- what the old ones stand for, the new ones stand for with one record more, of commit n and these writes
 abbrev pub StandWithCommit : ChainsValue → ChainsValue → ℕ → List KeyWrite → Type 0
 StandWithCommit old new n ws =
-    (held : ℕ → Bool) (base : KeyMap) (history : List Record) (r : Record) → StandsFor old held base history
+    (active : ℕ → Bool) (base : KeyMap) (history : List Record) (r : Record) → StandsFor old active base history
     → length history + 1 ≡ n → r.commit ≡ n → r.writes ≡ ws
-    → StandsFor new held base (history ++ r ∷ [])
+    → StandsFor new active base (history ++ r ∷ [])
 
--- what the old ones stand for, the new ones stand for where of the numbers that were held only these are
+-- what the old ones stand for, the new ones stand for where of the active numbers only these stay so
 abbrev pub StandWhereAmong : List ℕ → ChainsValue → ChainsValue → Type 0
-StandWhereAmong bs old new = (held : ℕ → Bool) (base : KeyMap) (history : List Record) → StandsFor old held base history
-    → StandsFor new (λ n. held n && is_among bs n) base history
+StandWhereAmong bs old new = (active : ℕ → Bool) (base : KeyMap) (history : List Record)
+    → StandsFor old active base history
+    → StandsFor new (λ n. active n && is_among bs n) base history
 
--- no list is mixed where each of these numbers was held
-abbrev pub UnmixedWhereHeld : List ℕ → ChainsValue → ChainsValue → Type 0
-UnmixedWhereHeld bs old new =
-    (held : ℕ → Bool) (base : KeyMap) (history : List Record) → StandsFor old held base history
-    → ((n : ℕ) → IsTrue (is_among bs n) → IsTrue (held n))
+-- no list is mixed where each of these numbers was active
+abbrev pub UnmixedWhereActive : List ℕ → ChainsValue → ChainsValue → Type 0
+UnmixedWhereActive bs old new =
+    (active : ℕ → Bool) (base : KeyMap) (history : List Record) → StandsFor old active base history
+    → ((n : ℕ) → IsTrue (is_among bs n) → IsTrue (active n))
     → AllByRecursion IsUnmixed new.groups

@@ -1,4 +1,4 @@
-//! The versions of one key.
+//! The versions of one key. A single version, which most keys have, allocates nothing but its value.
 ghost use Rattle.std.specs.Prelude.{◌≡◌, ◌+◌, ◌<◌, ◌≤◌, [], length, IfSome, IsOk, OnOk, Some, option_copied};
 ghost use Rattle.model.specs.Key.{IsValue};
 ghost use Rattle.versions.specs.Chains.{seen, hides, shows, first_shown, longer_chain, fresh_chain, reclaimed};
@@ -119,7 +119,7 @@ impl Chain {
         }
     }
 
-    // Drops the older versions that none of the numbers sees, and gives back the room for more with the last of them.
+    // Drops the older versions that none of the numbers sees, and frees the room for more with the last of them.
     fn reclaim(&mut self, begins: &[u64])
         ensures { self.new ≡ reclaimed begins.now self.old }
     {
@@ -135,7 +135,7 @@ impl Chain {
         }
     }
 
-    // Gives back the room for more versions than the newest.
+    // Frees the room for more versions than the newest.
     fn give_back(&mut self)
         requires { self.old.older ≡ [] }
         ensures { self.new ≡ fresh_chain self.old.newest 0 }

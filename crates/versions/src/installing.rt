@@ -1,4 +1,4 @@
-//! New versions come.
+//! Installs the versions that a commit writes, in room that was made before, and lists those that they supersede.
 ghost use Rattle.std.specs.Prelude.{◌≡◌, ℕ, T, ◌+◌, ◌-◌, ◌<◌, ◌≤◌, [], ◌∷◌, length, IsOk, OnOk};
 ghost use Rattle.std.specs.Ordering.{nat_cmp};
 ghost use Rattle.std.specs.Cmp.Lexicographic.{slice_cmp};
@@ -19,7 +19,7 @@ use model::{Key, KeyRef, Write};
 use sorted_pages::SortedPages;
 use std::alloc::{AllocError, Global};
 
-// Lists the version of the key that commit `n` puts its own behind.
+// Lists the version of the key that commit `n` supersedes.
 fn list(listed: &mut Vec<OldVersion>, key: Key, number: u64, n: u64)
     requires { vec_len listed.old < vec_capacity listed.old }
     ensures { ListsMore listed.old listed.new (record { key = key; number = number; next = n } ∷ []) }

@@ -1,7 +1,7 @@
 //! The versions of the store's values: a chain of them for each key, by commit number.
 //!
-//! A reader asks by number and is lent what the commits up to that number left, so a transaction that began at a number sees one
-//! map as long as that number is held. Old versions go where no held number sees them.
+//! A reader asks by number and is lent what the commits up to that number left, so a transaction that began at a number sees one map as
+//! long as that number is active. Old versions are collected where no active number sees them.
 #![tactic(auto)]
 
 mod chain;
@@ -14,6 +14,6 @@ mod several;
 mod value;
 mod versions;
 
-pub use laws::{history_has_maps, numbers_change, read_only_record_follows};
+pub use laws::{law_history_has_maps, law_numbers_change, law_read_only_record_follows};
 pub use pairs::Pairs;
 pub use versions::Versions;

@@ -1,17 +1,17 @@
-//! Which versions are to be looked at when a number is held no more.
+//! Superseded versions in groups, each under a pinning snapshot: while that is active, the versions that it sees aren't garbage.
 ghost use Rattle.std.specs.Prelude.{◌≡◌, ◌==◌, ◌≤◌, ◌<◌, ◌^◌, ℕ, List, nat_lt, length, true, [], IsOk, OnOk};
 ghost use Rattle.std.specs.List.{list_all};
 ghost use Rattle.std.specs.Vec.{vec_len};
 ghost use Rattle.versions.specs.Listings.{AreSeenFrom, greatest_below, is_seen_by, is_seen_from, spare_in};
 ghost use Rattle.versions.specs.Listings.{versions_in};
-ghost use Rattle.versions.specs.Meaning.{due_for};
+ghost use Rattle.versions.specs.Meaning.{garbage_for};
 ghost use Rattle.versions.specs.Meaning.{is_among};
 
 use model::{Key, Memory};
 use std::collections::LinkedList;
 use std::marker::Model;
 
-/// An older version of a key: its number, and the number of the version behind it, or a smaller one.
+/// A superseded version of a key: its number, and that of the commit that superseded it.
 #[derive(Drop)]
 pub(crate) struct OldVersion {
     pub(crate) key: Key,
@@ -46,16 +46,16 @@ impl OldVersion {
     }
 }
 
-/// Older versions in lists: one of each commit whose versions came behind them. One number, the witness, sees each version of `lists`,
-/// so that while it is held they need not be looked at.
+/// Superseded versions, in one list for each commit that superseded them. One active number, the pin, sees all versions of `lists`: while
+/// it is active none of them can be freed.
 #[derive(Drop)]
 pub(crate) struct Group {
-    pub(crate) witness: u64,
+    pub(crate) pin: u64,
     pub(crate) lists: LinkedList<Vec<OldVersion>>,
-    // what is to be looked at, since its witness was held no more
-    pub(crate) due: LinkedList<Vec<OldVersion>>,
-    // what was looked at and is needed, though the witness doesn't see all of it. It is looked at each time. Where each number is held
-    // from the last commit on, there is none
+    // lists whose pin is no longer active: they are to be looked at
+    pub(crate) garbage: LinkedList<Vec<OldVersion>>,
+    // lists that were looked at and are needed, though the pin isn't active or doesn't see all of them. Each call looks at them. There are
+    // none as long as each number that becomes active is at least the last commit's
     pub(crate) mixed: LinkedList<Vec<OldVersion>>,
 }
 
@@ -67,43 +67,44 @@ impl Model for Group {
     ghost Value = { GroupValue };
 
     ghost view = { λ g. record {
-      witness = g.witness;
-      versions = versions_in g.lists ++ (versions_in g.due ++ versions_in g.mixed);
+      pin = g.pin;
+      versions = versions_in g.lists ++ (versions_in g.garbage ++ versions_in g.mixed);
       mixed = versions_in g.mixed;
       seen = length g.lists;
-      due = length g.due;
-      lists = length g.lists + length g.due + length g.mixed;
+      garbage = length g.garbage;
+      lists = length g.lists + length g.garbage + length g.mixed;
     } };
 
     ghost invariant = { λ g.
-        AreSeenFrom g.witness (versions_in g.lists) × (length g.lists + length g.due + length g.mixed < 2 ^ 63) × AreFilled g.mixed };
+        AreSeenFrom g.pin (versions_in g.lists) × (length g.lists + length g.garbage + length g.mixed < 2 ^ 63) × AreFilled g.mixed };
 }
 
 impl Group {
-    // Versions that this number sees. Takes no memory.
-    pub(crate) fn new(witness: u64, lists: LinkedList<Vec<OldVersion>>) -> Group
-        requires { AreSeenFrom witness (versions_in lists) }
+    // Versions that this number, their pin, sees. Takes no memory.
+    pub(crate) fn new(pin: u64, lists: LinkedList<Vec<OldVersion>>) -> Group
+        requires { AreSeenFrom pin (versions_in lists) }
         ensures versions { result.versions ≡ versions_in lists }
         ensures mixed { result.mixed ≡ [] }
-        ensures witness { result.witness ≡ witness }
-        ensures due { (bs : List ℕ) → due_for bs result ≤ length lists }
+        ensures pin { result.pin ≡ pin }
+        ensures garbage { (bs : List ℕ) → garbage_for bs result ≤ length lists }
         ensures lists { result.lists ≡ length lists }
     {
         let alloc = *lists.allocator();
+        // Shows that the lists can be counted, as the invariant asks.
         let _fits = lists.len();
         Group {
-            witness,
+            pin,
             lists,
-            due: LinkedList::new(alloc),
+            garbage: LinkedList::new(alloc),
             mixed: LinkedList::new(alloc),
         }
     }
 
-    // How many lists are due.
-    pub(crate) fn due(&self) -> usize
-        ensures { result ≡ self.now.due }
+    // How many lists are garbage.
+    pub(crate) fn garbage(&self) -> usize
+        ensures { result ≡ self.now.garbage }
     {
-        self.due.len()
+        self.garbage.len()
     }
 
     // How many lists there are.
@@ -111,23 +112,24 @@ impl Group {
         ensures value { result ≡ self.now.lists }
         ensures fits { result < 2 ^ 63 }
     {
-        self.lists.len() + self.due.len() + self.mixed.len()
+        self.lists.len() + self.garbage.len() + self.mixed.len()
     }
 
     // Is there no list?
     pub(crate) fn is_empty(&self) -> bool
         ensures none { result ≡ true → self.now.versions ≡ [] }
-        ensures due { result ≡ true → (bs : List ℕ) → due_for bs self.now ≡ 0 }
+        ensures garbage { result ≡ true → (bs : List ℕ) → garbage_for bs self.now ≡ 0 }
     {
-        let _ = &self.witness;
+        // Shows the view: its versions and its counts are those of the same lists.
+        let _ = &self.pin;
         self.count() == 0
     }
 
-    // Is a list to be looked at where these numbers are held?
-    pub(crate) fn is_due(&self, begins: &[u64]) -> bool
-        ensures { result ≡ nat_lt 0 (due_for begins.now self.now) }
+    // Is a list garbage where these numbers are active?
+    pub(crate) fn is_garbage(&self, begins: &[u64]) -> bool
+        ensures { result ≡ nat_lt 0 (garbage_for begins.now self.now) }
     {
-        !self.due.is_empty() || !is_among(begins, self.witness) && !self.lists.is_empty()
+        !self.garbage.is_empty() || !is_among(begins, self.pin) && !self.lists.is_empty()
     }
 }
 

@@ -1,4 +1,4 @@
-//! Lent pairs of a key and a value.
+//! The pairs of a range that a begin number sees, borrowed one by one.
 use crate::chain::Chain;
 use model::KeyRef;
 use sorted_pages::Entries;

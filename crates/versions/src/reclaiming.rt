@@ -1,4 +1,4 @@
-//! Old versions go.
+//! Garbage collection: drops superseded versions that no active number sees, those of two commits in a step.
 ghost use Rattle.std.specs.Prelude.{◌≡◌, ◌==◌, ℕ, [], T, false, IfSome, IsTrue, nat_lt, ◌<◌, ◌≤◌, ◌+◌, ◌-◌, ◌^◌};
 ghost use Rattle.std.specs.Prelude.{◌++◌, length, take, drop, position};
 ghost use Rattle.std.specs.List.{list_any};
@@ -8,13 +8,13 @@ ghost use Rattle.std.specs.FinMap.Entries.{is_sorted};
 ghost use Rattle.std.specs.Vec.{vec_len};
 ghost use Rattle.sorted_pages.specs.Pages.{entries};
 ghost use Rattle.versions.specs.Chains.{IsKept, IsReclaimedAt, find_chain};
-ghost use Rattle.versions.specs.Witnesses.{GroupStaysUnder};
+ghost use Rattle.versions.specs.Pins.{GroupStaysUnder};
 ghost use Rattle.versions.specs.Listings.{AreApart, AreFilled, AreIn, CanJoin, IsListed, IsTakenIn, IsTrulyMixed};
-ghost use Rattle.versions.specs.Listings.{has_version, lists_in, versions_in, witness_for, witnesses};
+ghost use Rattle.versions.specs.Listings.{has_version, lists_in, versions_in, pin_for, pins};
 ghost use Rattle.versions.specs.Reclaiming.{AreLookedAt, DropsFromGroup, DropsUnseen, IsLookedAfter, KeepsListed};
 ghost use Rattle.versions.specs.Reclaiming.{ReclaimsChains, ReclaimsStep, StaysApart, TakesGroup, TakesLists};
 ghost use Rattle.versions.specs.Reclaiming.{TakesVersions};
-ghost use Rattle.versions.specs.Meaning.{due_for, due_in, is_among};
+ghost use Rattle.versions.specs.Meaning.{garbage_for, garbage_in, is_among};
 
 use crate::chain::Chain;
 use crate::listing::{Group, OldVersion, are_empty, are_seen_from, greatest_below, is_among};
@@ -22,7 +22,7 @@ use sorted_pages::SortedPages;
 use std::collections::LinkedList;
 use std::mem;
 
-// How many of the due lists one step looks at.
+// How many garbage lists one step looks at.
 const LISTS_A_STEP: usize = 2;
 
 // Drops the older versions of the key that none of the numbers sees. Is this one still there?
@@ -34,8 +34,8 @@ fn reclaim_version(chains: &mut SortedPages<Chain>, version: &OldVersion, begins
     chains.trim_at(version.key.lend(), begins, version.number)
 }
 
-// Looks after those of the versions that `next`, one of the numbers, doesn't see: what none of the numbers sees goes from their
-// chains, and they from the list where they went.
+// Goes over the versions that `next`, one of the numbers, doesn't see: drops from their chains what none of the numbers sees, and from the
+// list those that are no longer in their chains.
 fn drop_unseen(
     chains: &mut SortedPages<Chain>,
     versions: &mut Vec<OldVersion>,
@@ -81,7 +81,7 @@ fn append(lists: &mut LinkedList<Vec<OldVersion>>, more: LinkedList<Vec<OldVersi
     }
 }
 
-// Looks after the versions of the one list, as `drop_unseen`.
+// Goes over the versions of the one list, as `drop_unseen` does.
 fn settle_first(
     chains: &mut SortedPages<Chain>,
     lists: &mut LinkedList<Vec<OldVersion>>,
@@ -101,7 +101,7 @@ fn settle_first(
     }
 }
 
-// Looks after the versions of each list, as `drop_unseen`, and drops the lists that are empty then.
+// Goes over the versions of each list, as `drop_unseen` does, and drops the lists that are then empty.
 fn settle_lists(
     chains: &mut SortedPages<Chain>,
     lists: &mut LinkedList<Vec<OldVersion>>,
@@ -127,30 +127,30 @@ fn settle_lists(
 }
 
 impl Group {
-    // Takes in which numbers are held. Where the witness is none of them, the greatest below takes its place, or 0 where there is none, and
-    // all lists are due, before those that were.
+    // Takes in which numbers are active. Where the pin is none of them, the greatest of them below it becomes the pin, or 0 where there is
+    // none, and the lists that it saw are garbage, before those that already were.
     fn take_in(&mut self, begins: &[u64])
         ensures found { AreIn self.old.versions self.new.versions }
-        ensures due { self.new.due ≡ due_for begins.now self.old }
+        ensures garbage { self.new.garbage ≡ garbage_for begins.now self.old }
         ensures taken_in { IsTakenIn begins.now self.new }
-        ensures witness { self.new.witness ≡ witness_for begins.now self.old.witness }
+        ensures pin { self.new.pin ≡ pin_for begins.now self.old.pin }
         ensures lists { self.new.lists ≡ self.old.lists }
         ensures each { GroupStaysUnder self.old self.new }
     {
-        if is_among(begins, self.witness) {
+        if is_among(begins, self.pin) {
             return;
         }
         let alloc = *self.lists.allocator();
         let mut lists = mem::replace(&mut self.lists, LinkedList::new(alloc));
         append(
             &mut lists,
-            mem::replace(&mut self.due, LinkedList::new(alloc)),
+            mem::replace(&mut self.garbage, LinkedList::new(alloc)),
         );
-        self.due = lists;
-        self.witness = greatest_below(begins, self.witness);
+        self.garbage = lists;
+        self.pin = greatest_below(begins, self.pin);
     }
 
-    // Puts lists that were looked at under the witness, where it is held and sees all of them, and else to the mixed. Takes no memory.
+    // Puts lists that were looked at under the pin, where it is active and sees all of them, and else with the mixed. Takes no memory.
     fn keep(&mut self, lists: LinkedList<Vec<OldVersion>>, begins: &[u64])
         requires fits { self.old.lists + length lists < 2 ^ 63 }
         requires filled { AreFilled lists }
@@ -160,40 +160,40 @@ impl Group {
         ensures taken_in { IsTakenIn begins.now self.new }
         ensures truly { self.old.mixed ≡ [] → IsTrulyMixed begins.now self.new }
     {
-        if is_among(begins, self.witness) && are_seen_from(&lists, self.witness) {
+        if is_among(begins, self.pin) && are_seen_from(&lists, self.pin) {
             append(&mut self.lists, lists);
         } else {
             append(&mut self.mixed, lists);
         }
     }
 
-    // Looks after the first `count` of the lists that are due.
-    fn look_at_due(&mut self, chains: &mut SortedPages<Chain>, begins: &[u64], count: usize)
-        requires count { count ≤ self.old.due }
+    // Looks at the first `count` of the garbage lists.
+    fn look_at_garbage(&mut self, chains: &mut SortedPages<Chain>, begins: &[u64], count: usize)
+        requires count { count ≤ self.old.garbage }
         requires taken_in { IsTakenIn begins.now self.old }
         requires kept { (last : ℕ) × IsKept (entries chains.old) last }
         ensures chains { ReclaimsChains begins.now (entries chains.old) (entries chains.new) }
-        ensures group { DropsFromGroup (entries chains.new) self.old.witness self.old self.new }
-        ensures due { self.new.due + count ≡ self.old.due }
+        ensures group { DropsFromGroup (entries chains.new) self.old.pin self.old self.new }
+        ensures garbage { self.new.garbage + count ≡ self.old.garbage }
         ensures taken_in { IsTakenIn begins.now self.new }
     {
         if count == 0 {
             return;
         }
-        let witness = Some(self.witness).filter(|witness| is_among(begins, *witness));
-        let mut lists = take_front(&mut self.due, count);
-        settle_lists(chains, &mut lists, begins, witness);
+        let pin = Some(self.pin).filter(|pin| is_among(begins, *pin));
+        let mut lists = take_front(&mut self.garbage, count);
+        settle_lists(chains, &mut lists, begins, pin);
         self.keep(lists, begins);
     }
 
-    // Looks after the mixed lists, and puts them under the witness where it sees all of them now. Where no list is due, all was looked
-    // after then.
+    // Looks at the mixed lists, and puts them under the pin where it now sees all of them. If no list is garbage, the whole group was then
+    // looked at.
     fn look_at_mixed(&mut self, chains: &mut SortedPages<Chain>, begins: &[u64])
         requires taken_in { IsTakenIn begins.now self.old }
         requires kept { (last : ℕ) × IsKept (entries chains.old) last }
         ensures chains { ReclaimsChains begins.now (entries chains.old) (entries chains.new) }
-        ensures group { DropsFromGroup (entries chains.new) self.old.witness self.old self.new }
-        ensures due { due_for begins.now self.new ≡ self.old.due }
+        ensures group { DropsFromGroup (entries chains.new) self.old.pin self.old self.new }
+        ensures garbage { garbage_for begins.now self.new ≡ self.old.garbage }
         ensures looked_after { IsLookedAfter begins.now (entries chains.new) self.new }
     {
         if self.mixed.is_empty() {
@@ -205,37 +205,37 @@ impl Group {
         self.keep(mixed, begins);
     }
 
-    // Takes in which numbers are held, looks at up to `most` of the lists that are due, and answers how many fewer than those it looked at.
+    // Takes in which numbers are active, looks at up to `most` of the garbage lists, and answers how many fewer than `most` it looked at.
     fn reclaim(&mut self, chains: &mut SortedPages<Chain>, begins: &[u64], most: usize) -> usize
         requires kept { (last : ℕ) × IsKept (entries chains.old) last }
-        ensures spare { result ≡ most - due_for begins.now self.old }
-        ensures due { due_for begins.now self.new ≡ due_for begins.now self.old - most }
+        ensures spare { result ≡ most - garbage_for begins.now self.old }
+        ensures garbage { garbage_for begins.now self.new ≡ garbage_for begins.now self.old - most }
         ensures chains { ReclaimsChains begins.now (entries chains.old) (entries chains.new) }
-        ensures group { DropsFromGroup (entries chains.new) (witness_for begins.now self.old.witness) self.old self.new }
+        ensures group { DropsFromGroup (entries chains.new) (pin_for begins.now self.old.pin) self.old self.new }
         ensures looked_after { IsLookedAfter begins.now (entries chains.new) self.new }
     {
         self.take_in(begins);
-        let count = self.due().min(most);
-        self.look_at_due(chains, begins, count);
+        let count = self.garbage().min(most);
+        self.look_at_garbage(chains, begins, count);
         self.look_at_mixed(chains, begins);
         most - count
     }
 
-    // Takes in the versions of a group with the same witness. Takes no memory.
+    // Takes over the versions of a group with the same pin. Takes no memory.
     fn absorb(&mut self, other: Group)
         requires { CanJoin self.old other }
         ensures joined { TakesGroup self.old other self.new }
-        ensures witness { self.new.witness ≡ self.old.witness }
+        ensures pin { self.new.pin ≡ self.old.pin }
         ensures lists { self.new.lists ≡ self.old.lists + other.lists }
     {
         append(&mut self.lists, other.lists);
-        append(&mut self.due, other.due);
+        append(&mut self.garbage, other.garbage);
         append(&mut self.mixed, other.mixed);
     }
 }
 
-// Takes in which numbers are held, and looks at the first lists that are due, from the last group on: what none of the numbers sees goes.
-// So the list of a commit is looked at before those that others left, and no chain grows while these are many.
+// Takes in which numbers are active, and looks at the first garbage lists, from the last group on: what none of the numbers sees goes. So
+// the list of a commit is looked at before those that others left, and no chain grows while these are many.
 fn reclaim_groups(chains: &mut SortedPages<Chain>, groups: &mut [Group], begins: &[u64])
     requires kept { (last : ℕ) × IsKept (entries chains.old) last }
     requires listed { IsListed (entries chains.old) groups.old }
@@ -250,24 +250,24 @@ fn reclaim_groups(chains: &mut SortedPages<Chain>, groups: &mut [Group], begins:
     }
 }
 
-// The first of the groups with this witness.
-fn place_of(groups: &[Group], witness: u64) -> Option<usize>
-    ensures { result ≡ position (λ g. g.witness == witness) groups.now }
+// The first of the groups with this pin.
+fn place_of(groups: &[Group], pin: u64) -> Option<usize>
+    ensures { result ≡ position (λ g. g.pin == pin) groups.now }
 {
-    groups.iter().position(|group| group.witness == witness)
+    groups.iter().position(|group| group.pin == pin)
 }
 
-// Joins a group to one before it with the same witness. Is there one? Takes no memory.
+// Joins a group to one before it with the same pin. Is there one? Takes no memory.
 fn join(groups: &mut Vec<Group>, i: usize) -> bool
     requires within { i < vec_len groups.old }
     requires few { lists_in groups.old.items < 2 ^ 63 }
     ensures keeps { KeepsListed groups.old.items groups.new.items }
     ensures lists { lists_in groups.new.items ≡ lists_in groups.old.items }
-    ensures first { take i (witnesses groups.new.items) ≡ take i (witnesses groups.old.items) }
+    ensures first { take i (pins groups.new.items) ≡ take i (pins groups.old.items) }
     ensures joined { IsTrue result → vec_len groups.new + 1 ≡ vec_len groups.old }
     ensures apart { result ≡ false → StaysApart groups.old.items i groups.new.items }
 {
-    match place_of(&groups[..i], groups[i].witness) {
+    match place_of(&groups[..i], groups[i].pin) {
         Some(place) => {
             let group = groups.remove(i);
             groups[place].absorb(group);
@@ -277,12 +277,12 @@ fn join(groups: &mut Vec<Group>, i: usize) -> bool
     }
 }
 
-// Takes the empty groups out, and joins those with one witness.
+// Takes the empty groups out, and joins those with the same pin.
 fn join_groups(groups: &mut Vec<Group>)
     requires { lists_in groups.old.items < 2 ^ 63 }
     ensures keeps { KeepsListed groups.old.items groups.new.items }
     ensures lists { lists_in groups.new.items ≤ lists_in groups.old.items }
-    ensures apart { AreApart (witnesses groups.new.items) }
+    ensures apart { AreApart (pins groups.new.items) }
 {
     let mut i = 0;
     while i < groups.len() {
@@ -294,15 +294,15 @@ fn join_groups(groups: &mut Vec<Group>)
     }
 }
 
-// Is a list of some group to be looked at where these numbers are held?
-fn are_due(groups: &[Group], begins: &[u64]) -> bool
-    ensures { result ≡ list_any (λ g. nat_lt 0 (due_for begins.now g)) groups.now }
+// Is a list of some group garbage where these numbers are active?
+fn are_garbage(groups: &[Group], begins: &[u64]) -> bool
+    ensures { result ≡ list_any (λ g. nat_lt 0 (garbage_for begins.now g)) groups.now }
 {
-    groups.iter().any(|group| group.is_due(begins))
+    groups.iter().any(|group| group.is_garbage(begins))
 }
 
-// Looks at the first of the lists that are due where these numbers are held, and drops the versions that none of them sees. Are lists
-// still due? Takes no memory.
+// Looks at the first of the lists that are garbage where these numbers are active, and drops the versions that none of them sees. Is any
+// list still garbage? Takes no memory.
 pub(crate) fn reclaim_versions(
     chains: &mut SortedPages<Chain>,
     groups: &mut Vec<Group>,
@@ -311,12 +311,12 @@ pub(crate) fn reclaim_versions(
     requires kept { (last : ℕ) × IsKept (entries chains.old) last }
     requires listed { IsListed (entries chains.old) groups.old.items }
     requires few { lists_in groups.old.items < 2 ^ 63 }
-    ensures still { result ≡ nat_lt 0 (due_in begins.now groups.new.items) }
+    ensures still { result ≡ nat_lt 0 (garbage_in begins.now groups.new.items) }
     ensures step { ReclaimsStep begins.now (entries chains.old) (entries chains.new) groups.old.items groups.new.items }
     ensures groups { AreLookedAt begins.now (entries chains.new) groups.old.items groups.new.items }
     ensures few { length groups.new.items ≤ length begins.now + 1 }
 {
     reclaim_groups(chains, groups, begins);
     join_groups(groups);
-    are_due(groups, begins)
+    are_garbage(groups, begins)
 }

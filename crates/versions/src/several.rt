@@ -1,4 +1,4 @@
-//! Several versions of one key.
+//! A key that has several versions, or room for more than one.
 ghost use Rattle.std.specs.Prelude.{◌≡◌, ◌==◌, ◌+◌, ◌<◌, ◌≤◌, ℕ, true, length, IfSome, IsOk, OnOk, Some};
 ghost use Rattle.std.specs.Prelude.{option_copied};
 ghost use Rattle.model.specs.Key.{IsValue};
@@ -158,6 +158,7 @@ impl Several {
     pub(crate) fn is_alone(&self) -> bool
         ensures { result ≡ (length self.now.older == 0) }
     {
+        // Shows the view of the newest version, which the chain's view contains.
         let _ = &self.newest;
         self.older.is_empty()
     }
@@ -166,6 +167,7 @@ impl Several {
     pub(crate) fn has(&self, number: u64) -> bool
         ensures { result ≡ has_version number (Some self.now) }
     {
+        // Shows the view of the newest version, which the chain's view contains.
         let _ = &self.newest;
         self.older.iter().any(|version| version.number == number)
     }

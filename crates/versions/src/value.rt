@@ -1,4 +1,4 @@
-//! The bytes of a value.
+//! A value that is kept, of at most `VALUE_MAX` bytes.
 ghost use Rattle.std.specs.Prelude.{◌≡◌, option_map, IfSome};
 ghost use Rattle.model.specs.Key.{IsValue};
 

@@ -1,4 +1,4 @@
-//! The versions of all keys.
+//! The versions of all keys: look-ups and ranges by begin number, installing, and collecting garbage.
 ghost use Rattle.std.specs.Prelude.{◌≡◌, ◌≢◌, T, true, false, nat_lt, ◌^◌, ◌+◌, ◌≤◌, ◌<◌, List, [], ◌∷◌, ◌++◌};
 ghost use Rattle.std.specs.Prelude.{length, IsOk, IfOk, IfSome, OnOk, option_copied};
 ghost use Rattle.model.specs.Key.{IsValue};
@@ -8,7 +8,8 @@ ghost use Rattle.std.specs.FinMap.Entries.{is_sorted};
 ghost use Rattle.model.specs.KeyBytes.{end_bytes};
 ghost use Rattle.model.specs.Map.{value_at, pairs_in_range};
 ghost use Rattle.versions.specs.Chains.{IsPrepared, HasPlaceAt, HasRoom, WhereRoom, find_chain};
-ghost use Rattle.versions.specs.Meaning.{map_seen, newest_of, kept_of, due_of, groups_of, IsSameMeaning, IsInstalled};
+ghost use Rattle.versions.specs.Meaning.{map_seen, newest_of, kept_of};
+ghost use Rattle.versions.specs.Meaning.{garbage_of, groups_of, IsSameMeaning, IsInstalled};
 ghost use Rattle.versions.specs.Meaning.{IsReclaimed};
 ghost use Rattle.versions.specs.Meaning.{IsReclaimedInPart};
 ghost use Rattle.sorted_pages.specs.Pages.{places_in};
@@ -17,7 +18,7 @@ ghost use Rattle.versions.specs.Listings.{IsTrulyMixed};
 ghost use Rattle.versions.specs.Installing.{HasMoreRoom};
 ghost use Rattle.versions.specs.Lent.{range_pairs};
 ghost use Rattle.versions.specs.StandsFor.{StandForSame, StandWithCommit, StandWhereAmong, StandsFor};
-ghost use Rattle.versions.specs.StandsFor.{UnmixedWhereHeld};
+ghost use Rattle.versions.specs.StandsFor.{UnmixedWhereActive};
 
 use crate::chain::Chain;
 use crate::installing::{add_all, make_room};
@@ -40,9 +41,9 @@ use std::mem;
 pub struct Versions {
     // by rising key
     chains: SortedPages<Chain>,
-    // the older versions, each under a number that sees it, so that a reclaim need not look at all keys
+    // the superseded versions by their pins, so that a reclaim need not look at all keys
     groups: Vec<Group>,
-    // at most one list, empty, with room for the older versions that the next commit makes
+    // at most one list, empty, with room for the versions that the next commit supersedes
     listed: LinkedList<Vec<OldVersion>>,
     // the greatest number that was installed
     last: u64,
@@ -132,7 +133,7 @@ impl Versions {
         }
     }
 
-    /// In how many groups the older versions stand. Takes no memory.
+    /// In how many groups the superseded versions stand. Takes no memory.
     pub fn groups(&self) -> usize
         ensures { result ≡ groups_of self.now }
     {
@@ -208,20 +209,20 @@ impl Versions {
     /// A step of what `reclaim` does. Answers whether it has to be called again until all is done. Each key keeps all of its versions, or
     /// those that `reclaim` leaves it.
     ///
-    /// What each commit replaced is a list, of as many versions as it wrote, under a number that sees them. Once that number is none of
-    /// these, the list is due, and a call looks at 2 of the lists that are due, from the last group on: so a new list need not wait for
-    /// those that an old number left. For each version in a list it walks the key's chain once, beside the numbers themselves, and called
-    /// again with the same numbers it ends. Takes no memory: where the lists of two commits come under one number, they are linked. What
-    /// stands under one number is one group, so there are no more groups than numbers and one. Lists that are needed though their number
-    /// isn't held, or doesn't see all of them, are mixed, and looked at by each call; no others are. Where each of the numbers was held at
-    /// the calls before, or is at least that of the last commit, there are none.
+    /// What each commit superseded is a list, of at most as many versions as it wrote, under a number that sees them, its pin. Once the pin
+    /// is none of these numbers, the list is garbage, and a call looks at 2 garbage lists, from the last group on: so a new list need not
+    /// wait for those that an old number left. For each version in a list it walks the key's chain once, against the numbers themselves,
+    /// and called again with the same numbers it ends. Takes no memory: where the lists of two commits come under one pin, they are linked.
+    /// The lists under one pin are one group, so there are no more groups than numbers and one. Lists that are needed though their pin
+    /// isn't active, or doesn't see all of them, are mixed, and each call looks at them; no others are mixed. Where each of the numbers was
+    /// active at the calls before, or is at least that of the last commit, there are none.
     pub fn reclaim_step(&mut self, begins: &[u64]) -> bool
         ensures reclaimed { IsReclaimedInPart self.old self.new begins.now }
         ensures all { result ≡ false → IsReclaimed self.old self.new begins.now }
-        ensures still { result ≡ nat_lt 0 (due_of begins.now self.new) }
+        ensures still { result ≡ nat_lt 0 (garbage_of begins.now self.new) }
         ensures few { groups_of self.new ≤ length begins.now + 1 }
         ensures mixed { AllByRecursion (IsTrulyMixed begins.now) self.new.groups }
-        ensures unmixed { UnmixedWhereHeld begins.now self.old self.new }
+        ensures unmixed { UnmixedWhereActive begins.now self.old self.new }
         ensures stands { StandWhereAmong begins.now self.old self.new }
     {
         reclaim_versions(&mut self.chains, &mut self.groups, begins)
@@ -230,14 +231,15 @@ impl Versions {
     /// Drops the versions that are neither the newest of their keys nor seen from one of the numbers; there may be no number. A deletion
     /// that is the newest version of its key stays.
     ///
-    /// It takes the steps of `reclaim_step` until no list is due. So its time grows with the versions in the lists that are due, each with
-    /// its key's chain beside the numbers, and where lists are mixed, with the versions in them for each step. Takes no memory.
+    /// It takes the steps of `reclaim_step` until no list is garbage. So its time grows with the versions in the garbage lists, for each of
+    /// which it walks its key's chain against the numbers, and where lists are mixed, with the versions in them for each step. Takes no
+    /// memory.
     pub fn reclaim(&mut self, begins: &[u64])
         ensures reclaimed { IsReclaimed self.old self.new begins.now }
-        ensures none_due { due_of begins.now self.new ≡ 0 }
+        ensures no_garbage { garbage_of begins.now self.new ≡ 0 }
         ensures few { groups_of self.new ≤ length begins.now + 1 }
         ensures mixed { AllByRecursion (IsTrulyMixed begins.now) self.new.groups }
-        ensures unmixed { UnmixedWhereHeld begins.now self.old self.new }
+        ensures unmixed { UnmixedWhereActive begins.now self.old self.new }
         ensures stands { StandWhereAmong begins.now self.old self.new }
     {
         'steps: while self.reclaim_step(begins) {}

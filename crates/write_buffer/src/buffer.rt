@@ -1,4 +1,4 @@
-//! The last writes of one transaction.
+//! The last writes of one transaction, by rising key: 64 keys at most.
 ghost use Rattle.std.specs.Prelude.{◌≡◌, ◌≤◌, ◌↔◌, [], length, IsTrue, IsOk, IfOk, IfErr, OnOk, OnErr, Err, Some};
 ghost use Rattle.std.specs.Prelude.{None, is_some, option_map, false};
 ghost use Rattle.model.specs.Entries.{IsAt, IsGap};

@@ -1,4 +1,4 @@
-//! What was written to a key.
+//! What a look-up in the buffer answers.
 
 /// What a transaction last wrote to a key.
 #[derive(Clone, Copy)]

@@ -14,7 +14,7 @@ pub returns-then-session : goal.returns-then-session
 returns-then-session g c =
     subst (Comes IsNewSocket c.args.hub.now c.args.next.now c.args.table.now.slots c.args.refused.now c.args.hub.now c.args.next.now c.args.table.now.slots)
     (sym (more_none c.args.refused.now))
-    (away IsNewSocket c.args.hub.now c.args.next.now c.args.table.now.slots c.args.table.now.slots refl c.args.refused.now c.runs_follow.ensures.none false
+    (away IsNewSocket c.args.hub.now c.args.next.now c.args.table.now.slots c.args.table.now.slots refl c.args.refused.now c.law_runs_follow.ensures.none false
     (λ is. elim c.then-session.branch [
       | then-session-via-then-session w ↦ inr (inl w.if-session.true)
       | then-session-via-else-session+then-len-ge-SESSIONS_MAX w ↦ inl (omega (arith, w.len.ensures, w.if-len-ge-SESSIONS_MAX.true))
@@ -26,7 +26,7 @@ returns-in_default g c =
     subst (Comes IsNewSocket c.args.hub.now c.args.next.now c.args.table.now.slots c.args.refused.now c.args.hub.now c.args.next.now
     c.make_place.new.table.slots) (sym counted)
     (away IsNewSocket c.args.hub.now c.args.next.now c.args.table.now.slots c.make_place.new.table.slots c.make_place.ensures.slots c.args.refused.now
-    c.runs_follow.ensures.none true (λ is. absurd (let bad : true ≡ false = is in cc)))
+    c.law_runs_follow.ensures.none true (λ is. absurd (let bad : true ≡ false = is in cc)))
 
 pub returns-in_default-step : goal.returns-in_default-step
 returns-in_default-step g c =

@@ -9,12 +9,12 @@ loop-left-init g c = (search rules, λ t. none_departed refl)
 
 pub loop-left-preserved : goal.loop-left-preserved
 loop-left-preserved g c =
-    (grind (arith, common_steps), λ t. departed_then [] (c.read.ensures.taken t ∙ sym (append-nil _)) (c.loop-left.invariant.1 t) (c.read.ensures.departed t))
+    (grind (arith, common_steps), λ t. departed_then [] (c.read.ensures.sent t ∙ sym (append-nil _)) (c.loop-left.invariant.1 t) (c.read.ensures.departed t))
 
 pub returns-in-Blocked-clause-departed : goal.returns-in-Blocked-clause-departed
 returns-in-Blocked-clause-departed g c = λ t.
-    departed_then [] (c.read.ensures.taken t ∙ sym (append-nil _)) (c.loop-left.invariant.1 t) (c.read.ensures.departed t)
+    departed_then [] (c.read.ensures.sent t ∙ sym (append-nil _)) (c.loop-left.invariant.1 t) (c.read.ensures.departed t)
 
 pub returns-in-Failed-clause-departed : goal.returns-in-Failed-clause-departed
 returns-in-Failed-clause-departed g c = λ t.
-    departed_then [] (c.read.ensures.taken t ∙ sym (append-nil _)) (c.loop-left.invariant.1 t) (c.read.ensures.departed t)
+    departed_then [] (c.read.ensures.sent t ∙ sym (append-nil _)) (c.loop-left.invariant.1 t) (c.read.ensures.departed t)

@@ -5,8 +5,8 @@ use Rattle.stream_driver.specs.Traffic.{DepartAt, SameCounts}
 abbrev pub invariant-loop-left : goal.invariant-loop-left
 invariant-loop-left g l =
     ((l.left ≤ l.most)
-    × (g.S.Stream.tells → length (g.S.Stream.traffic l.stream).given + l.left ≡ length (g.S.Stream.traffic l.initial.stream).given + l.most)
-    × (g.S.Stream.tells → (g.S.Stream.traffic l.stream).taken ≡ (g.S.Stream.traffic l.initial.stream).taken)
+    × (g.S.Stream.tells → length (g.S.Stream.traffic l.stream).received + l.left ≡ length (g.S.Stream.traffic l.initial.stream).received + l.most)
+    × (g.S.Stream.tells → (g.S.Stream.traffic l.stream).sent ≡ (g.S.Stream.traffic l.initial.stream).sent)
     × SameCounts (g.S.Stream.traffic l.stream) (g.S.Stream.traffic l.initial.stream))
     × (g.S.Stream.tells → DepartAt (g.D.Sectors.moment l.device) (g.S.Stream.traffic l.initial.stream) (g.S.Stream.traffic l.stream))
 

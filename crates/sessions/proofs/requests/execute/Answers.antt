@@ -25,4 +25,4 @@ returns-in-Abort-clause-step g c = rw c.in-Abort.is (executes_flag _ _ _ _ _ _ _
 
 pub returns-in-Ping-clause-step : goal.returns-in-Ping-clause-step
 returns-in-Ping-clause-step g c =
-    rw c.in-Ping.is (executes_flag _ _ _ _ _ _ _ refl (executes_always _ _ _ _ _ _ _ _ c.passes.ensures.ping c.write_brief.ensures))
+    rw c.in-Ping.is (executes_flag _ _ _ _ _ _ _ refl (executes_always _ _ _ _ _ _ _ _ c.law_passes.ensures.ping c.write_brief.ensures))

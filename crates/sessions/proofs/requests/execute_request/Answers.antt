@@ -7,4 +7,4 @@ use Rattle.sessions.specs.SessionStreams.{asks, or_faulty}
 pub returns-in-Err-clause-step : goal.returns-in-Err-clause-step
 returns-in-Err-clause-step g c =
     let fault : asks c.args.request.now ≡ Faulty c.in-Err.refusal = ap or_faulty c.in-Err.ensures.meant in
-    rw fault (executes_flag _ _ _ _ _ _ _ refl (executes_always _ _ _ _ _ _ _ _ (c.passes.ensures.faulty c.in-Err.refusal) c.write_brief.ensures))
+    rw fault (executes_flag _ _ _ _ _ _ _ refl (executes_always _ _ _ _ _ _ _ _ (c.law_passes.ensures.faulty c.in-Err.refusal) c.write_brief.ensures))

@@ -9,7 +9,7 @@ use Rattle.stream_driver.proofs.States.{leads_none, present_in, present_after, s
 
 pub requests-init : goal.requests-init
 requests-init g c =
-    let told = tells_still (leads_none c.args.hub.now c.runs_follow.ensures.none _
+    let told = tells_still (leads_none c.args.hub.now c.law_runs_follow.ensures.none _
     (λ h stands. driven_none (present_in c.args.s stands.state c.requires.1))) in
     record { told = told; adds = λ keeps. AddedNone refl refl }
 
@@ -20,7 +20,7 @@ write_out-requires-clause-present g c =
 pub returns-in-Blocked : goal.returns-in-Blocked
 returns-in-Blocked g c =
     record {
-      driven = tells_two_at c.runs_follow.ensures.follow c.requests.invariant.told c.in-Blocked.ensures.written (λ h k p. p.driven.carried)
+      driven = tells_two_at c.law_runs_follow.ensures.follow c.requests.invariant.told c.in-Blocked.ensures.written (λ h k p. p.driven.carried)
           (λ h k l was stands p q. waits_to_write p (omega arith) q);
       appends = λ keeps. spent keeps (c.requests.invariant.adds keeps) c.in-Blocked.ensures.spends;
     }
@@ -29,7 +29,7 @@ pub returns-in-Failed : goal.returns-in-Failed
 returns-in-Failed g c =
     let some = stands_after (stands_after c.requires.0 c.requests.invariant.told.leads) c.in-Failed.ensures.written.leads in
     record {
-      driven = leaves c.runs_follow.ensures.follow c.requests.invariant.told c.depart.ensures.answer c.in-Failed.ensures.written c.depart.ensures.left
+      driven = leaves c.law_runs_follow.ensures.follow c.requests.invariant.told c.depart.ensures.answer c.in-Failed.ensures.written c.depart.ensures.left
           (λ h k l m stands p q r. gone_writing p (omega arith) q r);
       appends = λ keeps. once_then (spent keeps (c.requests.invariant.adds keeps) c.in-Failed.ensures.spends) (c.depart.ensures.records some);
     }
@@ -38,7 +38,7 @@ pub returns-in_default : goal.returns-in_default
 returns-in_default g c =
     let some = stands_after (stands_after c.requires.0 c.requests.invariant.told.leads) c.in-Empty.ensures.written.leads in
     record {
-      driven = leaves c.runs_follow.ensures.follow c.requests.invariant.told c.depart-in_default.ensures.answer c.in-Empty.ensures.written
+      driven = leaves c.law_runs_follow.ensures.follow c.requests.invariant.told c.depart-in_default.ensures.answer c.in-Empty.ensures.written
           c.depart-in_default.ensures.left
           (λ h k l m stands p q r. gone_closed p (omega arith) q (λ e. c.in_default.not-Open (c.status.ensures ∙ status_seen _ _ stands c.args.s ∙ e)) r);
       appends = λ keeps. once_then (spent keeps (c.requests.invariant.adds keeps) c.in-Empty.ensures.spends) (c.depart-in_default.ensures.records some);
@@ -56,30 +56,30 @@ serve_in_share-requires g c =
 pub returns-in-Blocked-serve_in_share : goal.returns-in-Blocked-serve_in_share
 returns-in-Blocked-serve_in_share g c =
     let some = stands_after c.requires.0 c.requests.invariant.told.leads in
-    let flushed = flushes_out c.runs_follow.ensures.follow c.requests.invariant.told c.in-Empty.ensures.written in
+    let flushed = flushes_out c.law_runs_follow.ensures.follow c.requests.invariant.told c.in-Empty.ensures.written in
     record {
-      driven = tells_two_at c.runs_follow.ensures.follow flushed c.in-Blocked-serve_in_share.ensures.served (λ h l p. p.0.driven.carried)
+      driven = tells_two_at c.law_runs_follow.ensures.follow flushed c.in-Blocked-serve_in_share.ensures.served (λ h l p. p.0.driven.carried)
           (λ h l m was stands p r. waits_to_read p (omega arith) r);
       appends = λ keeps. served_once keeps
           (out keeps (c.requests.invariant.adds keeps) c.in-Empty.ensures.spends (pending_none some c.in-Empty.ensures.written))
-          c.in-Blocked-serve_in_share.ensures.once (c.in-Blocked-serve_in_share.ensures.told keeps);
+          c.in-Blocked-serve_in_share.ensures.once (c.in-Blocked-serve_in_share.ensures.ends keeps);
     }
 
 pub returns-in_default-serve_in_share : goal.returns-in_default-serve_in_share
 returns-in_default-serve_in_share g c =
     let some = stands_after c.requires.0 c.requests.invariant.told.leads in
-    let flushed = flushes_out c.runs_follow.ensures.follow c.requests.invariant.told c.in-Empty.ensures.written in
+    let flushed = flushes_out c.law_runs_follow.ensures.follow c.requests.invariant.told c.in-Empty.ensures.written in
     record {
       driven =
           rw c.depart-in_default-serve_in_share.ensures.answer
-          (tells_three c.runs_follow.ensures.follow flushed c.serve_in_share.ensures.served (tells_still c.depart-in_default-serve_in_share.ensures.left)
+          (tells_three c.law_runs_follow.ensures.follow flushed c.serve_in_share.ensures.served (tells_still c.depart-in_default-serve_in_share.ensures.left)
           (λ h l p. p.0.driven.carried) (λ l m r. r.carried)
           (λ h l m n stands p r t.
           gone_serving p (omega arith) c.serve_in_share.result c.in_default-serve_in_share.not-Served c.in_default-serve_in_share.not-Broke
           c.in_default-serve_in_share.not-Blocked r t));
       appends = λ keeps. once_then
           (served_once keeps (out keeps (c.requests.invariant.adds keeps) c.in-Empty.ensures.spends (pending_none some c.in-Empty.ensures.written))
-          c.serve_in_share.ensures.once (c.serve_in_share.ensures.told keeps))
+          c.serve_in_share.ensures.once (c.serve_in_share.ensures.ends keeps))
           (c.depart-in_default-serve_in_share.ensures.records (stands_after (stands_after some c.in-Empty.ensures.written.leads)
           c.serve_in_share.ensures.served.leads));
     }
@@ -91,7 +91,7 @@ write_out-requires-2-clause-present g c =
 pub returns-in-Blocked-write_out : goal.returns-in-Blocked-write_out
 returns-in-Blocked-write_out g c =
     record {
-      driven = tells_two_at c.runs_follow.ensures.follow c.requests.invariant.told c.in-Blocked-write_out.ensures.written (λ h k p. p.driven.carried)
+      driven = tells_two_at c.law_runs_follow.ensures.follow c.requests.invariant.told c.in-Blocked-write_out.ensures.written (λ h k p. p.driven.carried)
           (λ h k l was stands p q. waits_to_write p (omega arith) q);
       appends = λ keeps. spent keeps (c.requests.invariant.adds keeps) c.in-Blocked-write_out.ensures.spends;
     }
@@ -100,7 +100,8 @@ pub returns-in-Failed-write_out : goal.returns-in-Failed-write_out
 returns-in-Failed-write_out g c =
     let some = stands_after (stands_after c.requires.0 c.requests.invariant.told.leads) c.in-Failed-write_out.ensures.written.leads in
     record {
-      driven = leaves c.runs_follow.ensures.follow c.requests.invariant.told c.depart-in-Failed-write_out.ensures.answer c.in-Failed-write_out.ensures.written
+      driven = leaves c.law_runs_follow.ensures.follow c.requests.invariant.told c.depart-in-Failed-write_out.ensures.answer
+          c.in-Failed-write_out.ensures.written
           c.depart-in-Failed-write_out.ensures.left (λ h k l m stands p q r. gone_writing p (omega arith) q r);
       appends = λ keeps. once_then (spent keeps (c.requests.invariant.adds keeps) c.in-Failed-write_out.ensures.spends)
           (c.depart-in-Failed-write_out.ensures.records some);
@@ -109,7 +110,7 @@ returns-in-Failed-write_out g c =
 pub returns-in-Open-status : goal.returns-in-Open-status
 returns-in-Open-status g c =
     record {
-      driven = tells_two_at c.runs_follow.ensures.follow c.requests.invariant.told c.in-Empty-write_out.ensures.written (λ h k p. p.driven.carried)
+      driven = tells_two_at c.law_runs_follow.ensures.follow c.requests.invariant.told c.in-Empty-write_out.ensures.written (λ h k p. p.driven.carried)
           (λ h k l was stands p q. again p (omega arith) q (sym (c.in-Open-status.ensures ∙ status_seen _ _ stands c.args.s)));
       appends = λ keeps. spent keeps (c.requests.invariant.adds keeps) c.in-Empty-write_out.ensures.spends;
     }
@@ -118,7 +119,7 @@ pub returns-in_default-status : goal.returns-in_default-status
 returns-in_default-status g c =
     let some = stands_after (stands_after c.requires.0 c.requests.invariant.told.leads) c.in-Empty-write_out.ensures.written.leads in
     record {
-      driven = leaves c.runs_follow.ensures.follow c.requests.invariant.told c.depart-in_default-status.ensures.answer c.in-Empty-write_out.ensures.written
+      driven = leaves c.law_runs_follow.ensures.follow c.requests.invariant.told c.depart-in_default-status.ensures.answer c.in-Empty-write_out.ensures.written
           c.depart-in_default-status.ensures.left
           (λ h k l m stands p q r. gone_closed p (omega arith) q (λ e. c.in_default-status.not-Open (c.status-2.ensures ∙ status_seen _ _ stands c.args.s ∙ e))
           r);
@@ -128,20 +129,20 @@ returns-in_default-status g c =
 
 pub requests-preserved : goal.requests-preserved
 requests-preserved g c =
-    let flushed = flushes_out c.runs_follow.ensures.follow c.requests.invariant.told c.in-Empty.ensures.written in
+    let flushed = flushes_out c.law_runs_follow.ensures.follow c.requests.invariant.told c.in-Empty.ensures.written in
     let ready = λ (keeps : g.S.Stream.keeps_share). out keeps (c.requests.invariant.adds keeps) c.in-Empty.ensures.spends
     (pending_none (stands_after c.requires.0 c.requests.invariant.told.leads) c.in-Empty.ensures.written) in
     elim c.in-Served.is [
       | inl e ↦ record {
-        told = tells_two_at c.runs_follow.ensures.follow flushed (rw e at c.serve_in_share.ensures.served) (λ h l p. p.0.driven.carried)
+        told = tells_two_at c.law_runs_follow.ensures.follow flushed (rw e at c.serve_in_share.ensures.served) (λ h l p. p.0.driven.carried)
             (λ h l m stands last p r. out_served p (sym (c.in-Open.ensures ∙ status_seen _ _ stands c.args.s)) r);
         adds = λ keeps. served keeps (ready keeps) (rw e at c.serve_in_share.ensures.once) c.serve_in_share.ensures.ended
-            (c.serve_in_share.ensures.told keeps) (rw e at c.serve_in_share.ensures.once).replied;
+            (c.serve_in_share.ensures.ends keeps) (rw e at c.serve_in_share.ensures.once).replied;
       }
       | inr e ↦ record {
-        told = tells_two_at c.runs_follow.ensures.follow flushed (rw e at c.serve_in_share.ensures.served) (λ h l p. p.0.driven.carried)
+        told = tells_two_at c.law_runs_follow.ensures.follow flushed (rw e at c.serve_in_share.ensures.served) (λ h l p. p.0.driven.carried)
             (λ h l m stands last p r. out_broke p r);
         adds = λ keeps. served keeps (ready keeps) (rw e at c.serve_in_share.ensures.once) c.serve_in_share.ensures.ended
-            (c.serve_in_share.ensures.told keeps) (rw e at c.serve_in_share.ensures.once).replied;
+            (c.serve_in_share.ensures.ends keeps) (rw e at c.serve_in_share.ensures.once).replied;
       }
     ]

@@ -9,6 +9,7 @@ invariant-requests g l =
     record {
       told : LeadsTelling l.fn.s g.S.Stream.tells l.fn.hub (g.S.Stream.traffic l.fn.stream) l.hub (g.S.Stream.traffic l.stream)
           (λ h k. DrivenOut l.fn.s g.S.Stream.tells h (g.S.Stream.traffic l.fn.stream) k (g.S.Stream.traffic l.stream) l._served);
-      adds : g.S.Stream.keeps_share → SoFar g.S.Stream.takes_at_most g.S.Stream.is_told l.fn.s (records_of l.fn.hub) (g.S.Stream.is_told l.fn.stream)
+      adds : g.S.Stream.keeps_share
+          → SoFar g.S.Stream.takes_at_most g.S.Stream.has_ended_share l.fn.s (records_of l.fn.hub) (g.S.Stream.has_ended_share l.fn.stream)
           l.hub l.stream;
     }

@@ -12,25 +12,26 @@ returns-in-Moved-clause-read g c =
     let piece = take c.in-Moved.n c.read-answer.new.into in
     let len : length piece ≡ c.in-Moved.n = grind (arith, common_steps) in
     let within : c.in-Moved.n ≤ c.args.room = grind (arith, common_steps) in
-    tells_call c.runs_follow.ensures.none
-    (read_moved c.in-Moved.n c.in-Moved.ensures.within.0 piece c.step.ensures.step c.step.ensures.ran c.step.ensures.device len within c.in-Moved.ensures.given
-    c.in-Moved.ensures.taken c.in-Moved.ensures.answered)
+    tells_call c.law_runs_follow.ensures.none
+    (read_moved c.in-Moved.n c.in-Moved.ensures.within.0 piece c.step.ensures.step c.step.ensures.ran c.step.ensures.device len within
+    c.in-Moved.ensures.received
+    c.in-Moved.ensures.sent c.in-Moved.ensures.answered)
     (g.D.Sectors.moment c.device.result.now) (ap (λ d. g.D.Sectors.moment d) c.device.ensures) c.in-Moved.ensures.departed
-    (λ t. ([], begins_nothing (pending_of c.args.hub.now c.args.s), c.in-Moved.ensures.taken t ∙ sym (append-nil (g.S.Stream.traffic c.args.stream.now).taken)))
+    (λ t. ([], begins_nothing (pending_of c.args.hub.now c.args.s), c.in-Moved.ensures.sent t ∙ sym (append-nil (g.S.Stream.traffic c.args.stream.now).sent)))
 
 pub returns-in_default-clause-within : goal.returns-in_default-clause-within
 returns-in_default-clause-within g c = reads_within c.read-answer.result _ c.args.room c.read-answer.ensures.within (grind (arith, common_steps))
 
 pub returns-in_default-clause-read : goal.returns-in_default-clause-read
 returns-in_default-clause-read g c =
-    tells_call c.runs_follow.ensures.none
-    (read_none c.runs_follow.ensures.none c.args.room c.read-answer.new.into c.read-answer.ensures.taken c.read-answer.result c.in_default.not-Moved
-    c.read-answer.ensures.given c.read-answer.ensures.answered)
+    tells_call c.law_runs_follow.ensures.none
+    (read_none c.law_runs_follow.ensures.none c.args.room c.read-answer.new.into c.read-answer.ensures.sent c.read-answer.result c.in_default.not-Moved
+    c.read-answer.ensures.received c.read-answer.ensures.answered)
     (g.D.Sectors.moment c.device.result.now) (ap (λ d. g.D.Sectors.moment d) c.device.ensures) c.read-answer.ensures.departed
     (λ t. (
       [],
       begins_nothing (pending_of c.args.hub.now c.args.s),
-      c.read-answer.ensures.taken t ∙ sym (append-nil (g.S.Stream.traffic c.args.stream.now).taken),
+      c.read-answer.ensures.sent t ∙ sym (append-nil (g.S.Stream.traffic c.args.stream.now).sent),
     ))
 
 pub returns-in-Moved-clause-keeps : goal.returns-in-Moved-clause-keeps

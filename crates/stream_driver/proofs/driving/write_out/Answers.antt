@@ -9,7 +9,7 @@ use Rattle.stream_driver.proofs.States.{leads_none, present_in, present_after, s
 
 pub loop-owed-init : goal.loop-owed-init
 loop-owed-init g c =
-    let told = tells_still (leads_none c.args.hub.now c.runs_follow.ensures.none _
+    let told = tells_still (leads_none c.args.hub.now c.law_runs_follow.ensures.none _
     (λ h stands. written_none (present_in c.args.s stands.state c.requires.present.1) (c.requires.pending
     ∙ ap length (pending_seen c.args.hub.now h.hub stands.state c.args.s)))) in
     record { told = told; spends = spends_none c.args.hub.now c.args.stream.now }
@@ -30,7 +30,7 @@ pub loop-owed-preserved : goal.loop-owed-preserved
 loop-owed-preserved g c =
     let some = stands_after c.requires.present.0 c.loop-owed.invariant.told.leads in
     record {
-      told = tells_two_at c.runs_follow.ensures.follow c.loop-owed.invariant.told c.in-Moved.ensures.written (λ h k p. p.moves.carried)
+      told = tells_two_at c.law_runs_follow.ensures.follow c.loop-owed.invariant.told c.in-Moved.ensures.written (λ h k p. p.moves.carried)
           (λ h k l was stands p q. written_then p c.in-Moved.n q);
       spends = spends_then c.loop-owed.invariant.spends (c.in-Moved.ensures.spends some);
     }
@@ -39,7 +39,7 @@ pub returns-in-Blocked : goal.returns-in-Blocked
 returns-in-Blocked g c =
     let some = stands_after c.requires.present.0 c.loop-owed.invariant.told.leads in
     record {
-      written = tells_two_at c.runs_follow.ensures.follow c.loop-owed.invariant.told c.in-Blocked.ensures.written (λ h k p. p.moves.carried)
+      written = tells_two_at c.law_runs_follow.ensures.follow c.loop-owed.invariant.told c.in-Blocked.ensures.written (λ h k p. p.moves.carried)
           (λ h k l was stands p q. written_stopped p _ _ c.loop-owed-test.true q q.why (λ why. why));
       spends = spends_then c.loop-owed.invariant.spends (c.in-Blocked.ensures.spends some);
     }
@@ -48,7 +48,7 @@ pub returns-in-Failed : goal.returns-in-Failed
 returns-in-Failed g c =
     let some = stands_after c.requires.present.0 c.loop-owed.invariant.told.leads in
     record {
-      written = tells_two_at c.runs_follow.ensures.follow c.loop-owed.invariant.told c.in-Failed.ensures.written (λ h k p. p.moves.carried)
+      written = tells_two_at c.law_runs_follow.ensures.follow c.loop-owed.invariant.told c.in-Failed.ensures.written (λ h k p. p.moves.carried)
           (λ h k l was stands p q. written_stopped p _ _ c.loop-owed-test.true q q.why (λ why. why));
       spends = spends_then c.loop-owed.invariant.spends (c.in-Failed.ensures.spends some);
     }

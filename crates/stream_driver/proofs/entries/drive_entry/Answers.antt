@@ -17,7 +17,7 @@ returns-after-drive_over-clause-driven g c =
 
 pub returns-in_default-clause-driven : goal.returns-in_default-clause-driven
 returns-in_default-clause-driven g c =
-    left_alone g.S.Stream.tells g.S.Stream.traffic c.args.hub.now c.args.entry.now c.runs_follow.ensures.none c.in_default.not-Ready
+    left_alone g.S.Stream.tells g.S.Stream.traffic c.args.hub.now c.args.entry.now c.law_runs_follow.ensures.none c.in_default.not-Ready
 
 pub returns-after-drive_over-clause-appends : goal.returns-after-drive_over-clause-appends
 returns-after-drive_over-clause-appends g c keeps = at_most_one c.in-Ready.is (c.drive_over.ensures.appends keeps)

@@ -10,7 +10,7 @@ drive_entry-requires g c = λ alive. c.loop-key.invariant.so_far.sessions.presen
 
 pub loop-key-init : goal.loop-key-init
 loop-key-init g c =
-    record { so_far = entries_none _ _ c.runs_follow.ensures.none c.requires; appends = λ keeps. at_most_none c.args.hub.now _ }
+    record { so_far = entries_none _ _ c.law_runs_follow.ensures.none c.requires; appends = λ keeps. at_most_none c.args.hub.now _ }
 
 pub loop-key-preserved : goal.loop-key-preserved
 loop-key-preserved g c =
@@ -20,7 +20,7 @@ loop-key-preserved g c =
     elim c.match-get_mut.branch [
       | in-Some w ↦
           let old = w.in-Some.entry.now in
-          let driven = entries_driven _ _ c.loop-key.invariant.so_far c.runs_follow.ensures.follow old (sym w.in-Some.ensures.value)
+          let driven = entries_driven _ _ c.loop-key.invariant.so_far c.law_runs_follow.ensures.follow old (sym w.in-Some.ensures.value)
           w.drive_entry.ensures.session w.drive_entry.ensures.gone w.drive_entry.ensures.driven in
           record {
             so_far = rw (w.hub-is, w.table-is) driven;

@@ -2,7 +2,7 @@ use Rattle.versions.proofs.reclaiming.drop_unseen.Given as goal
 use Rattle.sorted_pages.specs.Pages.{entries}
 use Rattle.versions.proofs.Groups.{Dropping}
 
--- those from `left` on were looked after
+-- those from `left` on were looked at
 abbrev pub invariant-loop-left : goal.invariant-loop-left
 invariant-loop-left l = Dropping l.begins (entries l.initial.chains) (entries l.chains) l.initial.versions.items l.versions.items l.left
 

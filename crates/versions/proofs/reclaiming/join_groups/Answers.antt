@@ -2,13 +2,13 @@ use Rattle.versions.proofs.reclaiming.join_groups.Goals as goal
 use Rattle.std.proofs.Common.{◌+◌, List, take, sym, ap, subst, refl, ◌∙◌, arith}
 use Rattle.std.specs.List.{AllByRecursion}
 use Rattle.model.proofs.Elements.{all-remove}
-use Rattle.versions.proofs.Groups.{due-empty, found-remove, keeps-itself, keeps-on}
-use Rattle.versions.proofs.UnderWitnesses.{IsUnder}
-use Rattle.versions.proofs.Witnesses.{apart-next, among-remove, take-remove, lists-remove}
+use Rattle.versions.proofs.Groups.{garbage-empty, found-remove, keeps-itself, keeps-on}
+use Rattle.versions.proofs.UnderPins.{IsUnder}
+use Rattle.versions.proofs.Pins.{apart-next, among-remove, take-remove, lists-remove}
 use Rattle.versions.specs.Groups.{GroupValue}
-use Rattle.versions.specs.Listings.{AreAmong, AreApart, AreMixedSettled, IsSettled, IsTrulyMixed, lists_in, witnesses}
+use Rattle.versions.specs.Listings.{AreAmong, AreApart, AreMixedSettled, IsSettled, IsTrulyMixed, lists_in, pins}
 use Rattle.versions.specs.Reclaiming.{KeepsListed}
-use Rattle.versions.specs.Witnesses.{AreUnderWitnesses}
+use Rattle.versions.specs.Pins.{AreUnderPins}
 
 pub loop-i-init : goal.loop-i-init
 loop-i-init c = record { keeps = keeps-itself c.args.groups.now.items; lists = omega arith; apart = tt }
@@ -22,18 +22,18 @@ loop-i-preserved-then-is_empty c =
     let less = c.remove.ensures.items in
     let keeps : KeepsListed gs hs = record {
       found = found-remove gs hs i g (omega arith) c.index.ensures less (c.if-is_empty.ensures.none refl);
-      due = λ bs. due-empty bs gs hs i g (omega arith) c.index.ensures less (c.if-is_empty.ensures.due refl bs);
-      held = λ bs h. subst (λ (l : List GroupValue). AreAmong bs (witnesses l)) (sym less) (among-remove bs gs i h);
+      garbage = λ bs. garbage-empty bs gs hs i g (omega arith) c.index.ensures less (c.if-is_empty.ensures.garbage refl bs);
+      active = λ bs h. subst (λ (l : List GroupValue). AreAmong bs (pins l)) (sym less) (among-remove bs gs i h);
       truly = λ bs h. subst (λ (l : List GroupValue). AllByRecursion (IsTrulyMixed bs) l) (sym less) (all-remove (IsTrulyMixed bs) gs i h);
       mixed = λ bs es h. subst (λ (l : List GroupValue). AreMixedSettled bs es l) (sym less)
           (all-remove (λ x. AllByRecursion (IsSettled bs es) x.mixed) gs i h);
-      each = λ held v h. subst (λ (l : List GroupValue). AreUnderWitnesses held v l) (sym less) (all-remove (IsUnder held v) gs i h);
+      each = λ active v h. subst (λ (l : List GroupValue). AreUnderPins active v l) (sym less) (all-remove (IsUnder active v) gs i h);
     } in
     record {
       keeps = keeps-on c.args.groups.now.items gs hs c.loop-i.invariant.keeps keeps;
       lists = (let sum = lists-remove gs i g (omega arith) c.index.ensures in let now = ap lists_in less in let
           before = c.loop-i.invariant.lists in omega (arith, sum, now, before));
-      apart = subst AreApart (sym (ap (λ (l : List GroupValue). take i (witnesses l)) less ∙ take-remove (λ (g : GroupValue). g.witness) gs i))
+      apart = subst AreApart (sym (ap (λ (l : List GroupValue). take i (pins l)) less ∙ take-remove (λ (g : GroupValue). g.pin) gs i))
           c.loop-i.invariant.apart;
     }
 
@@ -55,6 +55,6 @@ loop-i-preserved-then-not-join c =
     record {
       keeps = keeps-on c.args.groups.now.items c.loop-i.groups.items c.join.new.groups.items inv.keeps e.keeps;
       lists = omega (arith, e.lists, inv.lists);
-      apart = subst (λ (l : List GroupValue). AreApart (take (c.loop-i.i + 1) (witnesses l))) (sym alone.same)
+      apart = subst (λ (l : List GroupValue). AreApart (take (c.loop-i.i + 1) (pins l))) (sym alone.same)
           (apart-next c.loop-i.groups.items c.loop-i.i (omega arith) inv.apart alone.other);
     }

@@ -3,8 +3,8 @@ use Rattle.std.proofs.Common.{◌≡◌, ◌-◌, sym, subst, arith}
 use Rattle.sorted_pages.specs.Pages.{entries}
 use Rattle.versions.proofs.Groups.{Settling, settling-all, settling-none, settling-settled, settling-step}
 use Rattle.versions.specs.Groups.{GroupValue}
-use Rattle.versions.specs.Listings.{witness_for}
-use Rattle.versions.specs.Meaning.{due_for}
+use Rattle.versions.specs.Listings.{pin_for}
+use Rattle.versions.specs.Meaning.{garbage_for}
 use Rattle.versions.specs.Reclaiming.{DropsFromGroup}
 
 pub reclaim-most-requires : goal.reclaim-most-requires
@@ -19,12 +19,12 @@ loop-left-preserved c =
     let new = entries c.reclaim-most.new.chains in
     let h = c.reclaim-most.new.self in
     let is = sym c.index-groups-left.is in
-    let spare = subst (λ (x : GroupValue). c.reclaim-most.result ≡ c.loop-left.most - due_for bs x) is c.reclaim-most.ensures.spare in
-    let due = subst (λ (x : GroupValue). due_for bs h ≡ due_for bs x - c.loop-left.most) is c.reclaim-most.ensures.due in
-    let group = subst (λ (x : GroupValue). DropsFromGroup new (witness_for bs x.witness) x h) is c.reclaim-most.ensures.group in
+    let spare = subst (λ (x : GroupValue). c.reclaim-most.result ≡ c.loop-left.most - garbage_for bs x) is c.reclaim-most.ensures.spare in
+    let garbage = subst (λ (x : GroupValue). garbage_for bs h ≡ garbage_for bs x - c.loop-left.most) is c.reclaim-most.ensures.garbage in
+    let group = subst (λ (x : GroupValue). DropsFromGroup new (pin_for bs x.pin) x h) is c.reclaim-most.ensures.group in
     settling-settled bs (entries c.args.chains.now) (entries c.loop-left.chains) new c.args.groups.now c.loop-left.groups (c.loop-left.left
     - 1) c.loop-left.left c.requires.kept.0 c.loop-left.most c.reclaim-most.result c.index-groups-left.result h
-    (omega arith) c.index-groups-left.is c.requires.kept.1 spare due c.reclaim-most.ensures.chains group c.reclaim-most.ensures.looked_after
+    (omega arith) c.index-groups-left.is c.requires.kept.1 spare garbage c.reclaim-most.ensures.chains group c.reclaim-most.ensures.looked_after
     c.loop-left.invariant
 
 pub returns : goal.returns

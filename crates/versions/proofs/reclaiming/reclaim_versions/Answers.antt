@@ -5,13 +5,13 @@ use Rattle.std.proofs.lemmas.List.{length-map}
 use Rattle.std.specs.List.{AllByRecursion}
 use Rattle.std.specs.Prelude.{nat_lt}
 use Rattle.sorted_pages.specs.Pages.{entries}
-use Rattle.versions.proofs.Groups.{any-due}
+use Rattle.versions.proofs.Groups.{any-garbage}
 use Rattle.versions.proofs.Listings.{groups-found}
-use Rattle.versions.proofs.Witnesses.{apart-few}
+use Rattle.versions.proofs.Pins.{apart-few}
 use Rattle.versions.specs.Groups.{GroupValue}
-use Rattle.versions.specs.Listings.{AreAmong, AreMixedSettled, IsListed, IsTrulyMixed, witnesses}
-use Rattle.versions.specs.Meaning.{due_in}
-use Rattle.versions.specs.Witnesses.{AreUnderWitnesses}
+use Rattle.versions.specs.Listings.{AreAmong, AreMixedSettled, IsListed, IsTrulyMixed, pins}
+use Rattle.versions.specs.Meaning.{garbage_in}
+use Rattle.versions.specs.Pins.{AreUnderPins}
 
 pub returns : goal.returns
 returns c =
@@ -25,20 +25,20 @@ returns c =
     let long : c.args.groups.now.len ≡ length groups = omega (arith, c.deref_mut.ensures.len, c.reclaim_groups.auto.groups) in
     let are = sym (ap (λ n. take n (groups ++ drop (length groups) c.args.groups.now.items)) long
     ∙ take-append_seam groups (drop (length groups) c.args.groups.now.items)) in
-    let held = joined.held (0 ∷ bs) (subst (λ (l : List GroupValue). AreAmong (0 ∷ bs) (witnesses l)) are looked.held) in
-    let few = apart-few (witnesses c.join_groups.new.groups.items) (0 ∷ bs) c.join_groups.ensures.apart held in
+    let active = joined.active (0 ∷ bs) (subst (λ (l : List GroupValue). AreAmong (0 ∷ bs) (pins l)) are looked.active) in
+    let few = apart-few (pins c.join_groups.new.groups.items) (0 ∷ bs) c.join_groups.ensures.apart active in
     record {
-      still = c.are_due.ensures ∙ any-due bs c.deref.result.now ∙ ap (λ (gs : List GroupValue). nat_lt 0 (due_in bs gs)) c.deref.ensures.value;
-      step = record { due = search rules; chains = step.chains; all = search rules };
+      still = c.are_garbage.ensures ∙ any-garbage bs c.deref.result.now ∙ ap (λ (gs : List GroupValue). nat_lt 0 (garbage_in bs gs)) c.deref.ensures.value;
+      step = record { garbage = search rules; chains = step.chains; all = search rules };
       groups = record {
         listed = groups-found es all c.join_groups.new.groups.items joined.found (subst (IsListed es) are looked.listed);
         lists = search rules;
-        held = held;
+        active = active;
         truly = joined.truly bs (subst (AllByRecursion (IsTrulyMixed bs)) are looked.truly);
         mixed = joined.mixed bs es (subst (AreMixedSettled bs es) are looked.mixed);
         each = λ more now v u stands under. (
-            let old = subst (AreUnderWitnesses more v) (sym c.deref_mut.ensures.value) under in
-            joined.each now u (subst (AreUnderWitnesses now u) are (looked.each more now v u stands old)));
+            let old = subst (AreUnderPins more v) (sym c.deref_mut.ensures.value) under in
+            joined.each now u (subst (AreUnderPins now u) are (looked.each more now v u stands old)));
       };
-      few = omega (arith, few, length-map c.join_groups.new.groups.items (λ (g : GroupValue). g.witness));
+      few = omega (arith, few, length-map c.join_groups.new.groups.items (λ (g : GroupValue). g.pin));
     }

@@ -6,7 +6,7 @@ use Rattle.sorted_pages.specs.Pages.{entries}
 use Rattle.versions.proofs.Lists.{in-append, in-empty, in-none, in-some, settled-list}
 use Rattle.versions.proofs.reclaiming.settle_lists.Goals.{then-not-are_empty, else-not-are_empty}
 use Rattle.versions.specs.Listings.{AreKept, AreSeenFrom, versions_in}
-use Rattle.versions.specs.Witnesses.{IsUnderWitness}
+use Rattle.versions.specs.Pins.{IsUnderPin}
 
 pub settle_first-requires-clause-kept : goal.settle_first-requires-clause-kept
 settle_first-requires-clause-kept c = (c.requires.kept.0, c.loop.invariant.settled.kept c.requires.kept.0 c.requires.kept.1)
@@ -53,5 +53,5 @@ returns-clause-versions c =
       settled = s.settled;
       left = subst (λ vs. AreKept (versions_in c.args.lists.now) vs (entries c.loop.chains)) all s.left_out;
       seen = λ n h. subst (AreSeenFrom n) all (s.seen n h);
-      each = λ held v w h. subst (AllByRecursion (IsUnderWitness held v w)) all (s.each held v w h);
+      each = λ active v w h. subst (AllByRecursion (IsUnderPin active v w)) all (s.each active v w h);
     }

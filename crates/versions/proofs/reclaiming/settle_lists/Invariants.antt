@@ -4,7 +4,7 @@ use Rattle.sorted_pages.specs.Pages.{entries}
 use Rattle.versions.proofs.Lists.{Settled}
 use Rattle.versions.specs.Listings.{AreFilled, versions_in}
 
--- the lists that were put back were looked after, and the others are left
+-- the lists that were put back were looked at, and the others are left
 abbrev pub invariant-loop : goal.invariant-loop
 invariant-loop l = record {
   left : length l.rest + l.counter ≡ l.end;

@@ -28,7 +28,7 @@ pub returns-clause-step : goal.returns-clause-step
 returns-clause-step g c =
     let last = c.last-last.ensures ∙ ap (λ (v : CommittedValue). v.facts.last) c.committed.ensures in
     let is : c.new.result ≡ new_view c.args.self.now.history.committed.facts.last = c.new.ensures.new ∙ ap new_view last in
-    begin_call c.args.self.now _ c.args.s c.numbers_change.ensures (λ m is_map. subst (λ t. HasMade t m []) is (c.new.ensures.made m is_map))
+    begin_call c.args.self.now _ c.args.s c.law_numbers_change.ensures (λ m is_map. subst (λ t. HasMade t m []) is (c.new.ensures.made m is_map))
     (record { log = refl; history = refl })
     (is_some_absent _ (sym c.contains_key.ensures ∙ c.if-contains_key.false)) (running_if _ _ c.is_stopped.ensures c.if-is_stopped.false)
     (omega (arith, c.len.ensures.len))

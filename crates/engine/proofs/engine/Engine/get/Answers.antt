@@ -12,7 +12,7 @@ pub returns-in-Ok : goal.returns-in-Ok
 returns-in-Ok g c =
     let e = c.args.self.now in
     let t = c.in-Some.transaction.now in
-    let held = c.get_mut.follows.holds _ in
+    let active = c.get_mut.follows.holds _ in
     let is = rw c.in-Ok.is at c.get.follows.holds-at-none in
     let begin = begin-after_get t _ c.args.key.bytes.now is.0 in
     let answered = read_answered e t _ c.versions-versions.result.now (Get c.args.key.bytes.now) (Value (option_copied c.in-Ok.value))
@@ -22,7 +22,7 @@ returns-in-Ok g c =
         λ _. tt,
         (
           own_call e _ c.args.s (Get c.args.key.bytes.now) _ t _ (Some (Value (option_copied c.in-Ok.value))) (λ b m r. refl)
-              (record { log = refl; history = refl }) (sym c.in-Some.ensures.value) held.0 held.2 begin answered,
+              (record { log = refl; history = refl }) (sym c.in-Some.ensures.value) active.0 active.2 begin answered,
           refl,
         ),
       ),
@@ -33,7 +33,7 @@ pub returns-in-Err : goal.returns-in-Err
 returns-in-Err g c =
     let e = c.args.self.now in
     let t = c.in-Some.transaction.now in
-    let held = c.get_mut.follows.holds _ in
+    let active = c.get_mut.follows.holds _ in
     let is = rw c.in-Err.is at c.get.follows.holds-at-none in
     let answered = read_refused e t _ c.versions-versions.result.now (Get c.args.key.bytes.now) (λ v. Value (option_copied v)) c.in-Err.fault c.from.result
     (never_get c.args.key.bytes.now) c.from.ensures c.versions-versions.ensures c.in-Err.ensures.reply is in (
@@ -42,7 +42,7 @@ returns-in-Err g c =
         λ _. tt,
         (
           own_call e _ c.args.s (Get c.args.key.bytes.now) _ t _ _ (λ b m r. refl) (record { log = refl; history = refl })
-              (sym c.in-Some.ensures.value) held.0 held.2 (ap (λ (u : View). u.begin) is) answered,
+              (sym c.in-Some.ensures.value) active.0 active.2 (ap (λ (u : View). u.begin) is) answered,
           refl,
         ),
       ),

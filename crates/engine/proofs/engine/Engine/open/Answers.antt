@@ -1,18 +1,18 @@
 use Rattle.engine.proofs.engine.Engine.open.Goals as goal
-use Rattle.std.proofs.Common.{◌≡◌, ◌+◌, ℕ, true, false, [], sym, ap, refl, ◌∙◌, length, arith}
-use Rattle.std.proofs.lemmas.Bool.{both_ways}
+use Rattle.std.proofs.Common.{◌≡◌, ◌+◌, ℕ, true, false, [], sym, ap, refl, ◌∙◌, length, arith, subst, nat_le, le-leb}
+use Rattle.std.proofs.lemmas.Bool.{both_ways, or_right}
 use Rattle.std.proofs.lemmas.Grind.{common_steps}
 use Rattle.std.proofs.lemmas.List.{nil_from_length}
 use Rattle.std.proofs.lemmas.Slice.Zip.{AllZip-long}
-use Rattle.model.specs.Machine.{opened, IsReached}
-use Rattle.model.specs.Map.{KeyMap, IsMap}
+use Rattle.model.specs.Machine.{State, opened, IsReached}
+use Rattle.model.specs.Map.{KeyMap, IsMap, IsInBounds}
 use Rattle.sector.specs.declared.device.Sectors.{Ghosts}
 use Rattle.commit_log.specs.LogImage.{span}
 use Rattle.commit_log.specs.LogState.{is_stopped, used_sectors, sector_count}
 use Rattle.commit_log.specs.Recovery.{map_after}
 use Rattle.pivot_check.specs.Kept.{IsEmpty}
 use Rattle.engine.specs.HistoryValue.{HistoryStandsFor}
-use Rattle.engine.specs.Recovery.{IsStored}
+use Rattle.engine.specs.Recovery.{IsStored, committed_map}
 use Rattle.engine.specs.StandsFor.{StandsFor}
 use Rattle.engine.specs.declared.engine.Engine.{Engine}
 
@@ -49,3 +49,15 @@ returns-in-Ok-over-clause-finds g c keeps =
 
 pub returns-in-Ok-over-clause-idle : goal.returns-in-Ok-over-clause-idle
 returns-in-Ok-over-clause-idle g c m h = nil_from_length m.running (AllZip-long _ _ m.running h.running ∙ ap length c.new.ensures.empty)
+
+-- whichever state it stands for, the map that has committed is the one that was opened
+committed_first : {D : Type 0} {g : Ghosts D} (e : Engine D g) (map : KeyMap) (m : State) → HistoryStandsFor e.history (λ _. true) map [] → StandsFor e m
+    → map ≡ committed_map m
+committed_first e map m over h =
+    let n = length m.history in
+    let sees = or_right (h.active n) (nat_le e.history.versions.last n) (le-leb e.history.versions.last n h.history.versions.within) in
+    sym (over.versions.maps n refl) ∙ h.history.versions.maps n sees
+
+pub returns-in-Ok-over-clause-in_bounds : goal.returns-in-Ok-over-clause-in_bounds
+returns-in-Ok-over-clause-in_bounds g c m h =
+    subst IsInBounds (committed_first _ c.in-Ok.opened.1 m c.in-Ok-over.ensures.stands h) c.over.ensures.in_bounds

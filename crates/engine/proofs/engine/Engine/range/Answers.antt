@@ -14,7 +14,7 @@ returns-in-Ok g c =
     let e = c.args.self.now in
     let t = c.in-Some.transaction.now in
     let q = range_read c.args.range c.args.limit in
-    let held = c.get_mut.follows.holds _ in
+    let active = c.get_mut.follows.holds _ in
     let is = rw c.in-Ok.is at c.range.follows.holds-at-none in
     let begin = begin-after_range t _ _ c.args.range c.args.limit is.0 in
     let answered = read_answered e t _ c.versions-versions.result.now q (Pairs (row_pairs c.in-Ok.rows)) c.versions-versions.ensures c.in-Ok.ensures.reply is.1
@@ -24,7 +24,7 @@ returns-in-Ok g c =
         λ _. tt,
         (
           own_call e _ c.args.s q _ t _ (Some (Pairs (row_pairs c.in-Ok.rows))) (λ b m r. refl) (record { log = refl; history = refl })
-              (sym c.in-Some.ensures.value) held.0 held.2 begin answered,
+              (sym c.in-Some.ensures.value) active.0 active.2 begin answered,
           refl,
         ),
       ),
@@ -36,7 +36,7 @@ returns-in-Err g c =
     let e = c.args.self.now in
     let t = c.in-Some.transaction.now in
     let q = range_read c.args.range c.args.limit in
-    let held = c.get_mut.follows.holds _ in
+    let active = c.get_mut.follows.holds _ in
     let is = rw c.in-Err.is at c.range.follows.holds-at-none in
     let never = never_range c.args.range c.args.limit in
     let answered = read_refused e t _ c.versions-versions.result.now q (λ rows. Pairs (row_pairs rows)) c.in-Err.fault c.from.result never c.from.ensures
@@ -45,7 +45,7 @@ returns-in-Err g c =
         refl,
         λ _. tt,
         (
-          own_call e _ c.args.s q _ t _ _ (λ b m r. refl) (record { log = refl; history = refl }) (sym c.in-Some.ensures.value) held.0 held.2
+          own_call e _ c.args.s q _ t _ _ (λ b m r. refl) (record { log = refl; history = refl }) (sym c.in-Some.ensures.value) active.0 active.2
               (ap (λ (u : View). u.begin) is) answered,
           refl,
         ),

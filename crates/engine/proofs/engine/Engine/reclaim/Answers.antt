@@ -3,7 +3,7 @@ use Rattle.std.proofs.Common.{◌∙◌, ap, subst, rules}
 use Rattle.std.specs.BTreeMap.{values}
 use Rattle.versions.specs.Meaning.{IsReclaimed}
 use Rattle.pivot_check.specs.Kept.{CommittedValue}
-use Rattle.engine.proofs.Reclaims.{are_held, none_below, numbers_are, reclaimed_stands}
+use Rattle.engine.proofs.Reclaims.{are_active, none_below, numbers_are, reclaimed_stands}
 use Rattle.engine.specs.Least.{IsLeast}
 
 pub returns : goal.returns
@@ -21,8 +21,8 @@ returns g c =
         log = search rules;
       };
       versions = λ m h. subst (IsReclaimed e.history.versions new.versions) (numbers m h) c.reclaim.ensures.reclaimed;
-      unmixed = λ m h. c.reclaim.ensures.reclaims.unmixed h.held m.base m.history h.history
-          (are_held e new oldest _ least c.gather_begins-count.ensures.numbers m h);
+      unmixed = λ m h. c.reclaim.ensures.reclaims.unmixed h.active m.base m.history h.history
+          (are_active e new oldest _ least c.gather_begins-count.ensures.numbers m h);
       forgotten = λ m h. none_below e new oldest _ least c.gather_begins-count.ensures.numbers m h new.committed.facts c.reclaim.ensures.reclaims.forgotten;
       kept = c.reclaim.ensures.kept;
     }

@@ -4,8 +4,8 @@ use Rattle.std.proofs.lemmas.Bool.{both_ways}
 use Rattle.std.specs.BTreeMap.{values}
 use Rattle.versions.specs.Meaning.{IsReclaimedInPart}
 use Rattle.pivot_check.specs.Kept.{CommittedValue}
-use Rattle.engine.proofs.Reclaims.{are_held, none_below, none_open, numbers_are, reclaimed_stands}
-use Rattle.engine.specs.HistoryValue.{is_due}
+use Rattle.engine.proofs.Reclaims.{are_active, none_below, none_open, numbers_are, reclaimed_stands}
+use Rattle.engine.specs.HistoryValue.{is_garbage}
 use Rattle.engine.specs.Least.{IsLeast}
 
 pub returns : goal.returns
@@ -23,9 +23,9 @@ returns g c =
         log = search rules;
       };
       versions = λ m h. subst (IsReclaimedInPart e.history.versions new.versions) (numbers m h) c.reclaim_step-2.ensures.reclaimed;
-      still = λ m h. subst (λ ns. c.reclaim_step-2.result ≡ is_due ns new) (numbers m h) c.reclaim_step-2.ensures.still;
-      unmixed = λ m h. c.reclaim_step-2.ensures.reclaims.unmixed h.held m.base m.history h.history
-          (are_held e new oldest _ least c.gather_begins-count.ensures.numbers m h);
+      still = λ m h. subst (λ ns. c.reclaim_step-2.result ≡ is_garbage ns new) (numbers m h) c.reclaim_step-2.ensures.still;
+      unmixed = λ m h. c.reclaim_step-2.ensures.reclaims.unmixed h.active m.base m.history h.history
+          (are_active e new oldest _ least c.gather_begins-count.ensures.numbers m h);
       given_back = search rules;
       forgotten = λ m h. none_below e new oldest _ least c.gather_begins-count.ensures.numbers m h new.committed.facts
           c.reclaim_step-2.ensures.reclaims.forgotten;
@@ -42,5 +42,5 @@ returns-then-is_empty-clause-keeps g c =
     record { stands = stands; log = search rules }
 
 pub returns-then-is_empty-clause-unmixed : goal.returns-then-is_empty-clause-unmixed
-returns-then-is_empty-clause-unmixed g c m h = c.reclaim_step.ensures.reclaims.unmixed h.held m.base m.history h.history
+returns-then-is_empty-clause-unmixed g c m h = c.reclaim_step.ensures.reclaims.unmixed h.active m.base m.history h.history
     (λ n t. absurd (both_ways false refl t))

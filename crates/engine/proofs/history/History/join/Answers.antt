@@ -12,16 +12,16 @@ use Rattle.pivot_check.specs.StandsFor.{StandsFor as CommittedStandsFor, IsRecor
 use Rattle.engine.specs.HistoryValue.{HistoryValue, Joins}
 
 next_joined : (old new : HistoryValue) (t : View) (ws : List KeyWrite) (n : ℕ) → n ≡ old.committed.facts.last + 1 → ws ≡ t.writes
-    → ((held : ℕ → Bool) (base : KeyMap) (history : List Record) (r : Record) → VersionsStandFor old.versions held base history → length history + 1 ≡ n
-    → r.commit ≡ n → r.writes ≡ ws → VersionsStandFor new.versions held base (history ++ r ∷ []))
+    → ((active : ℕ → Bool) (base : KeyMap) (history : List Record) (r : Record) → VersionsStandFor old.versions active base history → length history + 1 ≡ n
+    → r.commit ≡ n → r.writes ≡ ws → VersionsStandFor new.versions active base (history ++ r ∷ []))
     → (IsInReach old.committed.facts t → (history : List Record) → CommittedStandsFor old.committed.facts history → (r : Record) → IsRecordOf t n r
     → CommittedStandsFor new.committed.facts (history ++ r ∷ []))
     → Joins old new t
-next_joined old new t ws n number same adds notes held base history r h reach own =
+next_joined old new t ws n number same adds notes active base history r h reach own =
     let last = h.committed.last in
     let is : IsRecordOf t n r = subst (λ k. IsRecordOf t k r) (sym number) own in
     record {
-      versions = adds held base history r h.versions (omega (arith, last, number)) is.commit (own.writes ∙ sym same);
+      versions = adds active base history r h.versions (omega (arith, last, number)) is.commit (own.writes ∙ sym same);
       committed = notes reach history h.committed r is;
     }
 
@@ -43,5 +43,5 @@ returns-else-not-is_empty-clause-stands c =
     subst (λ (v : HistoryValue). Joins v (record { versions = c.self.inside.versions; committed = c.note.new.self }) c.args.transaction) c.self.view_is
     (next_joined _ _ c.args.transaction c.into_writes-writes.result.items (c.last-number.result
     + 1) (ap (λ n. n + 1) c.last-number.ensures) c.into_writes-writes.ensures.writes
-    (λ held base history r s long commit is. c.read_only_record_follows.ensures c.self.inside.versions held base history r (is ∙ none) s)
+    (λ active base history r s long commit is. c.law_read_only_record_follows.ensures c.self.inside.versions active base history r (is ∙ none) s)
     c.note.ensures.stands_for)

@@ -6,15 +6,15 @@ use Rattle.engine.specs.HistoryValue.{HistoryValue, HistoryStandsFor}
 
 pub returns-clause-reclaims : goal.returns-clause-reclaims
 returns-clause-reclaims c =
-    let before = λ (held : ℕ → Bool) (base : KeyMap) (history : List Record) (h : HistoryStandsFor c.args.self.now held base history).
-    subst (λ (v : HistoryValue). HistoryStandsFor v held base history) (sym c.self.view_is) h in
+    let before = λ (active : ℕ → Bool) (base : KeyMap) (history : List Record) (h : HistoryStandsFor c.args.self.now active base history).
+    subst (λ (v : HistoryValue). HistoryStandsFor v active base history) (sym c.self.view_is) h in
     record {
-      stands = λ held base history h. record {
-        versions = c.reclaim.ensures.stands held base history (before held base history h).versions;
-        committed = c.forget.ensures.stands_for history (before held base history h).committed;
+      stands = λ active base history h. record {
+        versions = c.reclaim.ensures.stands active base history (before active base history h).versions;
+        committed = c.forget.ensures.stands_for history (before active base history h).committed;
       };
       last = search rules;
       oldest = search rules;
       forgotten = c.forget.ensures.forgotten;
-      unmixed = λ held base history h among. c.reclaim.ensures.unmixed held base history (before held base history h).versions among;
+      unmixed = λ active base history h among. c.reclaim.ensures.unmixed active base history (before active base history h).versions among;
     }

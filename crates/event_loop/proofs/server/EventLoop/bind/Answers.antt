@@ -8,7 +8,8 @@ pub invariant_of-result : goal.invariant_of-result
 invariant_of-result g c = let nothing = no_entry c.new-6.result.slots c.new-6.ensures.empty in record {
   room = search rules;
   stands = opened_stands c.args.hub c.requires;
-  serving = begins_serving c.args.hub c.requires c.runs_follow.ensures.none c.new-6.result.slots c.new-6.ensures.empty c.in_ok-lingering.lingering.queue.items
+  serving = begins_serving c.args.hub c.requires c.law_runs_follow.ensures.none c.new-6.result.slots c.new-6.ensures.empty
+      c.in_ok-lingering.lingering.queue.items
       c.in_ok-lingering.ensures;
   sessions = record {
     present = λ key entry e alive. absurd (nothing key entry e);

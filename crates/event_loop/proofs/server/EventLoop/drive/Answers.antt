@@ -6,7 +6,7 @@ use Rattle.stream_driver.proofs.States.{leads_map, stands_after}
 use Rattle.event_loop.proofs.Departing.{drives_serve}
 use Rattle.event_loop.proofs.Entries.{driven_entries, ended_entries, ended_remain, polled_entries, polled_remain}
 use Rattle.event_loop.proofs.Entries.{polled_sessions, remain_numbers, remain_sessions}
-use Rattle.event_loop.proofs.Ordering.{places_after, polled_next, polled_taken, remain_places}
+use Rattle.event_loop.proofs.Ordering.{places_after, polled_next, polled_turned, remain_places}
 use Rattle.event_loop.proofs.Polled.{TakesTurns}
 use Rattle.event_loop.proofs.TableBytes.{drives_bytes}
 use Rattle.event_loop.proofs.Tables.{below_after}
@@ -19,7 +19,7 @@ drive_ready-requires g c =
     polled_sessions c.args.self.now.table.slots c.take_turns.new.table.slots (items c.events.result.now)
     (λ key. (
       _,
-      polled_taken c.args.self.now.hub c.args.self.now.turns c.next_turns-self.result c.args.self.now.table.slots c.make_polled_ready.new.table.slots
+      polled_turned c.args.self.now.hub c.args.self.now.turns c.next_turns-self.result c.args.self.now.table.slots c.make_polled_ready.new.table.slots
           (items c.events.result.now) c.make_polled_ready.ensures c.take_turns.new.table.slots c.take_turns.ensures key,
     ))
     c.args.self.now.hub c.args.self.now.sessions
@@ -32,9 +32,9 @@ invariant_of-self g c =
     let new = c.end_drives.new.table.slots in
     let later = c.drive_ready.new.hub in
     let events = items c.events.result.now in
-    let told = polled_taken old.hub old.turns c.next_turns-self.result old.table.slots c.make_polled_ready.new.table.slots events c.make_polled_ready.ensures
+    let turned = polled_turned old.hub old.turns c.next_turns-self.result old.table.slots c.make_polled_ready.new.table.slots events c.make_polled_ready.ensures
     ready c.take_turns.ensures in
-    let turns : TakesTurns old.table.slots ready events = λ key. (_, told key) in
+    let turns : TakesTurns old.table.slots ready events = λ key. (_, turned key) in
     let ended = c.end_drives.ensures.ended in
     record {
       room = old.room;
@@ -44,7 +44,7 @@ invariant_of-self g c =
             turn_of = polled_next old.hub old.turns c.next_turns-self.result old.table.slots c.make_polled_ready.new.table.slots events
                 c.make_polled_ready.ensures c.next_turns-self.ensures.next;
             ready = ready;
-            told = told;
+            turned = turned;
             driven = driven;
             drives = c.drive_ready.ensures.driven;
             appends = c.drive_ready.ensures.appends _;
@@ -68,13 +68,13 @@ invariant_of-self g c =
 pub returns-clause-drives : goal.returns-clause-drives
 returns-clause-drives g c =
     let old = c.args.self.now in
-    let told = polled_taken old.hub old.turns c.next_turns-self.result old.table.slots c.make_polled_ready.new.table.slots (items old.poller.events)
+    let turned = polled_turned old.hub old.turns c.next_turns-self.result old.table.slots c.make_polled_ready.new.table.slots (items old.poller.events)
     (rw c.events.ensures at c.make_polled_ready.ensures) c.take_turns.new.table.slots c.take_turns.ensures in (
       record {
         turn_of = polled_next old.hub old.turns c.next_turns-self.result old.table.slots c.make_polled_ready.new.table.slots (items old.poller.events)
             (rw c.events.ensures at c.make_polled_ready.ensures) c.next_turns-self.ensures.next;
         ready = c.take_turns.new.table.slots;
-        told = told;
+        turned = turned;
         driven = c.drive_ready.new.table.slots;
         drives = c.drive_ready.ensures.driven;
         appends = c.drive_ready.ensures.appends _;
@@ -91,7 +91,7 @@ returns-clause-keeps g c =
     let turns : TakesTurns old.table.slots ready events =
     λ key. (
       _,
-      polled_taken old.hub old.turns c.next_turns-self.result old.table.slots c.make_polled_ready.new.table.slots events c.make_polled_ready.ensures
+      polled_turned old.hub old.turns c.next_turns-self.result old.table.slots c.make_polled_ready.new.table.slots events c.make_polled_ready.ensures
           ready c.take_turns.ensures key,
     )
     in

@@ -5,8 +5,8 @@ use Rattle.event_loop.specs.Sockets.{departure_of}
 
 pub returns : goal.returns
 returns c = let none = c.new-2.ensures in record {
-  given = λ tells. (tells.begins c.new.result c.new.ensures.calls).0;
-  taken = λ tells. ap (λ l. latest [] l) (tells.begins c.new.result c.new.ensures.calls).1;
+  received = λ tells. (tells.begins c.new.result c.new.ensures.calls).0;
+  sent = λ tells. ap (λ l. latest [] l) (tells.begins c.new.result c.new.ensures.calls).1;
   departed = λ tells. ap (λ l. map departure_of l) (tells.begins c.new.result c.new.ensures.calls).1;
   counts = (
     (λ i. (none i).read_blocked),

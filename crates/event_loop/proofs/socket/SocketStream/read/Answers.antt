@@ -1,16 +1,16 @@
 use Rattle.event_loop.proofs.socket.SocketStream.read.Goals as goal
 use Rattle.std.proofs.Common.{[], ap, refl}
-use Rattle.event_loop.proofs.Socketing.{departed_read, given_read, taken_read}
+use Rattle.event_loop.proofs.Socketing.{departed_read, received_read, sent_read}
 use Rattle.event_loop.specs.Sockets.{traffic_of}
 
-pub returns-clause-given : goal.returns-clause-given
-returns-clause-given g c =
-    given_read c.args.self.now.socket c.read.new.self c.read.new.self c.read.new.into c.read.result c.read.ensures.next refl c.read.ensures.over
+pub returns-clause-received : goal.returns-clause-received
+returns-clause-received g c =
+    received_read c.args.self.now.socket c.read.new.self c.read.new.self c.read.new.into c.read.result c.read.ensures.next refl c.read.ensures.over
     c.read.ensures.happened c.read_answer-answer.result c.read_answer-answer.ensures.bytes
 
-pub returns-clause-taken : goal.returns-clause-taken
-returns-clause-taken g c =
-    taken_read c.args.self.now.socket c.read.new.self c.read.new.self c.read.new.into c.read.result c.read.ensures.next refl c.read.ensures.over
+pub returns-clause-sent : goal.returns-clause-sent
+returns-clause-sent g c =
+    sent_read c.args.self.now.socket c.read.new.self c.read.new.self c.read.new.into c.read.result c.read.ensures.next refl c.read.ensures.over
     c.read.ensures.happened
 
 pub returns-clause-departed : goal.returns-clause-departed

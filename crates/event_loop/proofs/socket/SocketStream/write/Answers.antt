@@ -1,16 +1,16 @@
 use Rattle.event_loop.proofs.socket.SocketStream.write.Goals as goal
 use Rattle.std.proofs.Common.{[], ap, refl}
-use Rattle.event_loop.proofs.Socketing.{departed_written, given_written, taken_written}
+use Rattle.event_loop.proofs.Socketing.{departed_written, received_written, sent_written}
 use Rattle.event_loop.specs.Sockets.{traffic_of}
 
-pub returns-clause-given : goal.returns-clause-given
-returns-clause-given g c =
-    given_written c.args.self.now.socket c.write.new.self c.write.new.self c.args.from.now c.write.result c.write.ensures.next refl c.write.ensures.over
+pub returns-clause-received : goal.returns-clause-received
+returns-clause-received g c =
+    received_written c.args.self.now.socket c.write.new.self c.write.new.self c.args.from.now c.write.result c.write.ensures.next refl c.write.ensures.over
     (g.D.Sectors.moment c.args.device.now) c.write.ensures.happened
 
-pub returns-clause-taken : goal.returns-clause-taken
-returns-clause-taken g c =
-    taken_written c.args.self.now.socket c.write.new.self c.write.new.self c.args.from.now c.write.result c.write.ensures.next refl c.write.ensures.over
+pub returns-clause-sent : goal.returns-clause-sent
+returns-clause-sent g c =
+    sent_written c.args.self.now.socket c.write.new.self c.write.new.self c.args.from.now c.write.result c.write.ensures.next refl c.write.ensures.over
     (g.D.Sectors.moment c.args.device.now) c.write.ensures.happened
     c.write_answer-answer.result c.write_answer-answer.ensures.bytes
 

@@ -5,7 +5,8 @@ use Rattle.last_readers.specs.Readers.{last_reader, NameNoneUpto}
 use Rattle.pivot_check.proofs.Judging.{forgotten}
 use Rattle.pivot_check.proofs.LastSources.{cut_later}
 use Rattle.pivot_check.proofs.Sweeps.{later_in_runs}
-use Rattle.pivot_check.proofs.committed.Committed.forget_step.Goals.{then-are_readers_due, else-are_readers_due}
+use Rattle.pivot_check.proofs.committed.Committed.forget_step.Goals.{then-are_readers_garbage}
+use Rattle.pivot_check.proofs.committed.Committed.forget_step.Goals.{else-are_readers_garbage}
 use Rattle.pivot_check.specs.Inside.{postings_in}
 use Rattle.pivot_check.specs.Kept.{Facts, CommittedValue}
 use Rattle.pivot_check.specs.StandsFor.{StandsFor}
@@ -19,22 +20,22 @@ returns-clause-stands_for c = λ h s.
       last = c.self.inside.last;
     } in
     let was : StandsFor f h = subst (λ (v : CommittedValue). StandsFor v.facts h) (sym c.self.view_is) s in
-    let after = c.forget_step-are_readers_due.new.self.readers in
+    let after = c.forget_step-are_readers_garbage.new.self.readers in
     let cut_to = λ (k : Bytes). cut_later c.self.inside.oldest c.args.oldest (last_reader f.readers k) (last_reader after k) (c.self.invariant.above k)
-    (c.forget_step-are_readers_due.ensures.forgotten k) in
+    (c.forget_step-are_readers_garbage.ensures.forgotten k) in
     forgotten f h was c.max-self-inside.result (omega (arith, c.max-self-inside.ensures)) after (λ k. grind (arith, cut_to k))
-    (postings_in c.forget_step-are_runs_due.new.self.runs) c.forget_step-are_runs_due.ensures.agree
+    (postings_in c.forget_step-are_runs_garbage.new.self.runs) c.forget_step-are_runs_garbage.ensures.agree
 
 pub returns-clause-kept : goal.returns-clause-kept
-returns-clause-kept c = λ none. elim c.if-are_readers_due.branch [
-  | then-are_readers_due w ↦ let is = w.result-is in absurd cc
-  | else-are_readers_due w ↦
-      let same : c.forget_step-are_readers_due.new.self.readers.oldest ≡ c.max-self-inside.result =
-      omega (arith, c.forget_step-are_readers_due.ensures.oldest, c.max-self-inside.ensures, c.self.invariant.together) in
+returns-clause-kept c = λ none. elim c.if-are_readers_garbage.branch [
+  | then-are_readers_garbage w ↦ let is = w.result-is in absurd cc
+  | else-are_readers_garbage w ↦
+      let same : c.forget_step-are_readers_garbage.new.self.readers.oldest ≡ c.max-self-inside.result =
+      omega (arith, c.forget_step-are_readers_garbage.ensures.oldest, c.max-self-inside.ensures, c.self.invariant.together) in
       record {
-        written = later_in_runs c.max-self-inside.result c.forget_step-are_runs_due.new.self.runs
-            (c.forget_step-are_runs_due.ensures.above (sym w.result-is ∙ none));
-        readers = subst (λ n. NameNoneUpto n c.forget_step-are_readers_due.new.self.readers) same
-            (c.forget_step-are_readers_due.ensures.named w.if-are_readers_due.false);
+        written = later_in_runs c.max-self-inside.result c.forget_step-are_runs_garbage.new.self.runs
+            (c.forget_step-are_runs_garbage.ensures.above (sym w.result-is ∙ none));
+        readers = subst (λ n. NameNoneUpto n c.forget_step-are_readers_garbage.new.self.readers) same
+            (c.forget_step-are_readers_garbage.ensures.named w.if-are_readers_garbage.false);
       }
 ]

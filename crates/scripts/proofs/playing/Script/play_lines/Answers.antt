@@ -24,7 +24,7 @@ returns-then-not-branch g c first is_at =
     lift known (λ script. RunSoFar first (lines_of script) c.loop-number.number c.loop-number.self left before held)
     (λ script. Plays first (lines_of script) (Ok tt) before held)
     (λ script so_far. run_ends first (lines_of script) c.loop-number.number c.loop-number.self left before held so_far text after reads
-    c.is_lawful.ensures.lawful) (c.loop-number.invariant first is_at)
+    c.law_is_lawful.ensures.lawful) (c.loop-number.invariant first is_at)
 
 pub returns-in_err-play_text : goal.returns-in_err-play_text
 returns-in_err-play_text g c first is_at =

@@ -4,10 +4,10 @@ use Rattle.commit_log.specs.LogState.{device_of as log_device, is_stopped as is_
 use Rattle.sessions.proofs.Runs.{sound}
 
 pub returns : goal.returns
-returns g c = let law = c.machine_is_serializable.ensures in record {
+returns g c = let law = c.law_machine_is_serializable.ensures in record {
   ran = (
-    sound c.args.self.now law.serializable law.places c.is_stored.ensures,
-    sound _ law.serializable law.places c.is_stored-2.ensures,
+    sound c.args.self.now law.serializable law.places c.law_is_stored.ensures,
+    sound _ law.serializable law.places c.law_is_stored-2.ensures,
     record {
       stands = λ h s. record {
         engine = c.reclaim_step-more.ensures.keeps.stands h.machine s.engine;

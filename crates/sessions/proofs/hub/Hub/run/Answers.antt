@@ -9,9 +9,9 @@ use Rattle.sessions.specs.StandsFor.{event_of}
 use Rattle.sessions.specs.declared.events.Event.TheVariants.{Joined}
 
 pub loop-event-init : goal.loop-event-init
-loop-event-init g c = let law = c.machine_is_serializable.ensures in record {
+loop-event-init g c = let law = c.law_machine_is_serializable.ensures in record {
   device = omega arith;
-  runs = record { choices = []; are = refl; by = no_event c.args.self.now (sound c.args.self.now law.serializable law.places c.is_stored.ensures) };
+  runs = record { choices = []; are = refl; by = no_event c.args.self.now (sound c.args.self.now law.serializable law.places c.law_is_stored.ensures) };
 }
 
 pub loop-event-preserved : goal.loop-event-preserved

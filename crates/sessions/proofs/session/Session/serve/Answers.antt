@@ -1,6 +1,6 @@
 use Rattle.sessions.proofs.session.Session.serve.Goals as goal
 use Rattle.std.proofs.Common.{[], true, drop, refl, sym, ap, ◌∙◌}
-use Rattle.sessions.proofs.RequestSteps.{whole, more, bad, refused_memory, nothing_pending, nothing_came}
+use Rattle.sessions.proofs.RequestSteps.{whole, more, bad, test_refused_memory, nothing_pending, nothing_came}
 use Rattle.sessions.specs.SessionStreams.{may_serve}
 
 pub returns-in-Answered-clause-step : goal.returns-in-Answered-clause-step
@@ -33,7 +33,7 @@ returns-in-Refused-clause-step g c =
     let front = rw c.as_slice-2.ensures at found.2 in
     let emptied = ap (λ xs. drop c.clear-in-Refused.new.self.start xs) c.clear-in-Refused.ensures.empty
     ∙ ap (λ k. drop k []) c.clear-in-Refused.ensures.start in
-    rw (← c.self.view_is) (refused_memory c.args.engine.now c.serve_request.new.engine c.args.s _ _ may
+    rw (← c.self.view_is) (test_refused_memory c.args.engine.now c.serve_request.new.engine c.args.s _ _ may
     found.0 found.1 front found.3 found.4 emptied found.5 found.6 refl)
 
 pub returns-then-is_empty-clause-step : goal.returns-then-is_empty-clause-step

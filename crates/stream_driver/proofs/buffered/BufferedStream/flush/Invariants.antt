@@ -1,10 +1,10 @@
 use Rattle.stream_driver.proofs.buffered.BufferedStream.flush.Given as goal
 use Rattle.std.proofs.Common.{length}
 use Rattle.stream_driver.proofs.Buffering.{FlushedSoFar}
-use Rattle.stream_driver.specs.Buffers.{held_in}
+use Rattle.stream_driver.specs.Buffers.{buffered_in}
 
 abbrev pub invariant-loop-self : goal.invariant-loop-self
 invariant-loop-self g l = FlushedSoFar g.S.Stream.tells g.S.Stream.traffic (g.D.Sectors.moment l.device) l.initial.self l.self
 
 abbrev pub decreases-loop-self : goal.decreases-loop-self
-decreases-loop-self g l = length (held_in l.self.held)
+decreases-loop-self g l = length (buffered_in l.self.buffered)

@@ -13,7 +13,7 @@ returns-after-n-into g c =
     ] in
     record {
       gives = gives_some c.if-n-into.self _ c.in-All.ensures
-          c.in-Moved.ensures.within c.in-Moved.ensures.given c.in-Moved.ensures.taken c.in-Moved.ensures.departed
+          c.in-Moved.ensures.within c.in-Moved.ensures.received c.in-Moved.ensures.sent c.in-Moved.ensures.departed
           (short_moved c.in-Moved.n (length c.args.into.now) c.args.self.now.reads_on c.flush.new.self.reads_on c.if-n-into.self c.in-All.ensures.kept.reads_on
           how);
       why = gives_why c.if-n-into.self _ c.in-All.ensures c.in-Moved.ensures.answered c.if-self.false;
@@ -22,7 +22,7 @@ returns-after-n-into g c =
 pub returns-in_default : goal.returns-in_default
 returns-in_default g c = record {
   gives = gives_some c.flush.new.self.is_short c.read-answer.result c.in-All.ensures
-      c.read-answer.ensures.within c.read-answer.ensures.given c.read-answer.ensures.taken c.read-answer.ensures.departed
+      c.read-answer.ensures.within c.read-answer.ensures.received c.read-answer.ensures.sent c.read-answer.ensures.departed
       (short_still c.args.self.now _ _ c.read-answer.result c.in_default.not-Moved c.in-All.ensures.kept.short);
   why = gives_why c.flush.new.self.is_short c.read-answer.result c.in-All.ensures c.read-answer.ensures.answered c.if-self.false;
 }

@@ -16,7 +16,7 @@ returns-then-most-eq0 g c =
     let none_left : c.args.self.now.share ≡ 0 = omega arith in
     record {
       takes = took_none c.args.self.now c.args.from.now;
-      why = inl (record { none_left = none_left; inner_is = refl; held_is = refl }, refl);
+      why = inl (record { none_left = none_left; inner_is = refl; buffered_is = refl }, refl);
       share = omega arith;
     }
 

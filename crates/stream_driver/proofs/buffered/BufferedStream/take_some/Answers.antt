@@ -2,13 +2,13 @@ use Rattle.stream_driver.proofs.buffered.BufferedStream.take_some.Goals as goal
 use Rattle.std.proofs.Common.{rules, ◌≡◌, ◌<◌, [], length, arith}
 use Rattle.std.proofs.lemmas.Grind.{common_steps}
 use Rattle.stream_driver.proofs.Buffering.{takes_in, takes_on, takes_why}
-use Rattle.stream_driver.specs.Buffers.{held_in, room_in}
+use Rattle.stream_driver.specs.Buffers.{buffered_in, room_in}
 
 pub returns-then-is_empty : goal.returns-then-is_empty
 returns-then-is_empty g c =
-    let none : held_in c.make_room.new.self.held ≡ [] = search rules in
+    let none : buffered_in c.make_room.new.self.buffered ≡ [] = search rules in
     record {
-      takes = takes_on c.in-All.ensures.kept c.in-All.ensures.failed none c.write.ensures.within c.write.ensures.given c.write.ensures.taken
+      takes = takes_on c.in-All.ensures.kept c.in-All.ensures.failed none c.write.ensures.within c.write.ensures.received c.write.ensures.sent
           c.write.ensures.departed;
       why = takes_why g.S.Stream.traffic c.args.self.now c.make_room.new.self c.write.result c.in-All.ensures.why.1 c.write.ensures.answered;
     }
@@ -16,7 +16,7 @@ returns-then-is_empty g c =
 pub returns : goal.returns
 returns g c =
     let some : 0 < length c.args.from.now = grind (arith, common_steps) in
-    let room : 0 < room_in c.make_room.new.self.held = c.in-All.ensures.why.0 in
+    let room : 0 < room_in c.make_room.new.self.buffered = c.in-All.ensures.why.0 in
     let count = c.put.ensures.count in
     record {
       takes = takes_in c.in-All.ensures.kept c.in-All.ensures.failed c.put.new.self (

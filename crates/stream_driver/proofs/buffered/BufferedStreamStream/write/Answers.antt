@@ -1,7 +1,7 @@
 use Rattle.stream_driver.proofs.buffered.BufferedStreamStream.write.Goals as goal
 use Rattle.std.proofs.Common.{◌≡◌, [], ◌∙◌, ap, refl, subst, sym}
 use Rattle.std.proofs.lemmas.List.{append-nil}
-use Rattle.stream_driver.proofs.Buffering.{departed_and_taken, took_same}
+use Rattle.stream_driver.proofs.Buffering.{departed_and_sent, took_same}
 use Rattle.stream_driver.proofs.buffered.BufferedStreamStream.write.Goals.{in-Moved, in_default}
 use Rattle.stream_driver.specs.Counts.{Notes}
 use Rattle.stream_driver.specs.declared.answers.Call.TheVariants.{Write}
@@ -10,9 +10,9 @@ pub returns-clause-departed : goal.returns-clause-departed
 returns-clause-departed g c = λ t.
     let inner : c.match-answer.self.inner ≡ c.take_in_share-answer.new.self.inner =
     elim c.match-answer.branch [ in-Moved w ↦ ap (λ b. b.inner) w.self-is | in_default w ↦ ap (λ b. b.inner) w.self-is ] in
-    let held : c.match-answer.self.held ≡ c.take_in_share-answer.new.self.held =
-    elim c.match-answer.branch [ in-Moved w ↦ ap (λ b. b.held) w.self-is | in_default w ↦ ap (λ b. b.held) w.self-is ] in
-    rw (inner, held) (departed_and_taken [] refl (sym (append-nil _)) (c.take_in_share-answer.ensures.takes.departed t))
+    let buffered : c.match-answer.self.buffered ≡ c.take_in_share-answer.new.self.buffered =
+    elim c.match-answer.branch [ in-Moved w ↦ ap (λ b. b.buffered) w.self-is | in_default w ↦ ap (λ b. b.buffered) w.self-is ] in
+    rw (inner, buffered) (departed_and_sent [] refl (sym (append-nil _)) (c.take_in_share-answer.ensures.takes.departed t))
 
 pub returns-clause-answered : goal.returns-clause-answered
 returns-clause-answered g c =

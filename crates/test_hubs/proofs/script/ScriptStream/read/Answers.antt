@@ -6,8 +6,8 @@ use Rattle.stream_driver.specs.declared.answers.Call.TheVariants.{Read}
 use Rattle.stream_driver.specs.declared.answers.ReadAnswer.TheVariants.{Moved, Blocked, Failed, Ended}
 use Rattle.test_hubs.proofs.Copies.{copied_more}
 
-pub returns-clause-given : goal.returns-clause-given
-returns-clause-given g c = λ _.
+pub returns-clause-received : goal.returns-clause-received
+returns-clause-received g c = λ _.
     let fits : c.next_trouble.new.self.at + c.min-n.result ≤ length c.next_trouble.new.self.input.items = grind (arith, common_steps) in
     copied_more c.next_trouble.new.self.input.items c.next_trouble.new.self.at c.min-n.result c.copy_from_slice.new.self (drop c.min-n.result c.args.into.now)
     c.deref.result.now c.deref.ensures.value fits c.copy_from_slice.ensures.after

@@ -13,11 +13,11 @@ use Rattle.versions.proofs.listing.Group.keep.Goals.{else-is_among-via-else-is_a
 use Rattle.versions.specs.Groups.{GroupValue, Listed}
 use Rattle.versions.specs.Listings.{AreSeenFrom, IsSettled, is_seen_from, versions_in}
 use Rattle.versions.specs.Meaning.{is_among}
-use Rattle.versions.specs.Witnesses.{IsUnderWitness}
+use Rattle.versions.specs.Pins.{IsUnderPin}
 
 pub invariant_of-self : goal.invariant_of-self
 invariant_of-self c =
-    let n = c.self.inside.witness in
+    let n = c.self.inside.pin in
     let lists = c.self.inside.lists in
     let all = ap (λ (g : GroupValue). g.lists) c.self.view_is in
     let more = ap length c.append.ensures ∙ length-append lists c.args.lists in
@@ -34,7 +34,7 @@ returns-then-are_seen_from-clause-versions c =
     let g = c.self.inside in
     let put = ap versions_in c.append.ensures ∙ in-append g.lists c.args.lists in
     let all = λ (P : Listed → Type 0) (h : AllByRecursion P c.args.self.now.versions). (
-    all-seen_more P (versions_in g.lists) (versions_in g.due ++ versions_in g.mixed) (versions_in c.args.lists) (versions_in c.append.new.lists) put
+    all-seen_more P (versions_in g.lists) (versions_in g.garbage ++ versions_in g.mixed) (versions_in c.args.lists) (versions_in c.append.new.lists) put
     (subst (λ (x : GroupValue). AllByRecursion P x.versions) (sym c.self.view_is) h)) in
     let mixed = λ (P : Listed → Type 0) (h : AllByRecursion P c.args.self.now.mixed). (
     subst (λ (x : GroupValue). AllByRecursion P x.mixed) (sym c.self.view_is) h) in
@@ -43,7 +43,7 @@ returns-then-are_seen_from-clause-versions c =
       kept = grind (arith, common_steps);
       settled = λ chains. all (IsSettled c.args.begins.now chains);
       mixed = λ chains h more. mixed (IsSettled c.args.begins.now chains) h;
-      each = λ held v w h hm more. (all (IsUnderWitness held v w) h more, mixed (IsUnderWitness held v w) hm);
+      each = λ active v w h hm more. (all (IsUnderPin active v w) h more, mixed (IsUnderPin active v w) hm);
     }
 
 pub returns-else-is_among-clause-versions : goal.returns-else-is_among-clause-versions
@@ -58,7 +58,7 @@ returns-else-is_among-clause-versions c = record {
 pub returns-else-is_among-clause-truly : goal.returns-else-is_among-clause-truly
 returns-else-is_among-clause-truly c = λ none.
     let bs = c.args.begins.now in
-    let w = c.self.inside.witness in
+    let w = c.self.inside.pin in
     let mixed = c.self.inside.mixed in
     let unfit : (is_among bs w && list_all (is_seen_from w) (versions_in c.args.lists)) ≡ false = elim c.else-is_among.branch [
       | else-is_among-via-then-is_among+else-are_seen_from b ↦ unseen bs w c.args.lists (sym b.are_seen_from.ensures ∙ b.if-are_seen_from.false)

@@ -4,26 +4,26 @@ use Rattle.std.proofs.lemmas.Grind.{common_steps}
 use Rattle.std.proofs.lemmas.Bool.{eqb-true}
 use Rattle.std.specs.List.{AllByRecursion}
 use Rattle.sorted_pages.specs.Pages.{entries}
-use Rattle.versions.proofs.Parts.{all-parts, all-three, due-taken, no-versions, parts-settled}
+use Rattle.versions.proofs.Parts.{all-parts, all-three, garbage-taken, no-versions, parts-settled}
 use Rattle.versions.specs.Groups.{GroupValue}
 use Rattle.versions.specs.Listings.{IsSettled, IsTakenIn, versions_in}
-use Rattle.versions.specs.Witnesses.{IsUnderWitness}
+use Rattle.versions.specs.Pins.{IsUnderPin}
 
 pub returns-clause-group : goal.returns-clause-group
 returns-clause-group c =
     let g = c.self.inside in
     record {
-      witness = search rules;
+      pin = search rules;
       lists = grind (arith, common_steps);
       left = grind (arith, common_steps);
-      each = λ held v w h hm. (
-          let P = IsUnderWitness held v w in
-          let own = all-parts P (versions_in g.lists) (versions_in g.due) (versions_in g.mixed)
+      each = λ active v w h hm. (
+          let P = IsUnderPin active v w in
+          let own = all-parts P (versions_in g.lists) (versions_in g.garbage) (versions_in g.mixed)
           (subst (λ (x : GroupValue). AllByRecursion P x.versions) (sym c.self.view_is) h) in
           let none = no-versions P c.replace-mixed.new.dest (ap length (c.replace-mixed.ensures.after ∙ c.new.ensures)) in
-          c.keep.ensures.versions.each held v w
-          (all-three P (versions_in g.lists) (versions_in g.due) (versions_in c.replace-mixed.new.dest) own.0 own.1 none) none
-          (c.settle_lists.ensures.versions.each held v w
+          c.keep.ensures.versions.each active v w
+          (all-three P (versions_in g.lists) (versions_in g.garbage) (versions_in c.replace-mixed.new.dest) own.0 own.1 none) none
+          (c.settle_lists.ensures.versions.each active v w
           (subst (λ l. AllByRecursion P (versions_in l)) (sym c.replace-mixed.ensures.value) own.2)));
     }
 
@@ -35,10 +35,10 @@ returns-clause-looked_after c =
     let put = c.keep.ensures.versions in
     record {
       settled = λ zero. (
-          let held = subst (IsTakenIn bs) (sym c.self.view_is) c.requires.taken_in in
-          let no_due = sym c.keep.ensures.lists.due ∙ sym (due-taken bs c.keep.new.self c.keep.ensures.taken_in) ∙ zero in
+          let active = subst (IsTakenIn bs) (sym c.self.view_is) c.requires.taken_in in
+          let no_garbage = sym c.keep.ensures.lists.garbage ∙ sym (garbage-taken bs c.keep.new.self c.keep.ensures.taken_in) ∙ zero in
           put.settled es
-          (parts-settled bs es c.self.inside.witness c.self.inside.lists c.self.inside.due c.replace-mixed.new.dest held c.self.invariant.0 no_due none)
+          (parts-settled bs es c.self.inside.pin c.self.inside.lists c.self.inside.garbage c.replace-mixed.new.dest active c.self.invariant.0 no_garbage none)
           c.settle_lists.ensures.versions.settled);
       mixed = put.mixed es none c.settle_lists.ensures.versions.settled;
       truly = grind (arith, common_steps);
@@ -51,10 +51,10 @@ returns-then-is_empty-clause-looked_after c =
     let mixed = no-versions (IsSettled bs es) c.self.inside.mixed (eqb-true _ _ (sym c.if-is_empty.ensures)) in
     record {
       settled = λ zero. (
-          let held = subst (IsTakenIn bs) (sym c.self.view_is) c.requires.taken_in in
-          let no_due = ap (λ (g : GroupValue). g.due) c.self.view_is ∙ sym (due-taken bs c.args.self.now c.requires.taken_in) ∙ zero in
+          let active = subst (IsTakenIn bs) (sym c.self.view_is) c.requires.taken_in in
+          let no_garbage = ap (λ (g : GroupValue). g.garbage) c.self.view_is ∙ sym (garbage-taken bs c.args.self.now c.requires.taken_in) ∙ zero in
           subst (λ (g : GroupValue). AllByRecursion (IsSettled bs es) g.versions) c.self.view_is
-          (parts-settled bs es c.self.inside.witness c.self.inside.lists c.self.inside.due c.self.inside.mixed held c.self.invariant.0 no_due mixed));
+          (parts-settled bs es c.self.inside.pin c.self.inside.lists c.self.inside.garbage c.self.inside.mixed active c.self.invariant.0 no_garbage mixed));
       mixed = subst (λ (g : GroupValue). AllByRecursion (IsSettled bs es) g.mixed) c.self.view_is mixed;
       truly = grind (arith, common_steps);
     }

@@ -6,30 +6,30 @@ use Rattle.versions.proofs.Listings.{part-trans}
 use Rattle.versions.proofs.Parts.{kept-twice}
 
 pub look_at_mixed-requires-clause-kept : goal.look_at_mixed-requires-clause-kept
-look_at_mixed-requires-clause-kept c = (c.requires.kept.0, c.look_at_due.ensures.chains.kept c.requires.kept.0 c.requires.kept.1)
+look_at_mixed-requires-clause-kept c = (c.requires.kept.0, c.look_at_garbage.ensures.chains.kept c.requires.kept.0 c.requires.kept.1)
 
 pub returns-clause-chains : goal.returns-clause-chains
 returns-clause-chains c =
-    let first = c.look_at_due.ensures.chains in
+    let first = c.look_at_garbage.ensures.chains in
     let second = c.look_at_mixed.ensures.chains in
     record {
-      part = part-trans c.args.begins.now (entries c.args.chains.now) (entries c.look_at_due.new.chains) (entries c.look_at_mixed.new.chains)
+      part = part-trans c.args.begins.now (entries c.args.chains.now) (entries c.look_at_garbage.new.chains) (entries c.look_at_mixed.new.chains)
           c.requires.kept.0 c.requires.kept.1 first.part second.part;
       kept = λ last h. second.kept last (first.kept last h);
     }
 
 pub returns-clause-group : goal.returns-clause-group
 returns-clause-group c =
-    let first = c.look_at_due.ensures.group in
+    let first = c.look_at_garbage.ensures.group in
     let second = c.look_at_mixed.ensures.group in
     record {
-      witness = search rules;
+      pin = search rules;
       lists = grind (arith, common_steps);
-      left = kept-twice c.args.begins.now (entries c.look_at_due.new.chains) (entries c.look_at_mixed.new.chains) c.args.self.now.versions
-          c.take_in.new.self.versions c.look_at_due.new.self.versions c.look_at_mixed.new.self.versions
+      left = kept-twice c.args.begins.now (entries c.look_at_garbage.new.chains) (entries c.look_at_mixed.new.chains) c.args.self.now.versions
+          c.take_in.new.self.versions c.look_at_garbage.new.self.versions c.look_at_mixed.new.self.versions
           c.take_in.ensures.found c.look_at_mixed.ensures.chains.part first.left second.left;
-      each = λ held v w h hm. (
-          let one = c.take_in.ensures.each held v w h hm in
-          let two = first.each held v w one.0 one.1 in
-          second.each held v w two.0 two.1);
+      each = λ active v w h hm. (
+          let one = c.take_in.ensures.each active v w h hm in
+          let two = first.each active v w one.0 one.1 in
+          second.each active v w two.0 two.1);
     }

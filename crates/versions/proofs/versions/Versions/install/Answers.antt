@@ -6,13 +6,13 @@ use Rattle.sorted_pages.specs.Pages.{entries}
 use Rattle.versions.proofs.Histories.{stands-installed}
 use Rattle.versions.proofs.Listings.{groups-found, found-last}
 use Rattle.versions.proofs.Lists.{in-first, in-filled}
-use Rattle.versions.proofs.UnderWitnesses.{groups-installed}
-use Rattle.versions.proofs.Witnesses.{lists-push}
+use Rattle.versions.proofs.UnderPins.{groups-installed}
+use Rattle.versions.proofs.Pins.{lists-push}
 use Rattle.versions.specs.Chains.{ChainsValue, find_chain}
 use Rattle.versions.specs.Groups.{GroupValue}
-use Rattle.versions.specs.Listings.{IsListed, lists_in, unwitnessed, versions_in}
+use Rattle.versions.specs.Listings.{IsListed, lists_in, unpinned, versions_in}
 use Rattle.versions.specs.Meaning.{AreInstalled, IsInstalled}
-use Rattle.versions.specs.Witnesses.{IsAddedTo}
+use Rattle.versions.specs.Pins.{IsAddedTo}
 
 whole : (old inside new : ChainsValue) (n : ℕ) (ws : List KeyWrite) → inside ≡ old → AreInstalled inside.chains new.chains n ws → new.last ≡ n
     → IsInstalled old new n ws
@@ -32,7 +32,7 @@ invariant_of-self c =
     ∙ c.self.invariant.2) (c.in-Some.ensures.variant.0 refl) in (
       c.add_all.ensures.chains.kept,
       subst (λ (l : List GroupValue). IsListed (entries c.add_all.new.chains) l) (sym c.in-Ok.ensures.items)
-          (groups-found (entries c.add_all.new.chains) (unwitnessed ls ∷ gs) (gs ++ c.new-2.result
+          (groups-found (entries c.add_all.new.chains) (unpinned ls ∷ gs) (gs ++ c.new-2.result
           ∷ []) (found-last gs ls c.new-2.result (c.new-2.ensures.versions ∙ filled)) (c.add_all.ensures.listed.listed gs c.self.invariant.1)),
       ap versions_in (c.replace-listed.ensures.after ∙ c.new.ensures),
       record {
@@ -57,13 +57,13 @@ pub returns-clause-installed : goal.returns-clause-installed
 returns-clause-installed c = whole c.args.self.now _ _ c.args.n c.args.writes.items c.self.view_is c.add_all.ensures.chains.installed refl
 
 pub returns-clause-stands : goal.returns-clause-stands
-returns-clause-stands c = λ held base history r s long commit is.
+returns-clause-stands c = λ active base history r s long commit is.
     let filled = in-filled c.replace-listed.result c.add_all.new.listed (ap versions_in c.replace-listed.ensures.value
     ∙ c.self.invariant.2) (c.in-Some.ensures.variant.0 refl) in
-    stands-installed c.args.self.now held base history _ c.args.n c.args.writes.items r (returns-clause-installed c)
-    (groups-installed held c.args.self.now _ c.args.n c.new-2.result c.add_all.new.listed.items c.requires.above refl
+    stands-installed c.args.self.now active base history _ c.args.n c.args.writes.items r (returns-clause-installed c)
+    (groups-installed active c.args.self.now _ c.args.n c.new-2.result c.add_all.new.listed.items c.requires.above refl
     (subst (λ (v : ChainsValue). (k : Bytes)
     → IsAddedTo c.args.n (find_chain k v.chains) (find_chain k (entries c.add_all.new.chains))) c.self.view_is c.add_all.ensures.chains.added)
-    (c.in-Ok.ensures.items ∙ ap (λ (v : ChainsValue). v.groups ++ c.new-2.result ∷ []) c.self.view_is) c.new-2.ensures.witness c.new-2.ensures.mixed
+    (c.in-Ok.ensures.items ∙ ap (λ (v : ChainsValue). v.groups ++ c.new-2.result ∷ []) c.self.view_is) c.new-2.ensures.pin c.new-2.ensures.mixed
     (c.new-2.ensures.versions ∙ filled) c.add_all.ensures.listed.followed)
     c.requires.above long commit is s

@@ -17,7 +17,7 @@ reserved : (old now inside new : ChainsValue) → IsRoomier old.chains now.chain
 reserved old now inside new more last groups view same last' groups' =
     let roomier = subst (IsRoomier old.chains) (sym (same ∙ ap (λ (v : ChainsValue). v.chains) view)) more in
     let meaning = same-roomier old new roomier (last' ∙ ap (λ (v : ChainsValue). v.last) view ∙ last) in
-    (meaning, λ held base history. stands-same old held base history new meaning roomier (groups' ∙ ap (λ (v : ChainsValue). v.groups) view ∙ groups))
+    (meaning, λ active base history. stands-same old active base history new meaning roomier (groups' ∙ ap (λ (v : ChainsValue). v.groups) view ∙ groups))
 
 pub loop-write-init : goal.loop-write-init
 loop-write-init c = search (rules, roomier-refl)
@@ -58,9 +58,9 @@ returns-in_err-make_room-clause-same c =
     (more.last ∙ c.loop-write.invariant.last)
 
 pub returns-in_err-make_room-clause-stands : goal.returns-in_err-make_room-clause-stands
-returns-in_err-make_room-clause-stands c = λ held base history.
+returns-in_err-make_room-clause-stands c = λ active base history.
     let more = c.make_room.ensures.roomier in
-    stands-same c.args.self.now held base history _ (returns-in_err-make_room-clause-same c)
+    stands-same c.args.self.now active base history _ (returns-in_err-make_room-clause-same c)
     (roomier-trans c.args.self.now.chains c.loop-write.self.chains c.make_room.new.self.chains c.loop-write.invariant.roomier more.chains)
     (more.groups ∙ c.loop-write.invariant.groups)
 

@@ -1,5 +1,5 @@
 use Rattle.versions.proofs.versions.Versions.reclaim.Given as goal
-use Rattle.versions.specs.Meaning.{due_of, IsSeenSame}
+use Rattle.versions.specs.Meaning.{garbage_of, IsSeenSame}
 use Rattle.versions.specs.StandsFor.{StandWhereAmong}
 
 abbrev pub invariant-steps : goal.invariant-steps
@@ -9,4 +9,4 @@ invariant-steps l = record {
 }
 
 abbrev pub decreases-steps : goal.decreases-steps
-decreases-steps l = due_of l.begins l.self
+decreases-steps l = garbage_of l.begins l.self

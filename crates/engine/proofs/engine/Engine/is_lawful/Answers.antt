@@ -1,7 +1,0 @@
-use Rattle.engine.proofs.engine.Engine.is_lawful.Goals as goal
-
-pub returns-clause-lawful : goal.returns-clause-lawful
-returns-clause-lawful g c m stands = let law = c.machine_is_serializable.ensures.serializable m stands.reached in (stands.reached, law.0, law.1)
-
-pub returns-clause-ordered : goal.returns-clause-ordered
-returns-clause-ordered g c m stands = c.machine_is_serializable.ensures.places m stands.reached

@@ -1,6 +1,0 @@
-use Rattle.event_loop.proofs.server.EventLoop.each_has_its_turn.Goals as goal
-use Rattle.event_loop.proofs.Ordering.{each_soon}
-use Rattle.event_loop.specs.contracts.socket.SocketStream.TheImpl.{ghosts}
-
-pub returns : goal.returns
-returns g c = record { soon = λ old new turn key ready. each_soon ghosts.tells ghosts.traffic old new turn key c.each_comes_nearer.ensures ready }

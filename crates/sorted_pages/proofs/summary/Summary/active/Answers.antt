@@ -1,0 +1,7 @@
+use Rattle.sorted_pages.proofs.summary.Summary.active.Goals as goal
+use Rattle.std.proofs.Common.{refl}
+use Rattle.sorted_pages.proofs.Seen.{active_gaps}
+
+pub returns-clause-summary : goal.returns-clause-summary
+returns-clause-summary g c =
+    active_gaps g.V.Aging.hides g.V.Aging.shows c.args.numbers.now c.args._entries.now c.args.self _ refl refl refl refl c.active.ensures c.requires

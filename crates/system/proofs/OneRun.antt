@@ -1,0 +1,29 @@
+-- The turns that a server takes are turns of its loop.
+use Rattle.std.proofs.Common.{ℕ, List, Bool, Result}
+use Rattle.std.specs.declared.io.Error.{Error}
+use Rattle.commands.specs.Serving.{EndsTurns, TakesTurns}
+use Rattle.commands.specs.Serving.EndsTurns.{Counted, Failed}
+use Rattle.commands.specs.Serving.TakesTurns.{More, None as NoneTaken}
+use Rattle.commands.specs.declared.faults.Fault.{Fault}
+use Rattle.event_loop.specs.AllThatLeft.{TurnsTo}
+use Rattle.event_loop.specs.AllThatLeft.TurnsTo.{Fault as PollFailed, NoTurn, OneMore}
+use Rattle.system.specs.SystemTurns.{HasStopped, TurnedSo}
+use Rattle.system.specs.declared.ports.SystemServer.{SystemServer}
+
+abbrev Turned : SystemServer → Result (Unit {0}) Error → SystemServer → Type 0
+Turned old result new = TurnedSo old.events result new.events
+
+abbrev Stopped : SystemServer → Bool → Type 0
+Stopped server stopped = HasStopped server.events stopped
+
+module _ {E : Type 0} (writes : E → List ℕ → Result (Unit {0}) Error → E → Type 0) {first : SystemServer} {err : E} where
+  taken : {count : ℕ} {last : SystemServer} {told : Bool} {later : E} → TakesTurns Turned Stopped writes first err count last told later
+      → TurnsTo first.events last.events
+  taken NoneTaken = NoTurn
+  taken (More count before after told stopped now done so_far later since turned stops tells) =
+      OneMore before.events after.events (taken since) turned.1
+
+  pub turns_ended : {result : Result (Unit {0}) Fault} {last : SystemServer} {told : E} → EndsTurns Turned Stopped writes first err result last told
+      → TurnsTo first.events last.events
+  turns_ended (Failed count before last told error fault later since failed reports) = PollFailed before.events last.events (taken since) failed.2
+  turns_ended (Counted done last told later since) = taken since

@@ -1,0 +1,16 @@
+use Rattle.test_event_loop.proofs.order.writers_take_turns.Goals as goal
+
+pub invariant_of-events : goal.invariant_of-events
+invariant_of-events g c =
+    let after = c.each_has_a_turn.new.events in
+    record {
+      room = after.room;
+      stands = after.stands;
+      serving = after.serving;
+      sessions = after.sessions;
+      entries = after.entries;
+      numbers = after.numbers;
+      places = after.places;
+      next_place = after.next_place;
+      beside_place = after.beside_place;
+    }

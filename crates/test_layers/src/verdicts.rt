@@ -1,0 +1,344 @@
+//! The check of a commit: worked verdicts, and how much is kept for it.
+use model::{KeyRef, Map, RangeRef};
+use pivot_check::{Committed, Verdict};
+use snapshot::Transaction;
+use std::process::Abort;
+use versions::Versions;
+
+// What a test expects of a commit.
+#[derive(Clone, Copy, Debug, PartialEq, Eq)]
+enum Answer {
+    Clear,
+    // It may commit, and has read what a concurrent one wrote that committed before it.
+    ClearWithTarget,
+    Overwritten(usize),
+    PivotSelf,
+    Pivot(u64),
+}
+
+// Commits as the next number a transaction that is in reach.
+fn commit<R: Abort>(rt: &R, committed: &mut Committed, tx: &Transaction) -> Answer {
+    let last = committed.last();
+    assert!(rt; tx.begin() <= last && committed.oldest() <= tx.begin() && last < u64::MAX);
+    let cleared = match committed.verdict(tx) {
+        Verdict::Clear(cleared) => cleared,
+        Verdict::Overwritten(i) => return Answer::Overwritten(i),
+        Verdict::PivotSelf => return Answer::PivotSelf,
+        Verdict::Pivot(n) => return Answer::Pivot(n),
+    };
+    let has_earlier_target = cleared.has_earlier_target();
+    committed.reserve(tx).expect(rt, "memory");
+    committed.note(tx, last + 1, cleared);
+    if has_earlier_target {
+        Answer::ClearWithTarget
+    } else {
+        Answer::Clear
+    }
+}
+
+// A request of a transaction, by keys of one letter.
+fn read<R: Abort>(rt: &R, tx: &mut Transaction, versions: &Versions, key: &[u8]) {
+    let key = KeyRef::new(key).expect(rt, "a key");
+    assert!(rt; tx.get(versions, key).is_ok());
+}
+
+fn read_range<R: Abort>(rt: &R, tx: &mut Transaction, versions: &Versions, lo: &[u8], hi: &[u8]) {
+    let lo = KeyRef::new(lo).expect(rt, "a key");
+    let hi = KeyRef::new(hi);
+    assert!(rt; tx.range(versions, RangeRef { lo, hi }, 10).is_ok());
+}
+
+fn write<R: Abort>(rt: &R, tx: &mut Transaction, key: &[u8]) {
+    let key = KeyRef::new(key).expect(rt, "a key");
+    assert!(rt; tx.put(key, b"1") == Ok(()));
+}
+
+fn no_versions<R: Abort + AllocGlobal>(rt: &R) -> Versions {
+    Versions::from_map(rt.alloc(), Map::new(rt.alloc())).expect(rt, "memory")
+}
+
+// A transaction that has read some keys and then written others, each of one letter.
+fn transaction<R: Abort + AllocGlobal>(
+    rt: &R,
+    begin: u64,
+    reads: &[u8],
+    writes: &[u8],
+) -> Transaction {
+    let versions = no_versions(rt);
+    let mut tx = Transaction::new(rt.alloc(), begin);
+    for letter in reads {
+        read(rt, &mut tx, &versions, &[*letter]);
+    }
+    for letter in writes {
+        write(rt, &mut tx, &[*letter]);
+    }
+    tx
+}
+
+// A commit: the begin, the keys that are read and those that are written, and the answer.
+type Commit = (u64, &'static [u8], &'static [u8], Answer);
+
+const FIRST_COMMITTER_WINS: [Commit; 4] = [
+    (0, b"", b"jk", Answer::Clear),
+    (0, b"", b"k", Answer::Overwritten(0)),
+    (0, b"", b"ajk", Answer::Overwritten(1)),
+    (1, b"", b"ajk", Answer::Clear),
+];
+
+const WRITE_SKEW: [Commit; 2] = [
+    (0, b"xy", b"x", Answer::Clear),
+    (0, b"xy", b"y", Answer::PivotSelf),
+];
+
+const READ_ONLY_ANOMALY: [Commit; 3] = [
+    (0, b"y", b"y", Answer::Clear),
+    (1, b"xy", b"", Answer::Clear),
+    (0, b"xy", b"x", Answer::PivotSelf),
+];
+
+const READER_FINDS_A_COMMITTED_PIVOT: [Commit; 3] = [
+    (0, b"", b"m", Answer::Clear),
+    (0, b"m", b"k", Answer::ClearWithTarget),
+    (0, b"k", b"", Answer::Pivot(2)),
+];
+
+// That a writer finds a committed pivot behind an earlier reader is harmless.
+const EARLIER_READER_AND_COMMITTED_PIVOT: [Commit; 3] = [
+    (0, b"k", b"", Answer::Clear),
+    (0, b"m", b"k", Answer::Clear),
+    (0, b"", b"m", Answer::Clear),
+];
+
+const EARLIER_READER_IS_HARMLESS: [Commit; 3] = [
+    (0, b"k", b"", Answer::Clear),
+    (0, b"", b"m", Answer::Clear),
+    (0, b"m", b"k", Answer::ClearWithTarget),
+];
+
+const PIVOT_WITH_A_LATER_WRITER_IS_HARMLESS: [Commit; 3] = [
+    (0, b"m", b"k", Answer::Clear),
+    (0, b"k", b"", Answer::ClearWithTarget),
+    (0, b"", b"m", Answer::Clear),
+];
+
+const ONE_AFTER_THE_OTHER: [Commit; 2] = [
+    (0, b"xy", b"x", Answer::Clear),
+    (1, b"xy", b"y", Answer::Clear),
+];
+
+static WORKED: [(&str, &[Commit]); 8] = [
+    ("first committer wins", &FIRST_COMMITTER_WINS),
+    ("write skew", &WRITE_SKEW),
+    ("read-only anomaly", &READ_ONLY_ANOMALY),
+    (
+        "reader finds a committed pivot",
+        &READER_FINDS_A_COMMITTED_PIVOT,
+    ),
+    (
+        "writer finds a committed pivot",
+        &EARLIER_READER_AND_COMMITTED_PIVOT,
+    ),
+    ("earlier reader is harmless", &EARLIER_READER_IS_HARMLESS),
+    (
+        "pivot with a later writer is harmless",
+        &PIVOT_WITH_A_LATER_WRITER_IS_HARMLESS,
+    ),
+    ("one after the other", &ONE_AFTER_THE_OTHER),
+];
+
+// Commits one after the other, each with its answer.
+fn run<R: Abort + AllocGlobal>(rt: &R, committed: &mut Committed, name: &str, commits: &[Commit]) {
+    for (begin, reads, writes, answer) in commits {
+        let tx = transaction(rt, *begin, reads, writes);
+        assert_eq!(rt; commit(rt, committed, &tx), *answer, "{name}");
+    }
+}
+
+#[test]
+fn worked_verdicts(rt: HostRuntime) {
+    for (name, commits) in &WORKED {
+        let mut committed = Committed::new(rt.alloc());
+        run(&rt, &mut committed, name, commits);
+    }
+}
+
+fn phantom<R: Abort + AllocGlobal>(rt: &R, written: &[u8]) -> Transaction {
+    let versions = no_versions(rt);
+    let mut tx = Transaction::new(rt.alloc(), 0);
+    read_range(rt, &mut tx, &versions, b"a", b"c");
+    write(rt, &mut tx, written);
+    tx
+}
+
+#[test]
+fn phantom_skew(rt: HostRuntime) {
+    let mut committed = Committed::new(rt.alloc());
+    assert_eq!(rt;
+        commit(&rt, &mut committed, &phantom(&rt, b"a")),
+        Answer::Clear
+    );
+    assert_eq!(rt;
+        commit(&rt, &mut committed, &phantom(&rt, b"b")),
+        Answer::PivotSelf
+    );
+}
+
+fn forget(committed: &mut Committed, oldest: u64) {
+    if oldest <= committed.last() {
+        committed.forget(oldest);
+    }
+}
+
+const TARGET_AND_PIVOT: [Commit; 2] = [
+    (0, b"", b"m", Answer::Clear),
+    (0, b"m", b"k", Answer::ClearWithTarget),
+];
+
+const READER_OF_THE_PIVOT: [Commit; 1] = [(1, b"k", b"", Answer::Pivot(2))];
+
+#[test]
+fn pivot_after_its_target_was_forgotten(rt: HostRuntime) {
+    let mut committed = Committed::new(rt.alloc());
+    run(&rt, &mut committed, "before", &TARGET_AND_PIVOT);
+    forget(&mut committed, 1);
+    assert_eq!(rt; committed.kept(), 1);
+    run(&rt, &mut committed, "after", &READER_OF_THE_PIVOT);
+}
+
+const READER_AND_PIVOT: [Commit; 2] = [
+    (0, b"k", b"", Answer::Clear),
+    (0, b"m", b"k", Answer::Clear),
+];
+
+const WRITER_OF_THE_TARGET: [Commit; 1] = [(1, b"", b"m", Answer::Clear)];
+
+#[test]
+fn pivot_after_its_neighbour_was_forgotten(rt: HostRuntime) {
+    let mut committed = Committed::new(rt.alloc());
+    run(&rt, &mut committed, "before", &READER_AND_PIVOT);
+    forget(&mut committed, 1);
+    assert_eq!(rt; (committed.oldest(), committed.kept()), (1, 1));
+    run(&rt, &mut committed, "after", &WRITER_OF_THE_TARGET);
+    forget(&mut committed, 2);
+    assert_eq!(rt; committed.kept(), 1);
+}
+
+const WRITER_NOBODY_AND_READER: [Commit; 3] = [
+    (0, b"", b"m", Answer::Clear),
+    (1, b"", b"", Answer::Clear),
+    (2, b"k", b"", Answer::Clear),
+];
+
+/// What is counted is of how many commits something is held: none is of one that read and wrote nothing, nor of those that are forgotten.
+#[test]
+fn commits_are_counted_by_what_is_held(rt: HostRuntime) {
+    let mut committed = Committed::new(rt.alloc());
+    assert_eq!(rt; committed.kept(), 0);
+    run(&rt, &mut committed, "before", &WRITER_NOBODY_AND_READER);
+    for (oldest, held) in [(0u64, 2usize), (1, 1), (2, 1), (3, 0)] {
+        forget(&mut committed, oldest);
+        assert_eq!(rt; (committed.last(), committed.kept()), (3, held));
+    }
+}
+
+// A transaction that writes 64 keys, which no other such one writes.
+fn writer<R: Abort + AllocGlobal>(rt: &R, begin: u64, n: u8) -> Transaction {
+    let mut tx = Transaction::new(rt.alloc(), begin);
+    for k in 0..64u8 {
+        write(rt, &mut tx, &[n, k]);
+    }
+    tx
+}
+
+/// What 40 transactions have written, 64 keys each, is freed by 1,024 keys a call, where each run counts as a key more.
+#[test]
+fn old_runs_go_in_steps(rt: HostRuntime) {
+    let mut committed = Committed::new(rt.alloc());
+    for n in 0..40u8 {
+        let tx = writer(&rt, committed.last(), n);
+        assert!(rt; commit(&rt, &mut committed, &tx) == Answer::Clear);
+    }
+    let last = committed.last();
+    assert!(rt; last == 40 && !committed.forget_step(0));
+    assert!(rt; committed.forget_step(last) && committed.forget_step(last));
+    assert!(rt; !committed.forget_step(last) && !committed.forget_step(last));
+}
+
+// Forgets, a step of it, what is in reach. Whether garbage is left.
+fn forget_step<R: Abort>(rt: &R, committed: &mut Committed, oldest: u64) -> bool {
+    assert!(rt; oldest <= committed.last());
+    committed.forget_step(oldest)
+}
+
+/// Of 40 transactions that wrote 64 keys each the keys of the last are left, and those that a merge had moved, once the others are
+/// forgotten: at once, or in steps, of which a look at all keys takes some.
+#[test]
+fn mixed_runs_are_swept(rt: HostRuntime) {
+    for at_once in [true, false] {
+        let mut committed = Committed::new(rt.alloc());
+        for n in 0..40u8 {
+            let tx = writer(&rt, committed.last(), n);
+            assert!(rt; commit(&rt, &mut committed, &tx) == Answer::Clear);
+        }
+        assert!(rt; committed.last() == 40 && committed.postings() >= 2_560);
+        if at_once {
+            committed.forget(39);
+        }
+        for _ in 0..64 {
+            forget_step(&rt, &mut committed, 39);
+        }
+        assert!(rt; !forget_step(&rt, &mut committed, 39) && committed.postings() <= 160);
+    }
+}
+
+// A transaction that has read what a `writer` wrote, some of its keys, and then written a key that no other one writes.
+fn reader_of<R: Abort + AllocGlobal>(rt: &R, begin: u64, writer: u8, n: u8) -> Transaction {
+    let versions = no_versions(rt);
+    let mut tx = Transaction::new(rt.alloc(), begin);
+    read_range(rt, &mut tx, &versions, &[writer, n % 64], &[writer, 64]);
+    write(rt, &mut tx, &[64, n]);
+    tx
+}
+
+// Commits one that has read what a `writer` wrote, which is found to have committed since its begin.
+fn finds<R: Abort + AllocGlobal>(rt: &R, committed: &mut Committed, writer: u8, n: u8) -> bool {
+    let tx = reader_of(rt, 0, writer, n);
+    commit(rt, committed, &tx) == Answer::ClearWithTarget
+}
+
+// Two thousand written keys, and beside them commits that move the merges of their runs on by few steps each, so that large ones are half
+// done again and again. Each of these has read what one of the others wrote.
+#[test]
+fn while_large_runs_are_merged(rt: HostRuntime) {
+    let mut committed = Committed::new(rt.alloc());
+    for n in 0..33u8 {
+        let tx = writer(&rt, committed.last(), n);
+        assert!(rt; commit(&rt, &mut committed, &tx) == Answer::Clear);
+        assert!(rt; finds(&rt, &mut committed, n, 3 * n));
+        assert!(rt; finds(&rt, &mut committed, n - n / 4, 3 * n + 1));
+        assert!(rt; finds(&rt, &mut committed, n / 2, 3 * n + 2));
+    }
+}
+
+/// Runs of written keys stay few while old transactions come and go, and hold three places at most for each of the two keys that a commit
+/// wrote, of those that aren't forgotten and 64 more; none is left once all are forgotten.
+#[test]
+fn written_keys_stay_in_few_runs(rt: HostRuntime) {
+    let mut committed = Committed::new(rt.alloc());
+    for n in 0..2_000u64 {
+        let reads = [(n % 97) as u8];
+        let writes = [(n % 101) as u8, (n % 89) as u8];
+        let tx = transaction(&rt, n, &reads, &writes);
+        assert!(rt; commit(&rt, &mut committed, &tx) == Answer::Clear);
+        if n % 16 == 15 && n / 2 <= committed.last() {
+            committed.forget_step(n / 2);
+        }
+        assert!(rt; committed.runs() <= 24, "after commit {n}");
+        let in_reach = committed.last().saturating_sub(committed.oldest());
+        let most = (in_reach as usize).saturating_add(64).saturating_mul(6);
+        assert!(rt; committed.postings() <= most, "after commit {n}");
+    }
+    forget(&mut committed, 2_000);
+    assert!(rt; committed.runs() == 0);
+    assert!(rt; committed.postings() == 0);
+}
