@@ -19,8 +19,9 @@ import shutil
 import subprocess
 import time
 
-from ssikvd_harness.arguments import is_long, need, run_harness
-from ssikvd_harness.deviations import Deviation, Tally, expect, is_refused
+from ssikvd_harness.arguments import is_long, run_harness
+from ssikvd_harness.cases import Harness
+from ssikvd_harness.deviations import expect, is_refused
 from ssikvd_harness.log_format import SECTOR, log_image, log_of, map_of
 from ssikvd_harness.server import Server, check, create, folder, run
 from ssikvd_harness.settings import PATIENCE, PROGRAM
@@ -369,17 +370,11 @@ def show_that_they_fail(tally):
             expect(any(found), "it isn't reported")
 
 
-def main():
-    need(PROGRAM)
-    tally = Tally("at_rest")
-    for part in (one_bit, changed_images, two_ships, two_befores, show_that_they_fail):
-        try:
-            part(tally)
-        except Deviation as found:
-            with tally.run(part.__name__):
-                raise found
-    return 0 if tally.end() else 1
+class AtRest(Harness):
+    NAME = "at_rest"
+    NEEDS = (PROGRAM,)
+    PARTS = (one_bit, changed_images, two_ships, two_befores, show_that_they_fail)
 
 
 if __name__ == "__main__":
-    run_harness(main)
+    run_harness()

@@ -4,8 +4,8 @@
 
 A promise is a section that begins with lines behind `> `. Behind them stand what carries it (functions with their clauses and files), its definitions
 (`crate/File`, and of each its name, the lines of its declaration without comments, and what it says), the wrong bodies that are refused
-(`crate/name`, whose text to be replaced stands in the file that it names), and what passes. A layer is a paragraph that begins with its crates; what it
-names are functions, types, clauses and definitions of these, and each crate of the program is in one. The promise itself is that of the README.
+(`crate/name`, whose text to be replaced stands in the file that it names), and what passes. A layer is a row of the last table, with its crates and what
+to look at: functions, types, clauses and definitions of these. Each crate of the program is in one. The promise itself is that of the README.
 
 No clause of the crates has more than 140 columns, or more than two lines of them: what is longer has a name.
 """
@@ -17,7 +17,8 @@ from pathlib import Path
 
 from handles import PROGRAM, crates
 from ssikvd_harness.arguments import run_harness
-from ssikvd_harness.deviations import Tally, expect
+from ssikvd_harness.cases import Harness
+from ssikvd_harness.deviations import expect
 from ssikvd_harness.settings import TOP, text_of
 
 PAGE = "docs/PROOFS.md"
@@ -65,8 +66,9 @@ def promises(text):
 
 
 def layers(text):
-    """The paragraphs of the layers, each its crates and what stands behind them."""
-    return [(re.findall(r"`(\w+)`", head), below) for head, below in re.findall(r"^\*\*((?:`\w+`(?:, )?)+)\.\*\*(.*(?:\n.+)*)", text, re.M)]
+    """The rows of the layers, each its crates and what to look at in them."""
+    table = text.partition("| Crates | What to look at |\n")[2].partition("\n\n")[0]
+    return [(re.findall(r"`(\w+)`", head), below) for head, below in re.findall(r"^\| ((?:`\w+`(?:, )?)+) \|(.*)\|$", table, re.M)]
 
 
 def definitions_in(text):
@@ -206,30 +208,37 @@ def options(parser):
     parser.add_argument("--write", action="store_true", help="write the lengths of the definitions into the page")
 
 
-def main(asked):
-    text = text_of(PAGE)
-    if asked.write:
-        Path(TOP, PAGE).write_text(written(text), encoding="utf-8")
-        return 0
-    tally = Tally("audit")
-    widths(tally)
-    with tally.run("the promise of the README"):
-        headline = words("".join(line[2:] + " " for line in text.partition("\n## ")[0].splitlines() if line.startswith("> ")))
-        expect(headline and headline in words(text_of("README.md").replace("\n> ", "\n")), "it isn't that of the page")
-    with tally.run("the definitions of an hour"):
-        last, number, lines = in_an_hour(text)
-        expect(f"Up to \"{last}\" they are {number} definitions of {lines} lines" in words(text), f"they are {number} of {lines} lines")
-    wrong_bodies(tally, text.partition("## The promises")[0])
-    for head, below in promises(text):
-        promise(tally, head, below)
-    found = layers(text)
-    with tally.run("the layers"):
-        missing = set(crates()) - {crate for those, _ in found for crate in those} - {PROGRAM}
-        expect(not missing, f"none has {sorted(missing)}")
-    for those, below in found:
-        layer(tally, those, below)
-    return 0 if tally.end() else 1
+def instead(asked):
+    """Writes the page where that is asked for."""
+    if not asked.write:
+        return None
+    Path(TOP, PAGE).write_text(written(text_of(PAGE)), encoding="utf-8")
+    return 0
+
+
+class Audit(Harness):
+    NAME = "audit"
+    NEEDS = ()
+
+    def test_audit(self):
+        tally, text = self.tally, text_of(PAGE)
+        widths(tally)
+        with tally.run("the promise of the README"):
+            headline = words("".join(line[2:] + " " for line in text.partition("\n## ")[0].splitlines() if line.startswith("> ")))
+            expect(headline and headline in words(text_of("README.md").replace("\n> ", "\n")), "it isn't that of the page")
+        with tally.run("the definitions of an hour"):
+            last, number, lines = in_an_hour(text)
+            expect(f"Up to \"{last}\" they are {number} definitions of {lines} lines" in words(text), f"they are {number} of {lines} lines")
+        wrong_bodies(tally, text.partition("## The promises")[0])
+        for head, below in promises(text):
+            promise(tally, head, below)
+        found = layers(text)
+        with tally.run("the layers"):
+            missing = set(crates()) - {crate for those, _ in found for crate in those} - {PROGRAM}
+            expect(not missing, f"none has {sorted(missing)}")
+        for those, below in found:
+            layer(tally, those, below)
 
 
 if __name__ == "__main__":
-    run_harness(main, options)
+    run_harness(options, instead)

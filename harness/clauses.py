@@ -13,12 +13,12 @@ import functools
 import os
 import re
 from dataclasses import dataclass, field
-from pathlib import Path
 
 from handles import crates
-from reading import Untrue, braced, handed_on, imports, words
+from reading import Untrue, braced, handed_on, imports, words, write_page
 from ssikvd_harness.arguments import run_harness
-from ssikvd_harness.deviations import Tally, expect
+from ssikvd_harness.cases import Harness
+from ssikvd_harness.deviations import expect
 from ssikvd_harness.settings import TOP, text_of
 
 PAGE = "docs/CLAUSES.md"
@@ -271,21 +271,19 @@ def options(parser):
     parser.add_argument("--write", action="store_true", help="write the page")
 
 
-def main(asked):
-    try:
-        if asked.write:
-            text = page()
-            Path(TOP, PAGE).write_text(text, encoding="utf-8")
-            print(f"clauses: {PAGE} is written: {len(text.splitlines())} lines")
-            return 0
-        tally = Tally("clauses")
-        count, lines = check(tally), page().count("\n")
-    except Untrue as untrue:
-        print(f"clauses: {untrue}")
-        return 1
-    print(f"  {PAGE} can be written: {count} functions, {lines} lines")
-    return 0 if tally.end() else 1
+def instead(asked):
+    """Writes the page where that is asked for."""
+    return write_page("clauses", PAGE, page) if asked.write else None
+
+
+class Clauses(Harness):
+    NAME = "clauses"
+    NEEDS = ()
+
+    def test_clauses(self):
+        count, lines = check(self.tally), page().count("\n")
+        print(f"  {PAGE} can be written: {count} functions, {lines} lines")
 
 
 if __name__ == "__main__":
-    run_harness(main, options)
+    run_harness(options, instead)

@@ -19,10 +19,11 @@ import sys
 import threading
 import time
 
-from ssikvd_harness.arguments import is_long, need, run_harness
+from ssikvd_harness.arguments import is_long, run_harness
+from ssikvd_harness.cases import Harness
 from ssikvd_harness.connection import Connection
 from ssikvd_harness.cutting import Cutting
-from ssikvd_harness.deviations import Deviation, Tally, expect, missing
+from ssikvd_harness.deviations import Deviation, expect, missing
 from ssikvd_harness.examples import export, load, once, pool, simple_client, transfer, walk
 from ssikvd_harness.frames import OK, frame
 from ssikvd_harness.limits import OPEN_MAX
@@ -500,16 +501,18 @@ def redis_py(tally):
             expect("invalid literal" in str(found), f"it gave {found}")
 
 
-def main():
-    need(PROGRAM)
-    tally = Tally("clients")
-    transfers(tally, simple_client.Client, "simple_client.py")
-    among_others(tally, simple_client.Client, "simple_client.py")
-    parts = [pools, walks, additions, additions_over_kills, copies, refusals, redis_tools, redis_py, *([into_postgres] if is_long() else [])]
-    for part in parts:
-        part(tally)
-    return 0 if tally.end() else 1
+class Clients(Harness):
+    NAME = "clients"
+    NEEDS = (PROGRAM,)
+    PARTS = (pools, walks, additions, additions_over_kills, copies, refusals, redis_tools, redis_py)
+    PARTS_OF_LONG = (into_postgres,)
+
+    def test_transfers(self):
+        transfers(self.tally, simple_client.Client, "simple_client.py")
+
+    def test_among_others(self):
+        among_others(self.tally, simple_client.Client, "simple_client.py")
 
 
 if __name__ == "__main__":
-    run_harness(main)
+    run_harness()

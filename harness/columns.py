@@ -7,7 +7,8 @@ and what else is long in `specs` and `proofs` before an operator or behind a com
 import re
 from pathlib import Path
 
-from ssikvd_harness.arguments import FORMS, run_harness
+from ssikvd_harness.arguments import FORMS, asked, run_harness
+from ssikvd_harness.cases import Harness
 
 TOP = Path(__file__).resolve().parent.parent
 MOST = {"specs": 120, "proofs": 160, "src": 140}
@@ -124,22 +125,28 @@ def options(parser):
     parser.add_argument("files", nargs="*", metavar="FILE", help="these files alone; quick and long are none, and stand for all of them")
 
 
-def main(asked):
+def lines_too_wide(asked):
+    """How many files there are, and which of their lines are too wide, once those that can be broken were broken where that is asked for."""
     every = [it for kind in MOST for it in sorted((TOP / "crates").glob(f"*/{kind}/**/*.{'rt' if kind == 'src' else 'antt'}"))]
     files = [Path(name) for name in asked.files if name not in FORMS] or every
-    count = 0
+    wide = []
     for file in files:
         kind, lines = kind_of(file), file.read_text(encoding="utf-8").split("\n")
         if asked.write:
             lines = [new for line in with_comments(lines, MOST[kind]) for new in mended(line, kind)]
             file.write_text("\n".join(lines), encoding="utf-8")
-        for number, line in enumerate(lines, 1):
-            if len(line) > most_of(line, kind):
-                print(f"{file}:{number}: {len(line)} columns")
-                count += 1
-    print(f"columns: {len(files)} files, {count or 'no'} lines that are too wide")
-    return 1 if count else 0
+        wide += [f"{file}:{number}: {len(line)} columns" for number, line in enumerate(lines, 1) if len(line) > most_of(line, kind)]
+    return len(files), wide
+
+
+class Columns(Harness):
+    NEEDS = ()
+
+    def test_columns(self):
+        count, wide = lines_too_wide(asked(options))
+        print(*wide, f"columns: {count} files, {len(wide) or 'no'} lines that are too wide", sep="\n")
+        self.assertEqual(wide, [])
 
 
 if __name__ == "__main__":
-    run_harness(main, options, has_form=False)
+    run_harness(options, has_form=False)

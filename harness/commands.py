@@ -13,9 +13,10 @@ import shutil
 import socket
 import subprocess
 
-from ssikvd_harness.arguments import is_long, need, run_harness
+from ssikvd_harness.arguments import is_long, run_harness
+from ssikvd_harness.cases import Harness
 from ssikvd_harness.connection import Connection
-from ssikvd_harness.deviations import Tally, expect
+from ssikvd_harness.deviations import expect
 from ssikvd_harness.failing_calls import DEVICE, LATE, OPENING, POLL, Refusals
 from ssikvd_harness.frames import OK, frame
 from ssikvd_harness.limits import KEY_MAX, LARGEST_REPLY, SESSIONS_MAX, VALUE_MAX, WRITES_MAX
@@ -748,18 +749,35 @@ def whole_lines(tally):
                 expect(len(server.pieces) == 1, f"its first line came in {len(server.pieces)} pieces")
 
 
-def main():
-    need(PROGRAM, SHIM, TRACER)
-    holds = True
-    for name, parts in (
-            ("command lines", [command_lines]), ("data files and addresses", [create_at_bounds, data_files, read_only_copies, worked_log, compactions, late_copies, failing_files, names, file_in_folder]),
-            ("output that fails", [failing_output]), ("scripts", [scripts]), ("servers", [servers]), ("lines in one write", [whole_lines])):
-        tally = Tally(name)
+class Commands(Harness):
+    NEEDS = (PROGRAM, SHIM, TRACER)
+
+    def play(self, name, *parts):
+        """Plays parts that are counted in a tally of their own."""
+        tally = self.begin(name)
         for part in parts:
             part(tally)
-        holds &= tally.end()
-    return 0 if holds else 1
+
+    def test_command_lines(self):
+        self.play("command lines", command_lines)
+
+    def test_data_files_and_addresses(self):
+        self.play(
+            "data files and addresses", create_at_bounds, data_files, read_only_copies, worked_log, compactions, late_copies, failing_files, names,
+            file_in_folder)
+
+    def test_failing_output(self):
+        self.play("output that fails", failing_output)
+
+    def test_scripts(self):
+        self.play("scripts", scripts)
+
+    def test_servers(self):
+        self.play("servers", servers)
+
+    def test_whole_lines(self):
+        self.play("lines in one write", whole_lines)
 
 
 if __name__ == "__main__":
-    run_harness(main)
+    run_harness()

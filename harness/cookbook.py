@@ -17,8 +17,9 @@ import threading
 import time
 
 from ssikvd_harness import recipe_calls
-from ssikvd_harness.arguments import is_long, need, run_harness
-from ssikvd_harness.deviations import Deviation, Tally, expect
+from ssikvd_harness.arguments import is_long, run_harness
+from ssikvd_harness.cases import Harness
+from ssikvd_harness.deviations import Deviation, expect
 from ssikvd_harness.examples import simple_client, walk
 from ssikvd_harness.recipe_judges import (
     Client, booked, items_of, key, not_indexed, not_inverse, once, overlaps, recipes, torn, under, wrong_holds, wrong_takes)
@@ -544,18 +545,20 @@ def options(parser):
     parser.add_argument("--links", action="store_true", help="write the document's links to the lines of the recipes in other languages")
 
 
-def main(asked):
-    if asked.links:
-        write_links()
-        return 0
-    need(PROGRAM)
-    tally = Tally("cookbook")
-    parts = (document, keys, reservation, uniqueness, indexes, held_seats, queue, counters, table, batches)
-    for part in (*parts, longest, batches_over_kills) if is_long() else parts:
-        part(tally)
-    recipe_calls.in_languages(tally)
-    return 0 if tally.end() else 1
+def instead(asked):
+    """Writes the links where that is asked for."""
+    if not asked.links:
+        return None
+    write_links()
+    return 0
+
+
+class Cookbook(Harness):
+    NAME = "cookbook"
+    NEEDS = (PROGRAM,)
+    PARTS = (document, keys, reservation, uniqueness, indexes, held_seats, queue, counters, table, batches, recipe_calls.in_languages)
+    PARTS_OF_LONG = (longest, batches_over_kills)
 
 
 if __name__ == "__main__":
-    run_harness(main, options)
+    run_harness(options, instead)

@@ -1,15 +1,17 @@
 """The documents: their commands run from a fresh copy, and how they are written.
 
 Commands stand in blocks of ```console, each behind `$ `, with what it prints on the lines below it. Those of a document are typed into one
-shell, which begins at the top of a copy of the repository's files; those of CLIENTS.md and OPERATIONS.md first start its server. A server that keeps a
+shell, which begins at the top of a copy of the repository's files; those of CLIENTS.md, COOKBOOK.md and OPERATIONS.md first start its server. A server that keeps a
 terminal of its own runs in the background, and `^C` ends it. Port 7777 is another, free one. `...` stands for anything. What isn't run is listed with
 the reason. `long` runs also what needs `rt` for a minute.
 
-Then: no table cell over 120 characters and no sentence over 40 words, no link that leads nowhere, pictures as docs/pictures/draw.py draws
+Then: no line of docs/ and README.md over 150 columns, tables apart, no table cell over 120 characters and no sentence over 40 words, no link that leads nowhere, pictures as docs/pictures/draw.py draws
 them, docs/PERFORMANCE.md and the figures that other documents have from it as bench/page.py writes them from bench/results, the table of sizes of
-docs/OPERATIONS.md as bench/sizing.py computes it, and the crates of docs/ARCHITECTURE.md as crates.txt has them. The commands and refusals of
+docs/OPERATIONS.md as bench/sizing.py computes it, and the crates of docs/ARCHITECTURE.md as crates.txt has them. Each crate has a short README, and
+what that names is a file, or stands in the code and the definitions of the crate or of those that it stands on. The commands and refusals of
 docs/PROTOCOL.md, docs/CLIENTS.md and man/ssikvd.7 are those of the definitions, and the tables of docs/LOG_FORMAT.md those of the model's logs.
-docs/TESTING.md has each harness of runner.py. Numbers of the code are its constants. Documents that are installed link to none that isn't.
+docs/TESTING.md has each harness of runner.py. Numbers of the code are its constants. A commit has each version that CHANGELOG.md names. Documents that are
+installed link to none that isn't.
 Of each block of ```ini and ```python: a unit that `systemd-analyze verify` takes, Python that is Python.
 """
 import glob
@@ -22,15 +24,16 @@ import sys
 import time
 
 from runner import HARNESSES
-from ssikvd_harness.arguments import is_long, need, run_harness
-from ssikvd_harness.deviations import Tally, expect
+from ssikvd_harness.arguments import is_long, run_harness
+from ssikvd_harness.cases import Harness
+from ssikvd_harness.deviations import expect
 from ssikvd_harness.frames import PARTS
 from ssikvd_harness.limits import KEY_MAX, VALUE_MAX, WRITES_MAX
 from ssikvd_harness.log_format import BODY_MAX, HEAD, OLD_HEAD, SECTOR, body_sectors, log_image, payload
 from ssikvd_harness.server import folder, free_port, run
 from ssikvd_harness.settings import PATIENCE, PROGRAM, TOP, text_of
 
-CELL_MAX, WORDS_MAX = 120, 40
+CELL_MAX, WORDS_MAX, LINE_MAX, README_MAX = 120, 40, 150, 15
 PORT = "7777"
 NOT_RUN = (
     (r"^rt try ", "takes a minute; `long` runs it"),
@@ -70,13 +73,14 @@ AS_README = (
     f"ssikvd serve --data shop.data --listen 127.0.0.1:{PORT} &",
     "python3 -c \"import sys; sys.path.append('examples/clients'); from simple_client import Client; "
     f"Client({PORT}).transact(lambda store: (store.ask('SET', 'a', 1), store.ask('SET', 'b', 22)))\"")
-BEFORE = {"docs/CLIENTS.md": AS_README, "docs/OPERATIONS.md": AS_README}
+BEFORE = dict.fromkeys(("docs/CLIENTS.md", "docs/COOKBOOK.md", "docs/OPERATIONS.md"), AS_README)
 
 
 def documents():
     found = sorted(name for name in os.listdir(TOP) if name.endswith(".md")) + ["harness/README.md"]
     found += sorted("docs/" + name for name in os.listdir(os.path.join(TOP, "docs")) if name.endswith(".md") and name not in WRITTEN)
-    return found + sorted(os.path.relpath(name, TOP) for pattern in ("*.md", "*/*.md") for name in glob.glob(os.path.join(TOP, "clients", pattern)))
+    patterns = ("clients/*.md", "clients/*/*.md", "crates/*/README.md")
+    return found + [name for pattern in patterns for name in sorted(glob.glob(pattern, root_dir=TOP))]
 
 
 def blocks(name, kind):
@@ -302,6 +306,9 @@ def style(tally):
             found = paragraphs(text_of(name))
             wide = [cell for cell, is_cell in found if is_cell and len(cell) > CELL_MAX]
             long = [it for text, _ in found for it in sentences(text) if len(it.split()) > WORDS_MAX]
+            if name.startswith("docs/") or name == "README.md":
+                far = [line for line in text_of(name).splitlines() if len(line) > LINE_MAX and not re.match(r"\||!\[|The same in \[", line)]
+                expect(not far, f"{name}: {len(far)} lines over {LINE_MAX} columns, first {far[:1]}")
             expect(not wide, f"{name}: {len(wide)} cells over {CELL_MAX} characters, first {wide[:1]}")
             expect(not long, f"{name}: {len(long)} sentences over {WORDS_MAX} words, first {long[:1]}")
 
@@ -346,7 +353,7 @@ CONSTANTS = (
     ("pivot_check/src/merges.rt", "MERGED_MAX", "merged, up to # keys|(?:of|has) # keys at most"),
     ("stream_driver/src/driving.rt", "REQUESTS_MAX", "(?:up to|after) # requests|# requests at most"),
     ("stream_driver/src/driving.rt", "READ_MAX", "reads at most # bytes"),
-    ("stream_driver/src/held_bytes.rt", "HELD_MAX", "stream holds up to # bytes|a stream of #"),
+    ("stream_driver/src/buffered_bytes.rt", "BUFFERED_MAX", "stream holds up to # bytes|a stream of #"),
     ("stream_driver/src/buffered.rt", "SHARE_MAX", "takes # bytes"),
     ("sessions/src/events.rt", "OUTPUT_KEPT", "# for longer replies|longer replies has room for #|Up to # bytes of a longer reply"),
     ("sessions/src/events.rt", "SESSIONS_MAX", "# sessions;|# connections, [0-9]+ open"),
@@ -358,21 +365,66 @@ CONSTANTS = (
     ("model/src/keys.rt", "KEY_MAX", "keys of # bytes, values of 16|Keys of 1 to # bytes"),
     ("model/src/values.rt", "VALUE_MAX", "value over # bytes|value has # bytes at most|bytes and values of up to #|of 256 bytes, values of #"),
     ("resp/src/writing.rt", "BRIEF_MAX", "an output of #|value or pairs has # bytes"),
+    ("stream_driver/src/buffered.rt", "LIGHT_MAX", "last replies had over # bytes|took more than # bytes"),
+    ("sessions/src/events.rt", "INBOX_MAX", "inbox(?:es)? of # bytes"),
+    ("model/src/values.rt", "FRAME_MAX", "largest frame has # bytes"),
+    ("model/src/values.rt", "RANGE_REPLY_MAX", "A reply has # bytes at most|a reply of # in each"),
+    ("model/src/keys.rt", "SHORT_MAX", "a key of up to # bytes"),
+    ("command_line/src/asked.rt", "FILE_SECTORS_MAX", "#, which is 2 GiB"),
+    ("sorted_pages/src/page.rt", "STEP", "places come in steps of #"),
+    ("sorted_pages/src/page.rt", "PAGE_MAX", "places come in steps of [0-9]+, up to #"),
+    ("pivot_check/src/bound.rt", "BLOCK", "bounds of its numbers, one for each # keys"),
+    ("merging_runs/src/sweeps.rt", "LOOK", "look at an element counts as #"),
 )
+EXPRESSION = r"\bconst (\w+): \w+ = ([^;]+);"
+
+
+def value_of(path, constant):
+    """What a constant is: its own expression over those of `model`."""
+    known = {}
+    for name in ("model/src/keys.rt", "model/src/values.rt", path):
+        for found, expression in re.findall(EXPRESSION, text_of(f"crates/{name}")):
+            if set(re.findall(r"[A-Z]\w+", expression)) <= set(known):
+                known[found] = eval(expression, {"__builtins__": {}}, known)    # numbers and names of constants
+    return known.get(constant)
+
 
 def constants(tally):
     """What documents say of a constant of the code is its value."""
     whole = {name: " ".join(text_of(name).split()) for name in documents()}
     for path, constant, said in CONSTANTS:
         with tally.run(f"{constant} of {path}"):
-            value = re.search(rf"\bconst {constant}: \w+ = ([\d_]+);", text_of(f"crates/{path}"))
-            expect(value, "it isn't there")
-            pattern, due = said.replace("#", r"([\d,]*\d)"), value[1].replace("_", "")
+            value = value_of(path, constant)
+            expect(value is not None, "it isn't there")
+            pattern, due = said.replace("#", r"([\d,]*\d)"), str(value)
             found = [(name, number) for name, text in whole.items() for numbers in re.findall(pattern, text, re.I)
                      for number in ([numbers] if isinstance(numbers, str) else numbers) if number]
             expect(found, f"no document says '{said}'")
             wrong = [f"{name} has {number}" for name, number in found if number.replace(",", "") != due]
             expect(not wrong, f"it is {due}: {'; '.join(wrong)}")
+
+
+def has_been(version):
+    """Has a commit of the repository this version, by its tag or in the program's code?"""
+    def said(*words):
+        return subprocess.run(["git", "-C", TOP, *words], capture_output=True, text=True).stdout.strip()
+    return said("tag", "--list", f"v{version}") or said("log", "-1", "--format=%h", f'-S"{version}"', "--", "crates/*.rt")
+
+
+def versions(tally):
+    """Each version that CHANGELOG.md names is in debian/changelog, and a commit has it."""
+    named = re.findall(r"^## \[(\d[\d.]*)\]", text_of("CHANGELOG.md"), re.M)
+    with tally.run("the versions of both changelogs"):
+        packed = re.findall(r"^ssikvd \((\d[\d.]*)\)", text_of("debian/changelog"), re.M)
+        expect(named and named == packed, f"CHANGELOG.md names {named}, debian/changelog {packed}")
+    if not shutil.which("git") or not os.path.exists(os.path.join(TOP, ".git")) or os.path.exists(os.path.join(TOP, ".git", "shallow")):
+        print("  whether a commit has each version isn't known, for want of the history")
+        return
+    for version in named:
+        with tally.run(f"version {version}"):
+            expect(has_been(version), f"CHANGELOG.md names {version}, and no commit has it")
+    with tally.run("a version that never was"):
+        expect(not has_been("999.0.1"), "it isn't seen that no commit has it")
 
 
 def installed(tally):
@@ -399,16 +451,43 @@ def expect_shown(report, name="docs/PERFORMANCE.md"):
     expect(report.returncode == 0 and report.stdout and not missing, f"{name} has not {missing[:1]} {report.stderr}")
 
 
+def stands_on():
+    """The crates of crates.txt, each with those that it stands on."""
+    lines = [line.partition(":") for line in text_of("crates.txt").splitlines() if line and line[0] != "#"]
+    return {name.split()[0]: rest.split() for name, _, rest in lines}
+
+
 def layers(tally):
     """The table of ARCHITECTURE.md names for each crate those that crates.txt names."""
     with tally.run("the crates of docs/ARCHITECTURE.md"):
-        lines = [line.partition(":") for line in text_of("crates.txt").splitlines() if line and line[0] != "#"]
-        due = {name.split()[0]: rest.split() for name, _, rest in lines}
+        due = stands_on()
         rows = re.findall(r"^\| `(\w+)`(?:, `\w+`)* \| [^|]* \| ([^|]*) \|", text_of("docs/ARCHITECTURE.md"), re.M)
         expect(len(rows) > 10, "there is no table")
         for name, lows in rows:
             own = {low for low in due[name] if low in due}
             expect(set(re.findall(r"\w+", lows)) == own, f"{name} stands on {sorted(own)}, the table says {lows}")
+
+
+def words_of(crate):
+    """The words of a crate's code and definitions."""
+    paths = [path for kind in ("src/**/*.rt", "specs/*.antt") for path in glob.glob(f"crates/{crate}/{kind}", root_dir=TOP, recursive=True)]
+    return {word for path in paths for word in re.findall(r"\w+", text_of(path))}
+
+
+def readmes(tally):
+    """Each crate has a README of a few lines. What stands there between backticks is a file, or words of the crate or of those that it stands on."""
+    below = stands_on()
+    for crate, lows in below.items():
+        with tally.run(f"the README of {crate}"):
+            text = text_of(f"crates/{crate}/README.md")
+            lines = text.splitlines()
+            expect(lines[0] == f"# `{crate}`", f"its title is {lines[0]}")
+            expect(len(lines) <= README_MAX and max(map(len, lines)) <= CELL_MAX, f"it has {len(lines)} lines, of up to {max(map(len, lines))} columns")
+            known = {*below, *words_of(crate)}.union(*(words_of(low) for low in lows if low in below))
+            for name in re.findall(r"`([^`]+)`", text):
+                is_file = any(os.path.exists(os.path.join(TOP, place, name)) for place in (f"crates/{crate}", ""))
+                unknown = [name] if "/" in name else [word for word in re.findall(r"\w+", name) if word not in known]
+                expect(is_file or not unknown, f"there is no {', '.join(unknown)}")
 
 
 def sealed(tally):
@@ -511,13 +590,11 @@ def log_format(tally):
             expect(found == due, f"record {column} is {found}, and the model writes {due}")
 
 
-def main():
-    need(PROGRAM)
-    tally = Tally("documents")
-    for part in (run_commands, worked, other_blocks, style, links, pictures, constants, installed, layers, sealed, tests, names, log_format):
-        part(tally)
-    return 0 if tally.end() else 1
+class Documents(Harness):
+    NAME = "documents"
+    NEEDS = (PROGRAM,)
+    PARTS = (run_commands, worked, other_blocks, style, links, pictures, constants, versions, installed, layers, readmes, sealed, tests, names, log_format)
 
 
 if __name__ == "__main__":
-    run_harness(main)
+    run_harness()

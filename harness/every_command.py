@@ -11,18 +11,18 @@ holds is again what it was.
 import os
 import time
 
-from ssikvd_harness.arguments import is_long, need, run_harness
+from ssikvd_harness.arguments import is_long, run_harness
+from ssikvd_harness.cases import Harness
 from ssikvd_harness.connection import Connection
-from ssikvd_harness.deviations import Tally, expect
+from ssikvd_harness.deviations import expect
 from ssikvd_harness.failing_calls import Refusals
-from ssikvd_harness.frames import OK, bulk, frame, pairs, refusal
+from ssikvd_harness.frames import BEGIN, COMMIT, OK, PING, bulk, frame, pairs, refusal
 from ssikvd_harness.limits import KEY_MAX, MARKS_MAX, OPEN_MAX, VALUE_MAX, WRITES_MAX
 from ssikvd_harness.log_format import SECTOR, log_image, sectors_used
 from ssikvd_harness.model import Store
-from ssikvd_harness.server import Server, check, create, folder
+from ssikvd_harness.server import Server, check, create, folder, fresh
 
 SECTORS = 65_536
-BEGIN, COMMIT, PING = (frame(name) for name in ("BEGIN", "COMMIT", "PING"))
 KEY, VALUE = b"k" * KEY_MAX, b"v" * VALUE_MAX
 KEPT_VALUE = 300
 
@@ -225,26 +225,26 @@ def leave_with_old_ones(tally, place, data):
             print(f"  memory: {kept:,} bytes held with {count} old transactions, {levels[-1]:,} once they had left")
 
 
-def main():
-    need()
-    tally = Tally("every command")
-    with folder() as place:
-        data = os.path.join(place, "data")
-        create(data, SECTORS)
-        refusals = Refusals(place)
-        with Server(data, refusals.environment()) as server:
-            log, number = every_form(tally, server)
-            committer = Committer(server, log, number)
-            large_ones(tally, committer)
-            sweep(tally, committer)
-            with tally.run("its error output"):
-                expect(server.is_alive() and server.error_text() == b"", f"it ended, or wrote {server.error_text()!r}")
-        judge_file(tally, data, committer.log)
-        other = os.path.join(place, "other")
-        create(other, SECTORS)
-        leave_with_old_ones(tally, place, other)
-    return 0 if tally.end() else 1
+class EveryCommand(Harness):
+    NAME = "every command"
+
+    def test_every_command(self):
+        tally = self.tally
+        with folder() as place:
+            data = fresh(place, SECTORS)
+            refusals = Refusals(place)
+            with Server(data, refusals.environment()) as server:
+                log, number = every_form(tally, server)
+                committer = Committer(server, log, number)
+                large_ones(tally, committer)
+                sweep(tally, committer)
+                with tally.run("its error output"):
+                    expect(server.is_alive() and server.error_text() == b"", f"it ended, or wrote {server.error_text()!r}")
+            judge_file(tally, data, committer.log)
+            other = os.path.join(place, "other")
+            create(other, SECTORS)
+            leave_with_old_ones(tally, place, other)
 
 
 if __name__ == "__main__":
-    run_harness(main)
+    run_harness()

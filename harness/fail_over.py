@@ -24,12 +24,13 @@ import sys
 import threading
 import time
 
-from ssikvd_harness.arguments import is_long, need, run_harness
-from ssikvd_harness.deviations import Deviation, Tally, expect, missing, wait_for
+from ssikvd_harness.arguments import asked, run_harness
+from ssikvd_harness.cases import Harness
+from ssikvd_harness.deviations import Deviation, expect, wait_for
 from ssikvd_harness.examples import simple_client
 from ssikvd_harness.log_format import log_of, map_of
 from ssikvd_harness.settings import OUT, PATIENCE, PROGRAM
-from ssikvd_harness.tools import command, in_memory, in_own_namespaces, lacking, tool
+from ssikvd_harness.tools import command, in_memory, lacking, tool
 from power_cuts import torn, wait_for_file
 
 MIRROR = os.path.join(OUT, "mirror")
@@ -331,26 +332,29 @@ def options(parser):
     parser.add_argument(REPLICA, nargs=3, metavar=("ADDRESS", "IMAGE", "SEED"), help=argparse.SUPPRESS)    # the other side of a device
 
 
-def main(asked):
-    if asked.replica:
-        serve_copy(*asked.replica)
-        return 0
-    need(PROGRAM)
-    if not is_long():
-        return 0
-    found = lacks()
-    if found:
-        missing("fail_over", found)
-        return 0
-    in_own_namespaces("SSIKVD_FAIL_OVER", "--propagation", "private")
-    tally = Tally("fail_over")
-    pair = play(asked.lives, asked.seed, (), tally)
-    print(f"  {len(pair.acknowledged)} commits answered, {pair.unflushed} writes that weren't flushed", flush=True)
-    for name, form in WRONG.items():
-        with tally.run(f"{name} is reported"):
-            expect(is_seen(form), f"{name} was not reported")
-    return 0 if tally.end() else 1
+def instead(asked):
+    """Serves a copy where that is asked for."""
+    if not asked.replica:
+        return None
+    serve_copy(*asked.replica)
+    return 0
+
+
+class FailOver(Harness):
+    NAME = "fail_over"
+    NEEDS = (PROGRAM,)
+
+    def test_fail_over(self):
+        self.leave_out_unless("fail_over", lacks)
+        if not self.is_in_own_namespaces("SSIKVD_FAIL_OVER", "--propagation", "private"):
+            return
+        tally, words = self.tally, asked(options)
+        pair = play(words.lives, words.seed, (), tally)
+        print(f"  {len(pair.acknowledged)} commits answered, {pair.unflushed} writes that weren't flushed", flush=True)
+        for name, form in WRONG.items():
+            with tally.run(f"{name} is reported"):
+                expect(is_seen(form), f"{name} was not reported")
 
 
 if __name__ == "__main__":
-    run_harness(main, options)
+    run_harness(options, instead)

@@ -15,8 +15,9 @@ import subprocess
 import threading
 import time
 
-from ssikvd_harness.arguments import is_long, need, run_harness
-from ssikvd_harness.deviations import Deviation, Tally, expect, is_refused, wait_for
+from ssikvd_harness.arguments import is_long, run_harness
+from ssikvd_harness.cases import Harness
+from ssikvd_harness.deviations import Deviation, expect, is_refused, wait_for
 from ssikvd_harness.examples import simple_client
 from ssikvd_harness.frames import frame
 from ssikvd_harness.log_format import SECTOR, Damaged, NotALog, log_of, map_of, read_log
@@ -52,8 +53,25 @@ class Pair:
     def follow(self, *words, script="ssikvd-follow"):
         return tool(script, "--state", self.state, *words)
 
+    def copy(self, port, before, between=0, behind=0, script="ssikvd-follow"):
+        """Notes a place and makes a copy, with so many commits before, between and behind these."""
+        self.commit(port, before)
+        expect(self.follow(self.data, script=script)[0] == 0, "no place could be noted")
+        self.commit(port, between)
+        self.compact()
+        self.commit(port, behind)
+
     def compact(self, *words):
         subprocess.run([PROGRAM, "compact", "--from", self.data, "--to", self.new, *words], check=True, capture_output=True)
+
+
+@contextlib.contextmanager
+def served_pair(chance):
+    """A pair in a folder of its own, and the port at which its data file is served."""
+    with folder() as place:
+        pair = Pair(place, chance)
+        with Server(pair.data) as server:
+            yield pair, server.port
 
 
 def judge_copy(pair, found):
@@ -67,11 +85,7 @@ def judge_copy(pair, found):
 def follow_through(pair, port, script="ssikvd-follow", most=12):
     """Commits between any two steps. Gives what the last run of the tool answered."""
     counts = [pair.chance.choice((0, 1, pair.chance.randint(2, most))) for _ in range(5)]
-    pair.commit(port, counts[0])
-    expect(pair.follow(pair.data, script=script)[0] == 0, "no place could be noted")
-    pair.commit(port, counts[1])
-    pair.compact()
-    pair.commit(port, counts[2])
+    pair.copy(port, *counts[:3], script)
     found = pair.follow(pair.data, pair.new, script=script)
     expect(found[0] == 0, f"it ended with {found}")
     pair.commit(port, counts[3])
@@ -83,14 +97,10 @@ def follow_through(pair, port, script="ssikvd-follow", most=12):
 def follows(tally):
     chance = random.Random(58)
     for number in range(60 if is_long() else 6):
-        with tally.run(f"commits between any two steps, {number}"), folder() as place:
-            pair = Pair(place, chance)
-            with Server(pair.data) as server:
-                judge_copy(pair, follow_through(pair, server.port))
-    with tally.run("many records between two steps"), folder() as place:
-        pair = Pair(place, chance)
-        with Server(pair.data) as server:
-            judge_copy(pair, follow_through(pair, server.port, most=400))
+        with tally.run(f"commits between any two steps, {number}"), served_pair(chance) as (pair, port):
+            judge_copy(pair, follow_through(pair, port))
+    with tally.run("many records between two steps"), served_pair(chance) as (pair, port):
+        judge_copy(pair, follow_through(pair, port, most=400))
 
 
 def refusals(tally):
@@ -98,9 +108,7 @@ def refusals(tally):
     with folder() as place:
         pair = Pair(place, random.Random(5))
         with Server(pair.data) as server:
-            pair.commit(server.port, 10)
-            pair.follow(pair.data)
-            pair.compact()
+            pair.copy(server.port, 10)
             pair.follow(pair.data, pair.new)
             pair.commit(server.port, 5)
         kept = {name: bytes_of(getattr(pair, name)) for name in ("data", "new", "state")}
@@ -176,9 +184,7 @@ def crashes(tally):
     with folder() as place, tally.run("crashes of a run"):
         pair = Pair(place, chance)
         with Server(pair.data) as server:
-            pair.commit(server.port, 4)
-            pair.follow(pair.data)
-            pair.compact()
+            pair.copy(server.port, 4)
             pair.follow(pair.data, pair.new)
             pair.commit(server.port, 5)
         print(f"  ssikvd-follow: {judge_crashes(tool_module, pair, chance)} images of crashes", flush=True)
@@ -218,48 +224,53 @@ def kills(tally):
     """A run that is killed, at any moment: the next one either goes on, or refuses."""
     chance = random.Random(9)
     for number in range(40 if is_long() else 4):
-        with tally.run(f"a kill, {number}"), folder() as place:
-            pair = Pair(place, chance)
-            with Server(pair.data) as server:
-                pair.commit(server.port, 5)
-                pair.follow(pair.data)
-                pair.compact()
-                pair.commit(server.port, 60)
-                process = subprocess.Popen([os.path.join(DIST, "ssikvd-follow"), "--state", pair.state, pair.data, pair.new], stdout=subprocess.DEVNULL,
-                                           stderr=subprocess.DEVNULL)
-                time.sleep(chance.uniform(0.03, 0.15))
-                process.kill()
-                process.wait()
-                pair.commit(server.port, 5)
-                found = pair.follow("--once", pair.data, pair.new)
-                if found[0] != 2:
-                    judge_copy(pair, found)
-                else:
-                    expect("another log" in found[2] or f"{pair.new}: closed gate" in found[2], f"it answered {found}")
+        with tally.run(f"a kill, {number}"), served_pair(chance) as (pair, port):
+            pair.copy(port, 5, behind=60)
+            words = [os.path.join(DIST, "ssikvd-follow"), "--state", pair.state, pair.data, pair.new]
+            process = subprocess.Popen(words, stdout=subprocess.DEVNULL, stderr=subprocess.DEVNULL)
+            time.sleep(chance.uniform(0.03, 0.15))
+            process.kill()
+            process.wait()
+            pair.commit(port, 5)
+            found = pair.follow("--once", pair.data, pair.new)
+            if found[0] != 2:
+                judge_copy(pair, found)
+            else:
+                expect("another log" in found[2] or f"{pair.new}: closed gate" in found[2], f"it answered {found}")
 
 
 # The whole of it
 
-class Writer(threading.Thread):
-    """A client that writes one key after the other, and comes again where its connection is lost. `acknowledged` has the keys whose COMMIT was answered."""
+class Returning(threading.Thread):
+    """A client that does one thing again and again, and comes again where its connection is lost."""
 
-    def __init__(self, port, number, is_over, pause):
+    def __init__(self, port, is_over, pause):
         super().__init__(daemon=True)
-        self.port, self.number, self.is_over, self.pause, self.acknowledged = port, number, is_over, pause, []
+        self.port, self.is_over, self.pause = port, is_over, pause
 
     def run(self):
-        count = 0
         while not self.is_over.is_set():
             try:
                 store = simple_client.Client(self.port, timeout=PATIENCE)
                 while not self.is_over.is_set():
-                    count += 1
-                    key = b"%d %06d" % (self.number, count)
-                    store.transact(lambda store: store.ask("SET", key, "1"))
-                    self.acknowledged.append(key)
+                    self.once(store)
                     time.sleep(self.pause)
             except (OSError, simple_client.Lost):
                 time.sleep(0.002)
+
+
+class Writer(Returning):
+    """One that writes one key after the other. `acknowledged` has the keys whose COMMIT was answered."""
+
+    def __init__(self, port, number, is_over, pause):
+        super().__init__(port, is_over, pause)
+        self.number, self.count, self.acknowledged = number, 0, []
+
+    def once(self, store):
+        self.count += 1
+        key = b"%d %06d" % (self.number, self.count)
+        store.transact(lambda store: store.ask("SET", key, "1"))
+        self.acknowledged.append(key)
 
 
 @contextlib.contextmanager
@@ -277,27 +288,20 @@ def writers(port, pause=0.0, first=0):
             writer.join(PATIENCE)
 
 
-class Watcher(threading.Thread):
-    """A client that asks as fast as it is answered, and comes again where it isn't: how long it wasn't served at most, in seconds."""
+class Watcher(Returning):
+    """One that asks as fast as it is answered: how long it wasn't served at most, in seconds."""
 
     def __init__(self, port):
-        super().__init__(daemon=True)
-        self.port, self.is_over, self.longest = port, threading.Event(), 0.0
+        super().__init__(port, threading.Event(), 0.001)
+        self.longest, self.last = 0.0, 0.0
 
-    def run(self):
-        last = time.monotonic()
-        while not self.is_over.is_set():
-            try:
-                store = simple_client.Client(self.port, timeout=PATIENCE)
-                while not self.is_over.is_set():
-                    store.ask("PING")
-                    now = time.monotonic()
-                    self.longest, last = max(self.longest, now - last), now
-                    time.sleep(0.001)
-            except (OSError, simple_client.Lost):
-                time.sleep(0.002)
+    def once(self, store):
+        store.ask("PING")
+        now = time.monotonic()
+        self.longest, self.last = max(self.longest, now - self.last), now
 
     def __enter__(self):
+        self.last = time.monotonic()
         self.start()
         return self
 
@@ -323,7 +327,7 @@ def judge_load(place, script):
                 wait_for(lambda before=count_of(load): count_of(load) > before + 50, "clients aren't served")
                 words = [trial.script, "--stop", trial.bin + "/stops", "--start", trial.bin + "/starts", trial.data]
                 status, out, err = tool(*words, seconds=6 * PATIENCE)
-                expect(status == 0 and "copied beside the server" in out and not err, f"it ended with {status}: {out}{err}")
+                expect(status == 0 and "copied while the server ran" in out and not err, f"it ended with {status}: {out}{err}")
         trial.stop()
         judge_kept(load, map_of(log_of(trial.data)))
         return watcher.longest
@@ -393,13 +397,11 @@ def judge_wrong(seed, script):
             judge_copy(pair, follow_through(pair, server.port, script))
 
 
-def main():
-    need(PROGRAM)
-    tally = Tally("following")
-    for part in (follows, refusals, crashes, kills, beside_a_load, wrong_tools):
-        part(tally)
-    return 0 if tally.end() else 1
+class Following(Harness):
+    NAME = "following"
+    NEEDS = (PROGRAM,)
+    PARTS = (follows, refusals, crashes, kills, beside_a_load, wrong_tools)
 
 
 if __name__ == "__main__":
-    run_harness(main)
+    run_harness()

@@ -9,12 +9,13 @@ import os
 import re
 import socket
 
-from ssikvd_harness.arguments import need, run_harness
+from ssikvd_harness.arguments import run_harness
+from ssikvd_harness.cases import Harness
 from ssikvd_harness.connection import Connection
-from ssikvd_harness.deviations import Tally, expect
+from ssikvd_harness.deviations import expect
 from ssikvd_harness.frames import BROKEN_FRAME, Broken, decode, frame
 from ssikvd_harness.limits import FRAME_MAX, VALUE_MAX
-from ssikvd_harness.server import Server, create, folder
+from ssikvd_harness.server import Server, folder, fresh
 from ssikvd_harness.settings import PROGRAM, TOP
 
 DOCUMENT = os.path.join(TOP, "docs", "PROTOCOL.md")
@@ -135,26 +136,26 @@ def largest_frame():
     expect(f"L from 0 to {VALUE_MAX:,}" in text, "a value has another bound")
 
 
-def main():
-    need(PROGRAM)
-    tally = Tally("frames")
-    with folder() as place:
-        data = os.path.join(place, "data")
-        create(data, 16)
-        with Server(data) as server:
+class Frames(Harness):
+    NAME = "frames"
+    NEEDS = (PROGRAM,)
+
+    def test_frames(self):
+        with folder() as place, Server(fresh(place, 16)) as server:
             expect(server.is_listening(), f"no server: {server.error_text()!r}")
             for content, said in rows():
-                with tally.run(f"{content!r}"):
+                with self.tally.run(f"{content!r}"):
                     agree(server.port, content, said)
             for content, said in FALSE_ROWS:
-                with tally.run(f"the false row {content!r}"):
+                with self.tally.run(f"the false row {content!r}"):
                     expect(is_refused(server.port, content, said), f"{content!r} is taken for {said}")
-            with tally.run("the replies"):
+            with self.tally.run("the replies"):
                 agree_on_replies(server.port)
-    with tally.run("the bounds"):
-        largest_frame()
-    return 0 if tally.end() else 1
+
+    def test_bounds(self):
+        with self.tally.run("the bounds"):
+            largest_frame()
 
 
 if __name__ == "__main__":
-    run_harness(main)
+    run_harness()

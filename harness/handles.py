@@ -14,7 +14,8 @@ import os
 import re
 
 from ssikvd_harness.arguments import run_harness
-from ssikvd_harness.deviations import Tally, expect
+from ssikvd_harness.cases import Harness
+from ssikvd_harness.deviations import expect
 from ssikvd_harness.settings import TOP, text_of
 
 HANDLES = "Files|Net|Env|HostRuntime|File|TcpStream|TcpListener|Poll"
@@ -130,25 +131,33 @@ def options(parser):
     parser.add_argument("--list", action="store_true", help="print the functions and their files, and compare nothing")
 
 
-def main(asked):
-    found = computed()
-    if asked.list:
-        print("\n".join(f"{path}: {name}" for name, path in sorted(found, key=lambda pair: pair[::-1])))
-        return 0
-    tally = Tally("handles")
-    listed = {(name, path) for name, paths in told() for path in paths}
-    for name, path in sorted(found - listed):
-        with tally.run(f"{name} in {path}"):
-            expect(False, "it holds a handle of the system, and isn't in the list of what is trusted")
-    for name, path in sorted(listed - found):
-        with tally.run(f"{name} in {path}"):
-            expect(False, "it holds no handle of the system, and is in the list of those that do")
-    for crate in crates():
-        for path, code in Crate(crate).code.items():
-            with tally.run(path):
-                expect(not names(NEVER, code), "it may wait, or start something")
-    return 0 if tally.end() else 1
+def instead(asked):
+    """Prints the list where that is asked for."""
+    if not asked.list:
+        return None
+    print("\n".join(f"{path}: {name}" for name, path in sorted(computed(), key=lambda pair: pair[::-1])))
+    return 0
+
+
+class Handles(Harness):
+    NAME = "handles"
+    NEEDS = ()
+
+    def test_list(self):
+        found, listed = computed(), {(name, path) for name, paths in told() for path in paths}
+        for name, path in sorted(found - listed):
+            with self.tally.run(f"{name} in {path}"):
+                expect(False, "it holds a handle of the system, and isn't in the list of what is trusted")
+        for name, path in sorted(listed - found):
+            with self.tally.run(f"{name} in {path}"):
+                expect(False, "it holds no handle of the system, and is in the list of those that do")
+
+    def test_code(self):
+        for crate in crates():
+            for path, code in Crate(crate).code.items():
+                with self.tally.run(path):
+                    expect(not names(NEVER, code), "it may wait, or start something")
 
 
 if __name__ == "__main__":
-    run_harness(main, options)
+    run_harness(options, instead)

@@ -17,6 +17,7 @@ in Debian and was not run.
 The checker is shown to see planted faults. Each small history that is written here by hand has its anomalies by name. And the same clients ask the
 model with one rule left out, stepped by a seeded chance.
 """
+import argparse
 import json
 import os
 import random
@@ -25,9 +26,10 @@ import threading
 import time
 
 from ssikvd_harness.anomalies import History
-from ssikvd_harness.arguments import FORMS as HARNESS_FORMS, is_long, need, run_harness
+from ssikvd_harness.arguments import FORMS as HARNESS_FORMS, add_unittest, is_long, need, run_harness
+from ssikvd_harness.cases import Harness
 from ssikvd_harness.connection import Connection
-from ssikvd_harness.deviations import Deviation, Tally, expect
+from ssikvd_harness.deviations import Deviation, expect
 from ssikvd_harness.frames import OK, decode, frame
 from ssikvd_harness.model import Store, Transaction
 from ssikvd_harness.server import Server, create, folder
@@ -616,7 +618,7 @@ def served(tally):
 def options(parser):
     ways = parser.add_subparsers(dest="form", metavar="WAY")
     for name in HARNESS_FORMS:
-        ways.add_parser(name, help="the harness, in its quick or its long form")
+        add_unittest(ways.add_parser(name, argument_default=argparse.SUPPRESS, help="the harness, in its quick or its long form"))
     for name, way in (("write", write), ("check", check)):
         words = ways.add_parser(name, help=way.__doc__)
         words.set_defaults(way=way)
@@ -630,16 +632,20 @@ def options(parser):
             words.add_argument("kills", nargs="?", type=int, default=1, metavar="KILLS")
 
 
-def main(asked):
-    if asked.form in ("write", "check"):
-        return asked.way(asked)
-    need(PROGRAM)
-    tally = Tally("histories")
-    planted(tally)
-    false_orders(tally)
-    counts = served(tally)
-    return 0 if tally.end(f"; of serve {counts['ok']} committed, {counts['fail']} refused or aborted, {counts['info']} replies lost") else 1
+def instead(asked):
+    """Writes or checks a history where that is asked for."""
+    return asked.way(asked) if asked.form in ("write", "check") else None
+
+
+class Histories(Harness):
+    NAME = "histories"
+    NEEDS = (PROGRAM,)
+    PARTS = (planted, false_orders)
+
+    def test_served(self):
+        counts = served(self.tally)
+        self.tally.more = f"; of serve {counts['ok']} committed, {counts['fail']} refused or aborted, {counts['info']} replies lost"
 
 
 if __name__ == "__main__":
-    run_harness(main, options, has_form=False)
+    run_harness(options, instead, has_form=False)

@@ -10,21 +10,21 @@ process stays under the bound that its limits give.
 """
 import contextlib
 import errno
-import os
 import random
 import select
 import signal
 import socket
 import time
 
-from ssikvd_harness.arguments import is_long, need, run_harness
+from ssikvd_harness.arguments import is_long, run_harness
+from ssikvd_harness.cases import Harness
 from ssikvd_harness.connection import Connection
-from ssikvd_harness.deviations import Deviation, Tally, expect
-from ssikvd_harness.frames import BROKEN_FRAME, FULL, OK, PONG, Broken, decode, frame, pairs, refusal
+from ssikvd_harness.deviations import Deviation, expect
+from ssikvd_harness.frames import ABORT, BEGIN, BROKEN_FRAME, COMMIT, FULL, OK, PING, PONG, Broken, decode, frame, pairs, refusal
 from ssikvd_harness.good_client import KEY as GOOD_KEY, VALUE as GOOD_VALUE, GoodClient
-from ssikvd_harness.limits import HELD_MAX, INBOX_MAX, KEY_MAX, LARGEST_REPLY, MARKS_MAX, OPEN_MAX, OUTPUT_ROOM, SESSIONS_MAX, VALUE_MAX, WRITES_MAX
+from ssikvd_harness.limits import BUFFERED_MAX, INBOX_MAX, KEY_MAX, LARGEST_REPLY, MARKS_MAX, OPEN_MAX, OUTPUT_ROOM, SESSIONS_MAX, VALUE_MAX, WRITES_MAX
 from ssikvd_harness.model import Store
-from ssikvd_harness.server import Server, create, folder
+from ssikvd_harness.server import Server, folder, fresh
 from ssikvd_harness.shrinking import shrunk
 
 SECTORS = 262_144
@@ -36,7 +36,6 @@ RECORD = 1_024    # what is kept of one commit of the good client while a transa
 KEYS = [b"%03d" % i + b"k" * (KEY_MAX - 3) for i in range(128)]
 VALUE = b"v" * VALUE_MAX
 LARGEST_RANGE = frame("RANGE", "0", "", "128")
-BEGIN, PING, ABORT, COMMIT = (frame(name) for name in ("BEGIN", "PING", "ABORT", "COMMIT"))
 SHRINKING_SECONDS = 20.0
 
 
@@ -564,7 +563,7 @@ def memory_bound(idle, commits):
     return {
         "idle server": idle,
         f"{SESSIONS_MAX} inboxes": SESSIONS_MAX * INBOX_MAX,
-        f"{SESSIONS_MAX} streams": SESSIONS_MAX * HELD_MAX,
+        f"{SESSIONS_MAX} streams": SESSIONS_MAX * BUFFERED_MAX,
         f"{SESSIONS_MAX} outputs, and the largest reply in each": SESSIONS_MAX * (OUTPUT_ROOM + LARGEST_REPLY),
         f"keys and values of {OPEN_MAX} transactions": OPEN_MAX * (WRITES_MAX * pair + MARKS_MAX * 2 * KEY_MAX),
         "the map": len(KEYS) * pair,
@@ -606,13 +605,12 @@ def play(tally, siege, scene):
     return commits
 
 
-def main():
-    need()
-    tally = Tally("hostile clients")
-    with folder() as place:
-        data = os.path.join(place, "data")
-        create(data, SECTORS)
-        with Server(data) as server:
+class Hostile(Harness):
+    NAME = "hostile clients"
+
+    def test_hostile(self):
+        tally = self.tally
+        with folder() as place, Server(fresh(place, SECTORS)) as server:
             idle = server.memory("VmHWM")
             fill(server)
             siege = Siege(server, is_long())
@@ -622,8 +620,7 @@ def main():
             judge_memory(tally, server.memory("VmHWM"), idle, commits)
             with tally.run("its error output"):
                 expect(server.error_text() == b"", f"it wrote {server.error_text()!r}")
-    return 0 if tally.end() else 1
 
 
 if __name__ == "__main__":
-    run_harness(main)
+    run_harness()

@@ -16,8 +16,9 @@ import shutil
 import subprocess
 import time
 
-from ssikvd_harness.arguments import is_long, need, run_harness
-from ssikvd_harness.deviations import Tally, expect
+from ssikvd_harness.arguments import run_harness
+from ssikvd_harness.cases import Harness
+from ssikvd_harness.deviations import expect
 from ssikvd_harness.server import Server, folder, free_port, run
 from ssikvd_harness.settings import PATIENCE, PROGRAM, TOP, text_of
 
@@ -538,24 +539,22 @@ def install_package(tally, place, deb, test):
         expect(found == ["var/lib/ssikvd"], f"left behind: {found}")
 
 
-def main():
-    need(PROGRAM)
-    tally = Tally("installing")
-    for part in (first_manual, other_manuals, manuals_of_tools, man_lints, help_examples, completions, versions, quick_start):
-        part(tally)
-    with folder() as place:
-        root = os.path.join(place, "a root")
-        os.mkdir(root)
-        if not left_out("make install, uninstall and dist", "make"):
-            installed(tally, root)
-            packed(tally, root)
-            uninstalled(tally, root)
-            refused_releases(tally)
-    if is_long():
-        package(tally)
-        released(tally)
-    return 0 if tally.end() else 1
+class Installing(Harness):
+    NAME = "installing"
+    NEEDS = (PROGRAM,)
+    PARTS = (first_manual, other_manuals, manuals_of_tools, man_lints, help_examples, completions, versions, quick_start)
+    PARTS_OF_LONG = (package, released)
+
+    def test_make(self):
+        with folder() as place:
+            root = os.path.join(place, "a root")
+            os.mkdir(root)
+            if not left_out("make install, uninstall and dist", "make"):
+                installed(self.tally, root)
+                packed(self.tally, root)
+                uninstalled(self.tally, root)
+                refused_releases(self.tally)
 
 
 if __name__ == "__main__":
-    run_harness(main)
+    run_harness()

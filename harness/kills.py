@@ -16,9 +16,10 @@ import subprocess
 import threading
 import time
 
-from ssikvd_harness.arguments import is_long, need, run_harness
+from ssikvd_harness.arguments import is_long, run_harness
+from ssikvd_harness.cases import Harness
 from ssikvd_harness.connection import Connection
-from ssikvd_harness.deviations import Tally, expect
+from ssikvd_harness.deviations import expect
 from ssikvd_harness.frames import OK, frame, parts_of, refusal
 from ssikvd_harness.limits import VALUE_MAX, WRITES_MAX
 from ssikvd_harness.log_format import OLD_HEAD, body_sectors, log_image, payload, sectors_used
@@ -184,23 +185,25 @@ def kill_compactions(tally, place, kills, chance):
     return ", ".join(f"{count} times {what}" for what, count in left.items())
 
 
-def main():
-    need()
-    kills, chance = 100 if is_long() else 10, random.Random(2_008)
-    tally, acknowledged, more, files, store = Tally("kill -9"), 0, 0, 0, None
-    with folder() as place:
-        for kill in range(kills):
-            if store is None or store.is_full:
-                files += 1
-                store = Store(place, f"data{files}")
-            current, store = store, None
-            with tally.run(f"kill {kill}"):
-                noted, unnoted = current.kill_once(chance.uniform(0.0, LONGEST_LIFE))
-                acknowledged, more, store = acknowledged + noted, more + unnoted, current
-        left = kill_compactions(tally, place, kills, chance)
-    ends = f"{acknowledged} commits acknowledged and all found, {more} found that were not, over {files} files; compact left {left}"
-    return 0 if tally.end("; " + ends) else 1
+class Kills(Harness):
+    NAME = "kill -9"
+
+    def test_kills(self):
+        kills, chance = 100 if is_long() else 10, random.Random(2_008)
+        tally, acknowledged, more, files, store = self.tally, 0, 0, 0, None
+        with folder() as place:
+            for kill in range(kills):
+                if store is None or store.is_full:
+                    files += 1
+                    store = Store(place, f"data{files}")
+                current, store = store, None
+                with tally.run(f"kill {kill}"):
+                    noted, unnoted = current.kill_once(chance.uniform(0.0, LONGEST_LIFE))
+                    acknowledged, more, store = acknowledged + noted, more + unnoted, current
+            left = kill_compactions(tally, place, kills, chance)
+        ends = f"{acknowledged} commits acknowledged and all found, {more} found that were not, over {files} files; compact left {left}"
+        tally.more = "; " + ends
 
 
 if __name__ == "__main__":
-    run_harness(main)
+    run_harness()

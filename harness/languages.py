@@ -13,8 +13,9 @@ import os
 import shutil
 import subprocess
 
-from ssikvd_harness.arguments import is_long, need, run_harness
-from ssikvd_harness.deviations import Tally, expect, missing
+from ssikvd_harness.arguments import is_long, run_harness
+from ssikvd_harness.cases import Harness
+from ssikvd_harness.deviations import expect, missing
 from ssikvd_harness.languages import ENVIRONMENT, WORKERS, Run, shell
 from ssikvd_harness.server import folder
 from ssikvd_harness.settings import HARNESS, PROGRAM, TOP
@@ -101,23 +102,24 @@ def kills(tally, language, built):
         run.result()
 
 
-def main():
-    need(PROGRAM)
-    tally = Tally("languages")
-    for language in languages():
-        if not language.is_there():
-            missing(f"the client in {language.name}", f"Debian's {language.packages}")
-            continue
-        with folder() as place:
-            built = os.path.join(place, "clients")
-            shutil.copytree(EXAMPLES, built)
-            with tally.run(f"{language.name}: build"):
-                found = shell(language.build, built)
-                expect(found[0] == 0, f"{language.build} ended with {found}")
-            for part in (all_at_once, *((conflicts, cuts, kills) if is_long() else ())):
-                part(tally, language, built)
-    return 0 if tally.end() else 1
+class Languages(Harness):
+    NAME = "languages"
+    NEEDS = (PROGRAM,)
+
+    def test_languages(self):
+        for language in languages():
+            if not language.is_there():
+                missing(f"the client in {language.name}", f"Debian's {language.packages}")
+                continue
+            with folder() as place:
+                built = os.path.join(place, "clients")
+                shutil.copytree(EXAMPLES, built)
+                with self.tally.run(f"{language.name}: build"):
+                    found = shell(language.build, built)
+                    expect(found[0] == 0, f"{language.build} ended with {found}")
+                for part in (all_at_once, *((conflicts, cuts, kills) if is_long() else ())):
+                    part(self.tally, language, built)
 
 
 if __name__ == "__main__":
-    run_harness(main)
+    run_harness()

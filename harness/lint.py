@@ -1,8 +1,8 @@
 """The repository's Python, read and not run: names that aren't defined, imports and variables that nobody uses, warnings of the compiler.
 
 Each file is compiled as Python 3.10 takes it. A function of the package `ssikvd_harness` has the types of its parameters and of what it gives.
-Each script of this folder that is a harness is one that runner.py runs. pyflakes looks at all files, too, where it is installed. Sources with one
-fault each must be reported, and one without any must not.
+Each script of this folder that is a harness is one that runner.py runs, and each of bench is named in a document. pyflakes looks at all files, too,
+where it is installed. Sources with one fault each must be reported, and one without any must not.
 """
 import ast
 import builtins
@@ -16,7 +16,8 @@ import warnings
 
 from runner import HARNESSES
 from ssikvd_harness.arguments import run_harness
-from ssikvd_harness.deviations import Tally, expect, missing
+from ssikvd_harness.cases import Harness
+from ssikvd_harness.deviations import expect, missing
 from ssikvd_harness.settings import HARNESS, PATIENCE, TOP, text_of
 
 LEFT_OUT = {".git", "out", "node_modules", "vendor", "target", "build", "__pycache__"}
@@ -197,23 +198,36 @@ def by_pyflakes(tally, names):
 def harnesses(tally):
     """The scripts that are harnesses are those that are run."""
     with tally.run("the list of the harnesses"):
-        scripts = {name.removesuffix(".py") for name in os.listdir(HARNESS) if name.endswith(".py") and "    run_harness(main" in text_of(f"harness/{name}")}
+        scripts = {name.removesuffix(".py") for name in os.listdir(HARNESS) if name.endswith(".py") and "    run_harness(" in text_of(f"harness/{name}")}
         listed = {harness.name for harness in HARNESSES}
         expect(scripts == listed, f"runner.py and the folder differ in {sorted(scripts ^ listed)}")
 
 
-def main():
-    tally = Tally("lint")
-    planted(tally)
+def scripts_of_bench(tally):
+    """Each script of bench that can be run is named in a document, and each that is named is there."""
+    with tally.run("the scripts of bench"):
+        place = os.path.join(TOP, "bench")
+        scripts = {name for name in os.listdir(place) if name.endswith(".py") and os.access(os.path.join(place, name), os.X_OK)}
+        named = set(re.findall(r"bench/(\w+\.py)", "".join(text_of(f"docs/{name}") for name in os.listdir(os.path.join(TOP, "docs")) if name.endswith(".md"))))
+        lost = sorted(scripts - named) + sorted(name for name in named if not os.path.exists(os.path.join(place, name)))
+        expect(not lost, f"no document names it, or it isn't there: {', '.join(lost)}")
+
+
+def files(tally):
+    """All files, by the searches of this one and by pyflakes."""
     names = list(sources())
     for name in names:
         with tally.run(name):
             found = faults(name, text_of(name))
             expect(not found, "; ".join(found[:5]))
-    harnesses(tally)
     by_pyflakes(tally, names)
-    return 0 if tally.end() else 1
+
+
+class Lint(Harness):
+    NAME = "lint"
+    NEEDS = ()
+    PARTS = (planted, files, harnesses, scripts_of_bench)
 
 
 if __name__ == "__main__":
-    run_harness(main)
+    run_harness()

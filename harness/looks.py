@@ -14,8 +14,9 @@ import socket
 import threading
 import time
 
-from ssikvd_harness.arguments import is_long, need, run_harness
-from ssikvd_harness.deviations import Tally, expect
+from ssikvd_harness.arguments import is_long, run_harness
+from ssikvd_harness.cases import Harness
+from ssikvd_harness.deviations import expect
 from ssikvd_harness.frames import frame
 from ssikvd_harness.log_format import log_of, map_of
 from ssikvd_harness.server import check, create
@@ -197,7 +198,7 @@ def keeps_up_at_once(tally):
     with tally.run("the highest rate"):
         load, interval, said = highest_rate()
         count = sum(": compaction\n" in out for out in said)
-        beside = sum("copied beside the server" in out for out in said)
+        beside = sum("copied while the server ran" in out for out in said)
         print(f"  {sum(load.acknowledged)} commits, {count} compactions, {beside} beside the server, a look each {interval:.1f} s", flush=True)
         expect(load.full == 0, f"{load.full} commits met a full log: {said}")
         expect(count > 10, f"it was compacted {count} times")
@@ -231,15 +232,12 @@ def rule(tally):
             expect(due(0, 0), "it isn't due")
 
 
-def main():
-    need(PROGRAM)
-    tally = Tally("looks")
-    rule(tally)
-    keeps_up(tally)
-    if is_long():
-        keeps_up_at_once(tally)
-    return 0 if tally.end() else 1
+class LooksOfTheTimer(Harness):
+    NAME = "looks"
+    NEEDS = (PROGRAM,)
+    PARTS = (rule, keeps_up)
+    PARTS_OF_LONG = (keeps_up_at_once,)
 
 
 if __name__ == "__main__":
-    run_harness(main)
+    run_harness()

@@ -28,9 +28,10 @@ import random
 import subprocess
 
 from ssikvd_harness import settings
-from ssikvd_harness.arguments import is_long, need, run_harness
+from ssikvd_harness.arguments import asked, is_long, need, run_harness
+from ssikvd_harness.cases import Harness, leave_out
 from ssikvd_harness.connection import Connection
-from ssikvd_harness.deviations import Deviation, Tally, expect
+from ssikvd_harness.deviations import Deviation, expect
 from ssikvd_harness.frames import OK, bulk, frame, parts_of, refusal
 from ssikvd_harness.limits import WRITES_MAX
 from ssikvd_harness.log_format import HEAD, SECTOR, Damaged, NotALog, OldFormat, copy_of, log_image, map_of, read_log, sectors_used
@@ -773,9 +774,9 @@ SIGHT = (
 )
 
 
-def play(disk, name, runs_of, count, seed):
+def play(tally, disk, name, runs_of, count, seed):
     """So many runs of a mode."""
-    tally, machine = Tally(f"lossy, {name}"), Machine(disk, seed)
+    machine = Machine(disk, seed)
     runs = runs_of(machine)
     for number in range(count):
         with tally.run(f"{name} {number} of seed {seed}"):
@@ -784,7 +785,7 @@ def play(disk, name, runs_of, count, seed):
             except Deviation:
                 runs = runs_of(machine)
                 raise
-    return tally.end("; " + machine.text())
+    tally.more = "; " + machine.text()
 
 
 def seen_at(disk, ignored, runs_of, seed):
@@ -803,15 +804,15 @@ def seen_at(disk, ignored, runs_of, seed):
     raise Deviation(f"not seen in {SIGHT_MAX} runs")
 
 
-def sight(disk, seed):
+def sight(tally, disk, seed):
     """Is each thing seen that is left out?"""
-    tally, lines = Tally("lossy, sight"), []
+    lines = []
     for what, ignored, runs_of in SIGHT:
         with tally.run(what):
             number, text = seen_at(disk, ignored, runs_of, seed)
             lines.append(f"{what} at run {number}")
             print(f"  without {what}: run {number}, {text[:100]}", flush=True)
-    return tally.end("; left out and seen: " + ", ".join(lines))
+    tally.more = "; left out and seen: " + ", ".join(lines)
 
 
 def options(parser):
@@ -821,31 +822,33 @@ def options(parser):
     parser.add_argument("--runs", type=int, help="so many of each mode")
 
 
-def main(asked):
-    unknown = set(asked.modes) - {*MODES, "sight"}
-    if unknown:
-        raise SystemExit(f"lossy: no mode: {', '.join(sorted(unknown))}")
-    settings.PROGRAM = asked.program
-    need(settings.PROGRAM)
-    if not os.access(LOSSY, os.X_OK):
-        print("lossy: left out, since libfuse3 wasn't there when the harnesses were built")
-        return 0
-    holds = True
-    with folder() as place:
-        try:
-            disk = Disk(place)
-        except NoFuse as found:
-            print(f"lossy: left out, {found}")
-            return 0
-        with contextlib.closing(disk):
-            for name in asked.modes or [*(name for name in MODES if MODES[name][1]), "sight"]:
-                if name == "sight":
-                    holds &= sight(disk, asked.seed)
-                else:
-                    runs_of, quick, long = MODES[name]
-                    holds &= play(disk, name, runs_of, asked.runs or (long if is_long() else quick) or 100, asked.seed)
-    return 0 if holds else 1
+class Lossy(Harness):
+    NEEDS = ()
+
+    def test_modes(self):
+        words = asked(options)
+        unknown = set(words.modes) - {*MODES, "sight"}
+        if unknown:
+            raise SystemExit(f"lossy: no mode: {', '.join(sorted(unknown))}")
+        settings.PROGRAM = words.program
+        need(settings.PROGRAM)
+        if not os.access(LOSSY, os.X_OK):
+            leave_out("lossy", "libfuse3 when the harnesses were built")
+        with folder() as place:
+            try:
+                disk = Disk(place)
+            except NoFuse as found:
+                print(f"lossy: left out, {found}")
+                self.skipTest(str(found))
+            with contextlib.closing(disk):
+                for name in words.modes or [*(name for name in MODES if MODES[name][1]), "sight"]:
+                    tally = self.begin(f"lossy, {name}")
+                    if name == "sight":
+                        sight(tally, disk, words.seed)
+                    else:
+                        runs_of, quick, long = MODES[name]
+                        play(tally, disk, name, runs_of, words.runs or (long if is_long() else quick) or 100, words.seed)
 
 
 if __name__ == "__main__":
-    run_harness(main, options)
+    run_harness(options)

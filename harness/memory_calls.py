@@ -1,6 +1,6 @@
 """Memory refused to the engine and to the hub, at one call after another.
 
-`refused_memory` answers line by line, over an engine or over a hub. It is asked the worked examples, with its n-th allocation refused,
+`test_refused_memory` answers line by line, over an engine or over a hub. It is asked the worked examples, with its n-th allocation refused,
 n = 1, 2, 3 .. until a run meets no refusal. Each reply must be the model's.
 
 - At the engine the call that is refused answers `memory`, and the same call made again gives the reply that was due.
@@ -18,19 +18,19 @@ import select
 import subprocess
 from collections import Counter
 
-from ssikvd_harness.arguments import need, run_harness
-from ssikvd_harness.deviations import Deviation, Tally, expect
+from ssikvd_harness.arguments import run_harness
+from ssikvd_harness.cases import Harness
+from ssikvd_harness.deviations import Deviation, expect
 from ssikvd_harness.failing_calls import MEMORY, Refusals
 from ssikvd_harness.limits import OUTPUT_ROOM
 from ssikvd_harness.log_format import SECTOR, log_image
 from ssikvd_harness.model import Store
 from ssikvd_harness.rows import ROWS, request_of, shown
 from ssikvd_harness.server import folder
-from ssikvd_harness.settings import PATIENCE, SHIM, TOP
+from ssikvd_harness.settings import PATIENCE, REFUSED_MEMORY, SHIM
 
-PROGRAM = os.environ.get("REFUSED_MEMORY") or os.path.join(TOP, "crates", "refused_memory", "out", "refused_memory")
 SECTORS = 64
-OUT_OF_MEMORY = b"refused_memory: out of memory\n"
+OUT_OF_MEMORY = b"test_refused_memory: out of memory\n"
 ROUNDS = 3
 CALLS_MAX, ERRORS_MAX = 10_000, 10
 
@@ -42,7 +42,7 @@ class OutOfOwnMemory(Exception):
 
 
 class Program:
-    """A running `refused_memory`, whose n-th allocation is refused where an n is given."""
+    """A running `test_refused_memory`, whose n-th allocation is refused where an n is given."""
 
     def __init__(self, place, n=None):
         refusals = Refusals(place)
@@ -50,7 +50,7 @@ class Program:
         if n:
             self.allocations.fail(n)
         self.process = subprocess.Popen(
-            [PROGRAM], stdin=subprocess.PIPE, stdout=subprocess.PIPE, stderr=subprocess.PIPE, env=refusals.environment())
+            [REFUSED_MEMORY], stdin=subprocess.PIPE, stdout=subprocess.PIPE, stderr=subprocess.PIPE, env=refusals.environment())
         self.came = b""
 
     def _line(self):
@@ -346,21 +346,20 @@ def replies_around_the_room(tally):
                 expect(answer == ("1 Memory Refused" if more else reply_of(store, line)), f"{line}: {answer!r} without memory")
 
 
-def main():
-    need(PROGRAM, SHIM)
-    holds = True
-    for level in RUNS:
-        tally, counts = Tally(f"{level}, the n-th allocation refused"), Counter()
-        for name, row in ROWS.items():
-            run_in_turn(tally, level, name, row, counts)
-        holds &= tally.end("; refused to " + ", ".join(f"{what} {count}" for what, count in sorted(counts.items())))
-        tally = Tally(f"{level}, reads with all memory refused")
-        reads(tally, level)
-        if level == "hub":
-            replies_around_the_room(tally)
-        holds &= tally.end()
-    return 0 if holds else 1
+class MemoryCalls(Harness):
+    NEEDS = (REFUSED_MEMORY, SHIM)
+
+    def test_memory_calls(self):
+        for level in RUNS:
+            tally, counts = self.begin(f"{level}, the n-th allocation refused"), Counter()
+            for name, row in ROWS.items():
+                run_in_turn(tally, level, name, row, counts)
+            tally.more = "; refused to " + ", ".join(f"{what} {count}" for what, count in sorted(counts.items()))
+            tally = self.begin(f"{level}, reads with all memory refused")
+            reads(tally, level)
+            if level == "hub":
+                replies_around_the_room(tally)
 
 
 if __name__ == "__main__":
-    run_harness(main)
+    run_harness()

@@ -5,8 +5,9 @@ A run ends with status 3 and `ssikvd: out of memory`, after a beginning of the r
 """
 import os
 
-from ssikvd_harness.arguments import need, run_harness
-from ssikvd_harness.deviations import Tally, expect
+from ssikvd_harness.arguments import run_harness
+from ssikvd_harness.cases import Harness
+from ssikvd_harness.deviations import expect
 from ssikvd_harness.failing_calls import ALL, MEMORY, Refusals
 from ssikvd_harness.log_format import log_image, sectors_used
 from ssikvd_harness.rows import ROWS, model_agrees, script_of
@@ -137,18 +138,16 @@ def compact_command(tally, counts, is_lasting):
     refuse_in_turn(tally, counts, "compact", is_lasting, words, b"", due, before, after)
 
 
-def main():
-    need()
-    holds = True
-    for is_lasting, what in ((False, "the n-th allocation refused"), (True, "the n-th and all later ones refused")):
-        tally, counts = Tally(f"commands, {what}"), Counts()
-        play(tally, counts, is_lasting)
-        check_command(tally, counts, is_lasting)
-        create_command(tally, counts, is_lasting)
-        compact_command(tally, counts, is_lasting)
-        holds &= tally.end(f"; {counts.ended} ended with status 3, {counts.went_on} went on")
-    return 0 if holds else 1
+class MemoryCommands(Harness):
+    def test_memory_commands(self):
+        for is_lasting, what in ((False, "the n-th allocation refused"), (True, "the n-th and all later ones refused")):
+            tally, counts = self.begin(f"commands, {what}"), Counts()
+            play(tally, counts, is_lasting)
+            check_command(tally, counts, is_lasting)
+            create_command(tally, counts, is_lasting)
+            compact_command(tally, counts, is_lasting)
+            tally.more = f"; {counts.ended} ended with status 3, {counts.went_on} went on"
 
 
 if __name__ == "__main__":
-    run_harness(main)
+    run_harness()

@@ -8,11 +8,12 @@ Beside an old transaction, what commits have read is merged in steps. How often 
 moves, and not with its last, would ask for it more than twice as often.
 """
 
-from ssikvd_harness.arguments import need, run_harness
+from ssikvd_harness.arguments import run_harness
+from ssikvd_harness.cases import Harness
 from ssikvd_harness.connection import Connection
-from ssikvd_harness.deviations import Tally, expect
+from ssikvd_harness.deviations import expect
 from ssikvd_harness.failing_calls import MEMORY, refusing_server
-from ssikvd_harness.frames import frame
+from ssikvd_harness.frames import ABORT, BEGIN, COMMIT, PING, frame
 
 SECTORS = 65_536
 VALUE_BYTES = 1_000
@@ -24,7 +25,6 @@ PIECES, KEYS = 200, 840
 GROWTH, BOUND = 1 << 20, 16_384
 # So many transactions of so many reads, and how often each may ask for memory.
 READERS, READS, CALLS = 400, 60, 180
-BEGIN, COMMIT, ABORT, PING = (frame(word) for word in ("BEGIN", "COMMIT", "ABORT", "PING"))
 OK = b"+OK\r\n"
 
 
@@ -95,16 +95,16 @@ def readings_ask_rarely(tally, port, allocations):
         expect(calls <= CALLS, f"memory is asked for {calls} times by each transaction")
 
 
-def main():
-    need()
-    tally = Tally("what commits leave")
-    with refusing_server(SECTORS) as (server, refusals):
-        commits_leave_nothing(tally, server)
-        an_old_one_is_counted(tally, server.port, refusals.held)
-        readings_ask_rarely(tally, server.port, refusals.of(MEMORY))
-        expect(server.is_alive() and server.error_text() == b"", "the server ended, or wrote an error")
-    return 0 if tally.end() else 1
+class MemoryCommits(Harness):
+    NAME = "what commits leave"
+
+    def test_memory_commits(self):
+        with refusing_server(SECTORS) as (server, refusals):
+            commits_leave_nothing(self.tally, server)
+            an_old_one_is_counted(self.tally, server.port, refusals.held)
+            readings_ask_rarely(self.tally, server.port, refusals.of(MEMORY))
+            expect(server.is_alive() and server.error_text() == b"", "the server ended, or wrote an error")
 
 
 if __name__ == "__main__":
-    run_harness(main)
+    run_harness()

@@ -6,17 +6,13 @@ the keys rise, so sorting takes no memory; keys are short and values empty, so n
 so no room is spare; and they are fewer than what is swept while it is collected. The judge is shown to fail by the figure of such a reader.
 """
 import os
-import sys
 
-from ssikvd_harness.arguments import need, run_harness
-from ssikvd_harness.deviations import Tally, expect, is_refused
+from ssikvd_harness.arguments import run_harness
+from ssikvd_harness.cases import Harness
+from ssikvd_harness.deviations import expect, is_refused
 from ssikvd_harness.failing_calls import Refusals
+from ssikvd_harness.log_format import write_log
 from ssikvd_harness.server import folder, run
-from ssikvd_harness.settings import TOP
-
-sys.path.append(os.path.join(TOP, "bench"))
-
-from logs import write_records      # noqa: E402
 
 COMMIT_WRITES = 64
 # A collected write takes so many bytes, and a pair of the map so many.
@@ -29,7 +25,7 @@ def most_held(place, writes):
     """How many bytes `check` held at most over a log of so many writes."""
     data, refusals = os.path.join(place, "data"), Refusals(place)
     numbers = range(0, writes, COMMIT_WRITES)
-    write_records(data, ([(b"%016x" % number, b"") for number in range(start, start + COMMIT_WRITES)] for start in numbers))
+    write_log(data, ([(b"%016x" % number, b"") for number in range(start, start + COMMIT_WRITES)] for start in numbers))
     status, out, err = run(["check", "--data", data], environment=refusals.environment())
     expect(status == 0 and not err and b" keys %d " % writes in out, f"check answered {(status, out, err)}")
     return refusals.most()
@@ -42,18 +38,18 @@ def judge(most, writes):
     return bound
 
 
-def main():
-    need()
-    tally = Tally("what making the map of a log holds")
-    with folder() as place:
-        for writes in (8_192, 32_768):
-            with tally.run(f"{writes:,} writes"):
-                most = most_held(place, writes)
-                print(f"  memory: {most:,} bytes are held at most while the map of {writes:,} writes is made, of {judge(most, writes):,}")
-                expect(is_refused(judge, (ENTRY_BYTES + PAIR_BYTES) * writes, writes), "room that is given back at the end is taken")
-                expect(most > ENTRY_BYTES * writes, "not even the writes are counted")
-    return 0 if tally.end() else 1
+class MemoryOpening(Harness):
+    NAME = "what making the map of a log holds"
+
+    def test_memory_opening(self):
+        with folder() as place:
+            for writes in (8_192, 32_768):
+                with self.tally.run(f"{writes:,} writes"):
+                    most = most_held(place, writes)
+                    print(f"  memory: {most:,} bytes are held at most while the map of {writes:,} writes is made, of {judge(most, writes):,}")
+                    expect(is_refused(judge, (ENTRY_BYTES + PAIR_BYTES) * writes, writes), "room that is given back at the end is taken")
+                    expect(most > ENTRY_BYTES * writes, "not even the writes are counted")
 
 
 if __name__ == "__main__":
-    run_harness(main)
+    run_harness()

@@ -6,20 +6,19 @@ a COMMIT that is appended can't meet a want of memory any more, and a request th
 
 Commits stand beside an old transaction, so that what they wrote and read is merged; replies are short and long, and come whole and in pieces.
 """
-import os
 
-from ssikvd_harness.arguments import need, run_harness
+from ssikvd_harness.arguments import run_harness
+from ssikvd_harness.cases import Harness
 from ssikvd_harness.connection import Connection
-from ssikvd_harness.deviations import Tally, expect, is_refused
-from ssikvd_harness.frames import frame
-from ssikvd_harness.server import Server, create, folder
+from ssikvd_harness.deviations import expect, is_refused
+from ssikvd_harness.frames import ABORT, BEGIN, COMMIT, PING, frame
+from ssikvd_harness.server import Server, folder, fresh
 from ssikvd_harness.settings import TRACER
 from ssikvd_harness.tracing import MEMORY, RECEIVE, SEND, WRITE_AT, Call, Trace
 
 SECTORS = 16_384
 COMMITS, KEYS_EACH = 150, 12
 PAIRS = 128
-BEGIN, COMMIT, ABORT, PING = (frame(word) for word in ("BEGIN", "COMMIT", "ABORT", "PING"))
 OK = b"+OK\r\n"
 
 
@@ -111,30 +110,31 @@ def show_that_they_fail(tally, calls):
             expect(is_refused(judge, [*calls[:at + 1], memory, *calls[at + 1:]]), "a call more isn't seen")
 
 
-def main():
-    need(TRACER)
-    tally = Tally("memory_order")
-    with folder() as place:
-        data, trace = os.path.join(place, "data"), Trace(place, traces_memory=True)
-        create(data, SECTORS)
-        with Server(data, trace.environment()) as server, Connection(server.port) as client, Connection(server.port) as old:
-            with tally.run("appends"):
-                appends = judge_appends(traced(trace, lambda: write_beside_an_old_one(client, old)))
-                expect(appends == COMMITS, f"{appends} appends were seen, of {COMMITS}")
-            with tally.run("replies"):
-                replies = traced(trace, lambda: read_much(client))
-                expect(judge_replies(replies) >= 7, "too few replies were seen")
-            with Pieces(server.port) as pieces, tally.run("pieces and leaving"):
-                expect(pieces.beside.ask(PING) == b"+PONG\r\n", "PING was refused")
-                come = traced(trace, lambda: come_in_pieces(pieces))
-                expect(judge_pieces(come) >= 9, "too few pieces were seen")
-                left = traced(trace, lambda: (pieces.socket.close(), pieces.beside.ask(PING), pieces.beside.ask(PING)))
-                judge_pieces(left)
-                expect(any(call.kind == RECEIVE and call.result == 0 for call in left), "nobody is seen to leave")
-            show_that_they_fail(tally, trace.calls())
-            expect(server.is_alive() and server.error_text() == b"", "the server ended, or wrote an error")
-    return 0 if tally.end() else 1
+class MemoryOrder(Harness):
+    NAME = "memory_order"
+    NEEDS = (TRACER,)
+
+    def test_memory_order(self):
+        tally = self.tally
+        with folder() as place:
+            data, trace = fresh(place, SECTORS), Trace(place, traces_memory=True)
+            with Server(data, trace.environment()) as server, Connection(server.port) as client, Connection(server.port) as old:
+                with tally.run("appends"):
+                    appends = judge_appends(traced(trace, lambda: write_beside_an_old_one(client, old)))
+                    expect(appends == COMMITS, f"{appends} appends were seen, of {COMMITS}")
+                with tally.run("replies"):
+                    replies = traced(trace, lambda: read_much(client))
+                    expect(judge_replies(replies) >= 7, "too few replies were seen")
+                with Pieces(server.port) as pieces, tally.run("pieces and leaving"):
+                    expect(pieces.beside.ask(PING) == b"+PONG\r\n", "PING was refused")
+                    come = traced(trace, lambda: come_in_pieces(pieces))
+                    expect(judge_pieces(come) >= 9, "too few pieces were seen")
+                    left = traced(trace, lambda: (pieces.socket.close(), pieces.beside.ask(PING), pieces.beside.ask(PING)))
+                    judge_pieces(left)
+                    expect(any(call.kind == RECEIVE and call.result == 0 for call in left), "nobody is seen to leave")
+                show_that_they_fail(tally, trace.calls())
+                expect(server.is_alive() and server.error_text() == b"", "the server ended, or wrote an error")
 
 
 if __name__ == "__main__":
-    run_harness(main)
+    run_harness()

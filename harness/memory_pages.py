@@ -4,8 +4,9 @@ The versions' keys stand in pages of some hundred keys. Eight commits of 64 keys
 connection is closed and a new one finds the map as it was; it commits the same writes then. After that all keys are there, by rising key.
 """
 
-from ssikvd_harness.arguments import need, run_harness
-from ssikvd_harness.deviations import Tally, expect
+from ssikvd_harness.arguments import run_harness
+from ssikvd_harness.cases import Harness
+from ssikvd_harness.deviations import expect
 from ssikvd_harness.failing_calls import MEMORY, refusing_server
 from ssikvd_harness.frames import frame
 from ssikvd_harness.model import Store
@@ -70,17 +71,17 @@ def one_run(n):
     return was_refused
 
 
-def main():
-    need()
-    tally = Tally("a COMMIT that splits pages, with each allocation refused")
-    for n in range(1, N_MAX):
-        was_refused = False
-        with tally.run(f"allocation {n}"):
-            was_refused = one_run(n)
-        if not was_refused:
-            break
-    return 0 if tally.end() else 1
+class MemoryPages(Harness):
+    NAME = "a COMMIT that splits pages, with each allocation refused"
+
+    def test_memory_pages(self):
+        for n in range(1, N_MAX):
+            was_refused = False
+            with self.tally.run(f"allocation {n}"):
+                was_refused = one_run(n)
+            if not was_refused:
+                break
 
 
 if __name__ == "__main__":
-    run_harness(main)
+    run_harness()

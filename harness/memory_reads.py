@@ -5,9 +5,10 @@ again: each reply is the model's, and none has asked for memory. What does need 
 the bytes that an output keeps needs it each time, since the room was given back.
 """
 
-from ssikvd_harness.arguments import need, run_harness
+from ssikvd_harness.arguments import run_harness
+from ssikvd_harness.cases import Harness
 from ssikvd_harness.connection import Connection
-from ssikvd_harness.deviations import Tally, expect
+from ssikvd_harness.deviations import expect
 from ssikvd_harness.failing_calls import MEMORY, refusing_server
 from ssikvd_harness.frames import frame
 from ssikvd_harness.limits import KEY_MAX, LARGEST_REPLY, VALUE_MAX
@@ -111,33 +112,34 @@ def starve(server, allocations, store, tally):
                 session.ask(parts)
 
 
-def main():
-    need()
-    tally, store = Tally("reads with all memory refused"), Store(SECTORS)
-    with refusing_server(SECTORS) as (server, refusals):
-        allocations = refusals.of(MEMORY)
-        with tally.run("filling the map"):
-            fill(server, store)
-        reader = Session(server, store, "marked")
-        with tally.run("the first reads"):
-            for parts in FIRST:
-                reader.ask(parts)
-        calls = allocations.made
-        allocations.fail_all()
-        for turn in range(ROUNDS):
-            for parts in AGAIN:
-                with tally.run(f"{parts[:1]} in round {turn}"):
+class MemoryReads(Harness):
+    NAME = "reads with all memory refused"
+
+    def test_memory_reads(self):
+        tally, store = self.tally, Store(SECTORS)
+        with refusing_server(SECTORS) as (server, refusals):
+            allocations = refusals.of(MEMORY)
+            with tally.run("filling the map"):
+                fill(server, store)
+            reader = Session(server, store, "marked")
+            with tally.run("the first reads"):
+                for parts in FIRST:
                     reader.ask(parts)
-        with tally.run("ABORT"):
-            reader.ask([b"ABORT"])
-        with tally.run("the allocations that were asked for"):
-            expect(allocations.made == calls, f"{allocations.made - calls} allocations")
-        allocations.pass_on()
-        starve(server, allocations, store, tally)
-        with tally.run("the server"):
-            expect(server.is_alive() and server.error_text() == b"", "it ended, or wrote an error")
-    return 0 if tally.end() else 1
+            calls = allocations.made
+            allocations.fail_all()
+            for turn in range(ROUNDS):
+                for parts in AGAIN:
+                    with tally.run(f"{parts[:1]} in round {turn}"):
+                        reader.ask(parts)
+            with tally.run("ABORT"):
+                reader.ask([b"ABORT"])
+            with tally.run("the allocations that were asked for"):
+                expect(allocations.made == calls, f"{allocations.made - calls} allocations")
+            allocations.pass_on()
+            starve(server, allocations, store, tally)
+            with tally.run("the server"):
+                expect(server.is_alive() and server.error_text() == b"", "it ended, or wrote an error")
 
 
 if __name__ == "__main__":
-    run_harness(main)
+    run_harness()

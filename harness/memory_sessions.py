@@ -5,12 +5,13 @@ whole, so while one is, the count must be above that bound: otherwise it would s
 """
 import time
 
-from ssikvd_harness.arguments import is_long, need, run_harness
+from ssikvd_harness.arguments import is_long, run_harness
+from ssikvd_harness.cases import Harness
 from ssikvd_harness.connection import Connection
-from ssikvd_harness.deviations import Tally, expect
+from ssikvd_harness.deviations import expect
 from ssikvd_harness.failing_calls import MEMORY, refusing_server
-from ssikvd_harness.frames import frame
-from ssikvd_harness.limits import HELD_MAX, INBOX_MAX, KEY_MAX, OUTPUT_ROOM, VALUE_MAX
+from ssikvd_harness.frames import ABORT, BEGIN, COMMIT, PING, frame
+from ssikvd_harness.limits import BUFFERED_MAX, INBOX_MAX, KEY_MAX, OUTPUT_ROOM, VALUE_MAX
 
 SECTORS = 16_384
 COUNT = 120
@@ -21,7 +22,6 @@ OUTPUT_KEPT, REST = 65_536, 2_048
 LARGE = 1 << 20
 # A large reply leaves in parts, over several turns.
 MANY_TURNS = 30
-BEGIN, COMMIT, ABORT, PING = (frame(word) for word in ("BEGIN", "COMMIT", "ABORT", "PING"))
 LARGEST_RANGE = frame("RANGE", b"l", b"m", b"%d" % PAIRS)
 OK = b"+OK\r\n"
 
@@ -47,7 +47,7 @@ def held(refusals, client, turns=3):
 
 def bound(count):
     """What so many sessions may keep that have nothing pending."""
-    return count * (INBOX_MAX + HELD_MAX + OUTPUT_ROOM + OUTPUT_KEPT + REST)
+    return count * (INBOX_MAX + BUFFERED_MAX + OUTPUT_ROOM + OUTPUT_KEPT + REST)
 
 
 def read_largest(client):
@@ -109,18 +109,18 @@ def sending_asks_for_none(tally, server, refusals):
         expect(asked_since == 0, f"memory was asked for {asked_since} times while a reply was sent")
 
 
-def main():
-    need()
-    tally = Tally("what sessions keep")
-    with refusing_server(SECTORS) as (server, refusals):
-        fill(server.port)
-        for _ in range(3 if is_long() else 1):
-            sessions_keep_little(tally, server, refusals, COUNT)
-        unread_reply_is_counted(tally, server, refusals)
-        sending_asks_for_none(tally, server, refusals)
-        expect(server.is_alive() and server.error_text() == b"", "the server ended, or wrote an error")
-    return 0 if tally.end() else 1
+class MemorySessions(Harness):
+    NAME = "what sessions keep"
+
+    def test_memory_sessions(self):
+        with refusing_server(SECTORS) as (server, refusals):
+            fill(server.port)
+            for _ in range(3 if is_long() else 1):
+                sessions_keep_little(self.tally, server, refusals, COUNT)
+            unread_reply_is_counted(self.tally, server, refusals)
+            sending_asks_for_none(self.tally, server, refusals)
+            expect(server.is_alive() and server.error_text() == b"", "the server ended, or wrote an error")
 
 
 if __name__ == "__main__":
-    run_harness(main)
+    run_harness()

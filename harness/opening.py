@@ -5,16 +5,13 @@ is opened several times, and the least counts, since other work of the machine c
 square does.
 """
 import os
-import sys
 
-from ssikvd_harness.arguments import need, run_harness
-from ssikvd_harness.deviations import Tally, expect, is_refused
+from ssikvd_harness.arguments import run_harness
+from ssikvd_harness.cases import Harness
+from ssikvd_harness.deviations import expect, is_refused
+from ssikvd_harness.log_format import write_log
 from ssikvd_harness.server import Server, folder
-from ssikvd_harness.settings import PROGRAM, TOP
-
-sys.path.append(os.path.join(TOP, "bench"))
-
-from logs import write_records      # noqa: E402
+from ssikvd_harness.settings import PROGRAM
 
 SMALL, TIMES, TRIES, COMMIT_WRITES = 1_024, 16, 3, 64
 # How many times as much for each write the larger may take.
@@ -57,22 +54,28 @@ def of_log(place, key_of):
     took = []
     for writes in (SMALL, TIMES * SMALL):
         data = os.path.join(place, "data")
-        write_records(data, records(key_of, writes), free_sectors=64)
+        write_log(data, records(key_of, writes), free_sectors=64)
         took.append(opening_seconds(data))
     return took
 
 
-def main():
-    need(PROGRAM)
-    tally, growths = Tally("opening"), []
-    with folder() as place:
-        for name, key_of in LOGS.items():
-            with tally.run(name):
-                growths.append(judge(*of_log(place, key_of)))
-    with tally.run("the bound"):
-        expect(is_refused(judge, 1, TIMES ** 2) and not is_refused(judge, 1, TIMES), "growth by the square is taken, or growth by the size is not")
-    return 0 if tally.end(f"; for each write at most {max(growths):.2f} times as much, of {BOUND}" if growths else "") else 1
+class Opening(Harness):
+    NAME = "opening"
+    NEEDS = (PROGRAM,)
+
+    def test_growth(self):
+        growths = []
+        with folder() as place:
+            for name, key_of in LOGS.items():
+                with self.tally.run(name):
+                    growths.append(judge(*of_log(place, key_of)))
+        if growths:
+            self.tally.more = f"; for each write at most {max(growths):.2f} times as much, of {BOUND}"
+
+    def test_bound(self):
+        with self.tally.run("the bound"):
+            expect(is_refused(judge, 1, TIMES ** 2) and not is_refused(judge, 1, TIMES), "growth by the square is taken, or growth by the size is not")
 
 
 if __name__ == "__main__":
-    run_harness(main)
+    run_harness()

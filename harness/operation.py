@@ -22,15 +22,16 @@ import subprocess
 import threading
 import time
 
-from ssikvd_harness.arguments import is_long, need, run_harness
+from ssikvd_harness.arguments import is_long, run_harness
+from ssikvd_harness.cases import Harness
 from ssikvd_harness.connection import Connection
-from ssikvd_harness.deviations import Deviation, Tally, expect, missing
+from ssikvd_harness.deviations import Deviation, expect, missing
 from ssikvd_harness.examples import simple_client
 from ssikvd_harness.failing_calls import DEVICE, Refusals
 from ssikvd_harness.frames import frame
 from ssikvd_harness.log_format import SECTOR, Damaged, NotALog, log_of, map_of, read_log
 from ssikvd_harness.server import Server, check, create, folder, free_port
-from ssikvd_harness.settings import PROGRAM, SHIM
+from ssikvd_harness.settings import PROGRAM
 from ssikvd_harness.tools import DIST, SECTORS, commit, fill, loaded, tool
 from ssikvd_harness.trials import Recorder, Trial, write_script
 from ssikvd_harness.units import allocator, judge_metrics, rules, scripts, texts, units
@@ -655,13 +656,10 @@ def process_1(tally):
             missing("a server below tini", "tini")
 
 
-def main():
-    need(PROGRAM, SHIM)
-    tally = Tally("operation")
-    for part in (probes, fills, backups, crashes_of_backups, before_a_start, compactions, process_1, units, allocator, rules, scripts, texts):
-        part(tally)
-    return 0 if tally.end() else 1
+class Operation(Harness):
+    NAME = "operation"
+    PARTS = (probes, fills, backups, crashes_of_backups, before_a_start, compactions, process_1, units, allocator, rules, scripts, texts)
 
 
 if __name__ == "__main__":
-    run_harness(main)
+    run_harness()

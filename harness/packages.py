@@ -32,7 +32,8 @@ import signal
 import socket
 import time
 
-from ssikvd_harness.arguments import is_long, need, run_harness
+from ssikvd_harness.arguments import is_long, run_harness
+from ssikvd_harness.cases import Harness
 from ssikvd_harness.connection import Connection
 from ssikvd_harness.cutting import CLOSE, PIVOT, SILENCE, Scripted
 from ssikvd_harness.deviations import Deviation, Tally, expect, is_refused, missing
@@ -430,27 +431,32 @@ def play(package, filled):
     return tally, time.monotonic() - begun
 
 
-def main():
-    need(PROGRAM)
-    tally = Tally("packages")
-    with tally.run("judges"):
-        judges()
-    with tally.run("frames"):
-        frames()
-    there = [package for package in PACKAGES if package.is_there()]
-    for package in PACKAGES:
-        if package not in there:
-            missing(f"the package for {package.name}", package.needs)
-    with folder() as place, concurrent.futures.ThreadPoolExecutor(max(1, len(there))) as threads:
-        filled = Filled(place)
-        try:
-            for found, seconds in threads.map(lambda package: play(package, filled), there):
-                tally.take(found)
-                print(f"  {found.name}: {found.runs} runs in {seconds:.0f} seconds", flush=True)
-        finally:
-            filled.server.kill()
-    return 0 if tally.end() else 1
+class Packages(Harness):
+    NAME = "packages"
+    NEEDS = (PROGRAM,)
+
+    def test_judges(self):
+        with self.tally.run("judges"):
+            judges()
+
+    def test_frames(self):
+        with self.tally.run("frames"):
+            frames()
+
+    def test_packages(self):
+        there = [package for package in PACKAGES if package.is_there()]
+        for package in PACKAGES:
+            if package not in there:
+                missing(f"the package for {package.name}", package.needs)
+        with folder() as place, concurrent.futures.ThreadPoolExecutor(max(1, len(there))) as threads:
+            filled = Filled(place)
+            try:
+                for found, seconds in threads.map(lambda package: play(package, filled), there):
+                    self.tally.take(found)
+                    print(f"  {found.name}: {found.runs} runs in {seconds:.0f} seconds", flush=True)
+            finally:
+                filled.server.kill()
 
 
 if __name__ == "__main__":
-    run_harness(main)
+    run_harness()

@@ -12,8 +12,9 @@ import argparse
 import os
 import sys
 
-from ssikvd_harness.arguments import is_long, need, run_harness
-from ssikvd_harness.deviations import Deviation, Tally, expect, is_refused
+from ssikvd_harness.arguments import is_long, run_harness
+from ssikvd_harness.cases import Harness
+from ssikvd_harness.deviations import Deviation, expect, is_refused
 from ssikvd_harness.settings import OUT, PROGRAM, TOP
 
 sys.path.append(os.path.join(TOP, "bench"))
@@ -62,7 +63,7 @@ def scenes_and_bounds():
 def options(wasted_ms=0):
     place = "/dev/shm" if os.path.isdir("/dev/shm") else None
     return argparse.Namespace(
-        program=PROGRAM, library=LIBRARY, preload=[], folder=place, keys=LONG_KEYS if is_long() else KEYS, seconds=SECONDS, behind=BEHIND_SECONDS,
+        program=PROGRAM, library=LIBRARY, folder=place, keys=LONG_KEYS if is_long() else KEYS, seconds=SECONDS, behind=BEHIND_SECONDS,
         wasted_ms=wasted_ms)
 
 
@@ -117,14 +118,16 @@ def judged(tally, seen):
             expect(took_ms >= wasted_ms and is_refused(judge, what, took_ms), f"it wasted {wasted_ms} ms, and {took_ms} ms were seen")
 
 
-def main():
-    need(PROGRAM, LIBRARY)
-    tally = Tally("pauses")
-    seen = scenes(tally)
-    judged(tally, seen)
-    nearest = max(seen, key=seen.get, default="nothing")
-    return 0 if tally.end(f"; nearest to its bound: {nearest}, {seen.get(nearest, 0):.0%} of it") else 1
+class Pauses(Harness):
+    NAME = "pauses"
+    NEEDS = (PROGRAM, LIBRARY)
+
+    def test_pauses(self):
+        seen = scenes(self.tally)
+        judged(self.tally, seen)
+        nearest = max(seen, key=seen.get, default="nothing")
+        self.tally.more = f"; nearest to its bound: {nearest}, {seen.get(nearest, 0):.0%} of it"
 
 
 if __name__ == "__main__":
-    run_harness(main)
+    run_harness()

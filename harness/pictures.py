@@ -15,7 +15,8 @@ import sys
 import xml.etree.ElementTree as xml
 
 from ssikvd_harness.arguments import is_long, run_harness
-from ssikvd_harness.deviations import Deviation, Tally, expect
+from ssikvd_harness.cases import Harness
+from ssikvd_harness.deviations import Deviation, expect
 from ssikvd_harness.rows import EXAMPLES, example_files
 from ssikvd_harness.settings import TOP
 from histories import FORMS, RecentStore, model_history
@@ -153,33 +154,37 @@ def falsified(name):
     raise Deviation(f"{name}: nothing is wrong though the refused one has committed")
 
 
-def main():
-    tally, refused = Tally("pictures"), 0
-    for name in EXAMPLES:
-        with tally.run(name):
-            example(name)
-    for name in DRAWN:
-        with tally.run(f"{name}, falsified"):
-            falsified(name)
-    for name in draw.PICTURES:
-        if name not in draw.EXAMPLES:
-            with tally.run(f"the words of {name}"):
-                words_of(name, draw.PICTURES[name]())
-    with tally.run("words on a bar, planted"):
-        on_a_bar()
-    with tally.run("the arrows of crates"):
-        apart("crates", draw.PICTURES["crates"]())
-    with tally.run("a line behind a box, planted"):
-        behind_a_box()
-    for number in range(1_000 if is_long() else 60):
-        with tally.run(f"script {number}"):
-            refused += random_script(number)
-    for form in FORMS:
-        with tally.run(f"a history, {form}"):
-            events = model_history(RecentStore(), form, 1, 60)
-            parse(picture.drawn(picture.scene_of_history("A history", form, events, 5, 8)))
-    return 0 if tally.end(f"; {refused} refused commits drawn") else 1
+class Pictures(Harness):
+    NAME = "pictures"
+    NEEDS = ()
+
+    def test_pictures(self):
+        tally, refused = self.tally, 0
+        for name in EXAMPLES:
+            with tally.run(name):
+                example(name)
+        for name in DRAWN:
+            with tally.run(f"{name}, falsified"):
+                falsified(name)
+        for name in draw.PICTURES:
+            if name not in draw.EXAMPLES:
+                with tally.run(f"the words of {name}"):
+                    words_of(name, draw.PICTURES[name]())
+        with tally.run("words on a bar, planted"):
+            on_a_bar()
+        with tally.run("the arrows of crates"):
+            apart("crates", draw.PICTURES["crates"]())
+        with tally.run("a line behind a box, planted"):
+            behind_a_box()
+        for number in range(1_000 if is_long() else 60):
+            with tally.run(f"script {number}"):
+                refused += random_script(number)
+        for form in FORMS:
+            with tally.run(f"a history, {form}"):
+                events = model_history(RecentStore(), form, 1, 60)
+                parse(picture.drawn(picture.scene_of_history("A history", form, events, 5, 8)))
+        tally.more = f"; {refused} refused commits drawn"
 
 
 if __name__ == "__main__":
-    run_harness(main)
+    run_harness()

@@ -15,12 +15,12 @@ import os
 import shutil
 import signal
 import stat
-import sys
 import tempfile
 import time
 
-from ssikvd_harness.arguments import is_long, need, run_harness
-from ssikvd_harness.deviations import Deviation, Tally, expect, missing
+from ssikvd_harness.arguments import is_long, run_harness
+from ssikvd_harness.cases import Harness, leave_out
+from ssikvd_harness.deviations import Deviation, expect
 from ssikvd_harness.server import check, create, folder
 from ssikvd_harness.settings import PROGRAM
 from ssikvd_harness.tools import DIST, ENVIRONMENT, tool
@@ -296,17 +296,17 @@ def show_that_they_fail(tally):
             raise Deviation(f"{name} was not reported")
 
 
-def main():
-    need(PROGRAM)
-    tally = Tally("planted_links")
-    if os.getuid() or not shutil.which("setpriv"):
-        missing("links that a user plants", "root, or setpriv")
-    else:
-        for part in (used, others, compact, show_that_they_fail):
-            part(tally)
-    return 0 if tally.end() else 1
+class PlantedLinks(Harness):
+    NAME = "planted_links"
+    NEEDS = (PROGRAM,)
+    PARTS = (used, others, compact, show_that_they_fail)
+
+    @classmethod
+    def setUpClass(cls):
+        super().setUpClass()
+        if os.getuid() or not shutil.which("setpriv"):
+            leave_out("links that a user plants", "root, or setpriv")
 
 
 if __name__ == "__main__":
-    sys.dont_write_bytecode = True
-    run_harness(main)
+    run_harness()

@@ -28,7 +28,8 @@ import subprocess
 import sys
 import time
 
-from ssikvd_harness.arguments import is_long, need, run_harness
+from ssikvd_harness.arguments import asked, is_long, run_harness
+from ssikvd_harness.cases import Harness
 from ssikvd_harness.connection import Connection
 from ssikvd_harness.deviations import Tally, expect, wait_for
 from ssikvd_harness.frames import OK, frame
@@ -473,9 +474,9 @@ def kinds_here(only):
     return [kind for kind in MAKERS if kind in has and (not only or kind in only)]
 
 
-def inside(asked):
-    """What is done with mounts of its own. Prints the line of the harness."""
-    tally, more, kinds = Tally("losses of power"), "", kinds_here(asked.only)
+def inside(tally, asked):
+    """What is done with mounts of its own."""
+    more, kinds = "", kinds_here(asked.only)
     cuts = asked.cuts or (LONG_CUTS if is_long() else QUICK_CUTS)
     with folder() as place:
         command("mount", "-t", "tmpfs", "none", place)
@@ -494,7 +495,7 @@ def inside(asked):
         finally:
             unmount(place)
     left_out = [kind for kind in asked.only or MAKERS if kind not in kinds]
-    return 0 if tally.end(more + (f"; left out are {', '.join(left_out)}" if left_out else "")) else 1
+    tally.more = more + (f"; left out are {', '.join(left_out)}" if left_out else "")
 
 
 def why_left_out():
@@ -517,17 +518,21 @@ def options(parser):
     parser.add_argument(INSIDE, action="store_true", help=argparse.SUPPRESS)    # with mounts of its own
 
 
-def main(asked):
-    need(PROGRAM)
-    why = why_left_out()
-    if why:
-        print(f"losses of power: left out, since {why}", flush=True)
-        return 0
-    if not asked.inside:
-        words = [*IN_PRIVATE, sys.executable, os.path.abspath(__file__), INSIDE, *sys.argv[1:]]
-        return subprocess.run(words, check=False).returncode
-    return inside(asked)
+class PowerCuts(Harness):
+    NAME = "losses of power"
+    NEEDS = (PROGRAM,)
+
+    def test_power_cuts(self):
+        why = why_left_out()
+        if why:
+            print(f"losses of power: left out, since {why}", flush=True)
+            self.skipTest(why)
+        words = asked(options)
+        if words.inside:
+            inside(self.tally, words)
+        else:
+            self.run_again(IN_PRIVATE, INSIDE)
 
 
 if __name__ == "__main__":
-    run_harness(main, options)
+    run_harness(options)

@@ -21,8 +21,9 @@ import threading
 import time
 
 import documents
-from ssikvd_harness.arguments import is_long, need, run_harness
-from ssikvd_harness.deviations import Deviation, Tally, expect, wait_for
+from ssikvd_harness.arguments import is_long, run_harness
+from ssikvd_harness.cases import Harness
+from ssikvd_harness.deviations import Deviation, expect, wait_for
 from ssikvd_harness.examples import simple_client
 from ssikvd_harness.server import Server, create, folder, free_port
 from ssikvd_harness.settings import PATIENCE, PROGRAM, TOP, text_of
@@ -488,13 +489,11 @@ def server_of(place):
     return data
 
 
-def main():
-    need(PROGRAM)
-    tally = Tally("proxies")
-    for part in (written, typed, tls, limits, drained, chained, ssh):
-        part(tally)
-    return 0 if tally.end() else 1
+class Proxies(Harness):
+    NAME = "proxies"
+    NEEDS = (PROGRAM,)
+    PARTS = (written, typed, tls, limits, drained, chained, ssh)
 
 
 if __name__ == "__main__":
-    run_harness(main)
+    run_harness()

@@ -9,18 +9,18 @@ import random
 import re
 import subprocess
 
-from ssikvd_harness.arguments import is_long, need, run_harness
-from ssikvd_harness.deviations import Deviation, Tally, expect, is_refused
+from ssikvd_harness.arguments import is_long, run_harness
+from ssikvd_harness.cases import Harness
+from ssikvd_harness.deviations import Deviation, expect, is_refused
 from ssikvd_harness.frames import OK
 from ssikvd_harness.model import Store
 from ssikvd_harness.rows import request_of, shown
-from ssikvd_harness.settings import PROGRAM, TOP
+from ssikvd_harness.settings import PLAIN_PLAY, PROGRAM, TOP
 from ssikvd_harness.shrinking import shrunk
 
-PLAIN_PLAY = os.path.abspath(os.environ.get("PLAIN_PLAY") or os.path.join(TOP, "crates", "plain_play", "out", "plain_play"))
 SCRIPTS = {"quick": range(300), "long": range(300, 12_300)}
 EMPTY = '""'
-WORKED = os.path.join(TOP, "crates", "rows", "src", "worked.rt")
+WORKED = os.path.join(TOP, "crates", "test_rows", "src", "worked.rt")
 ROW = re.compile(r"pub static (\w+): \[(?:Line|Counted); \d+\] = \[(.*?)\n\];", re.DOTALL)
 LINE = re.compile(r'(?:\((\d+), (\d+), )?\("((?:[^"\\]|\\.)*)", "((?:[^"\\]|\\.)*)"\)')
 LOG_FULL_SECTORS = 4
@@ -136,25 +136,27 @@ def planted(tally):
         expect(all(not is_refused(play, few[:at] + few[at + 1:], lambda some: by_model(some, Forgetful)) for at in range(len(few))), f"too many are left: {few}")
 
 
-def main():
-    need(PROGRAM, PLAIN_PLAY)
-    form = "long" if is_long() else "quick"
-    tally, commits, pivots = Tally(f"random_scripts {form}"), 0, 0
-    programs = {"play": [PROGRAM, "play"], "plain engine": [PLAIN_PLAY]}
-    for name, lines in worked_rows():
-        with tally.run(f"row {name}"):
-            expect_row(name, lines)
-    planted(tally)
-    for number in SCRIPTS[form]:
-        lines = script_of(number)
-        due = by_model(lines)
-        commits += sum(" :" in line for line in due)
-        pivots += sum("CONFLICT pivot" in line for line in due)
-        for name, words in programs.items():
-            with tally.run(f"script {number} by the {name}"):
-                expect_due(lines, due, lambda some: by_program(words, some), SHRINKING_SECONDS if tally.count() < SHRUNK_MAX else 0)
-    return 0 if tally.end(f"; {commits} commits, {pivots} refused for a pivot") else 1
+class RandomScripts(Harness):
+    NEEDS = (PROGRAM, PLAIN_PLAY)
+
+    def test_random_scripts(self):
+        form = "long" if is_long() else "quick"
+        tally, commits, pivots = self.begin(f"random_scripts {form}"), 0, 0
+        programs = {"play": [PROGRAM, "play"], "plain engine": [PLAIN_PLAY]}
+        for name, lines in worked_rows():
+            with tally.run(f"row {name}"):
+                expect_row(name, lines)
+        planted(tally)
+        for number in SCRIPTS[form]:
+            lines = script_of(number)
+            due = by_model(lines)
+            commits += sum(" :" in line for line in due)
+            pivots += sum("CONFLICT pivot" in line for line in due)
+            for name, words in programs.items():
+                with tally.run(f"script {number} by the {name}"):
+                    expect_due(lines, due, lambda some: by_program(words, some), SHRINKING_SECONDS if tally.count() < SHRUNK_MAX else 0)
+        tally.more = f"; {commits} commits, {pivots} refused for a pivot"
 
 
 if __name__ == "__main__":
-    run_harness(main)
+    run_harness()

@@ -12,6 +12,7 @@ import re
 
 import audit
 from ssikvd_harness.arguments import run_harness
+from ssikvd_harness.cases import Harness
 from ssikvd_harness.settings import TOP
 
 PAGE = "docs/DEFINITIONS.md"
@@ -302,18 +303,30 @@ def options(parser):
     parser.add_argument("--write", action="store_true", help="write the page")
 
 
-def main(asked):
+def write_page(who, name, made):
+    """Writes a page, unless what it says is untrue. The status."""
     try:
-        text = page()
-        if asked.write:
-            with open(os.path.join(TOP, PAGE), "w", encoding="utf-8") as file:
-                file.write(text)
+        text = made()
     except Untrue as untrue:
-        print(f"reading: {untrue}")
+        print(f"{who}: {untrue}")
         return 1
-    print(f"reading: {PAGE} {'is written' if asked.write else 'can be written'}: {len(text.splitlines())} lines")
+    with open(os.path.join(TOP, name), "w", encoding="utf-8") as file:
+        file.write(text)
+    print(f"{who}: {name} is written: {len(text.splitlines())} lines")
     return 0
 
 
+def instead(asked):
+    """Writes the page where that is asked for."""
+    return write_page("reading", PAGE, page) if asked.write else None
+
+
+class Definitions(Harness):
+    NEEDS = ()
+
+    def test_reading(self):
+        print(f"reading: {PAGE} can be written: {len(page().splitlines())} lines")
+
+
 if __name__ == "__main__":
-    run_harness(main, options)
+    run_harness(options, instead)

@@ -12,10 +12,11 @@ import re
 import shutil
 import subprocess
 
-from ssikvd_harness.arguments import need, run_harness
+from ssikvd_harness.arguments import run_harness
+from ssikvd_harness.cases import Harness
 from ssikvd_harness.connection import Connection
 from ssikvd_harness.cutting import Proxy
-from ssikvd_harness.deviations import Deviation, Tally, expect, missing
+from ssikvd_harness.deviations import Deviation, expect, missing
 from ssikvd_harness.frames import frame
 from ssikvd_harness.languages import shell
 from ssikvd_harness.server import Server, folder, fresh
@@ -137,22 +138,24 @@ def compare(tally, library, row):
         expect(found == row[3:5], f"refusals arrive as {found}; docs/CLIENTS.md has {row[3:5]}")
 
 
-def main():
-    need(PROGRAM)
-    tally, due = Tally("resending"), rows()
-    with folder() as place:
-        programs = os.path.join(place, "resending")
-        shutil.copytree(os.path.join(HARNESS, "resending"), programs)
-        for name in LIBRARIES:
-            library = Library(name, programs)
-            if shell(library.build, programs)[0]:
-                missing(name, f"Debian's {library.package}")
-                continue
-            with tally.run(f"{name}: its row"):
-                expect(name in due, "docs/CLIENTS.md has no row for it")
-                compare(tally, library, due[name])
-    return 0 if tally.end() else 1
+class Resending(Harness):
+    NAME = "resending"
+    NEEDS = (PROGRAM,)
+
+    def test_resending(self):
+        due = rows()
+        with folder() as place:
+            programs = os.path.join(place, "resending")
+            shutil.copytree(os.path.join(HARNESS, "resending"), programs)
+            for name in LIBRARIES:
+                library = Library(name, programs)
+                if shell(library.build, programs)[0]:
+                    missing(name, f"Debian's {library.package}")
+                    continue
+                with self.tally.run(f"{name}: its row"):
+                    expect(name in due, "docs/CLIENTS.md has no row for it")
+                    compare(self.tally, library, due[name])
 
 
 if __name__ == "__main__":
-    run_harness(main)
+    run_harness()

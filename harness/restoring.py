@@ -18,8 +18,9 @@ import signal
 import stat
 import threading
 
-from ssikvd_harness.arguments import is_long, need, run_harness
-from ssikvd_harness.deviations import Tally, expect, is_refused, missing
+from ssikvd_harness.arguments import is_long, run_harness
+from ssikvd_harness.cases import Harness
+from ssikvd_harness.deviations import expect, is_refused, missing
 from ssikvd_harness.log_format import SECTOR, log_of, map_of, sectors_used
 from ssikvd_harness.server import Server, check, folder, free_port
 from ssikvd_harness.settings import PROGRAM, bytes_of
@@ -606,22 +607,26 @@ def show_that_they_fail(tally, files):
                 expect(is_reported(files, changed), f"{name} was not reported")
 
 
-def main():
-    need(PROGRAM)
-    tally = Tally("restoring")
-    with folder() as place:
-        files = Files(place)
-        for part in (served, again, refusals, locks, links, kills):
-            part(tally, files)
-        with tally.run("a loss of power at each call"):
-            print(f"  ssikvd-restore: {judge_power(files, 'ssikvd-restore')} cases of names after a loss of power", flush=True)
-        show_that_they_fail(tally, files)
-    with folder() as place:
-        copies = Copies(place)
-        for part in (keeping, ages, links_of_ships, unit):
-            part(tally, copies)
-    return 0 if tally.end() else 1
+class Restoring(Harness):
+    NAME = "restoring"
+    NEEDS = (PROGRAM,)
+
+    def test_files(self):
+        tally = self.tally
+        with folder() as place:
+            files = Files(place)
+            for part in (served, again, refusals, locks, links, kills):
+                part(tally, files)
+            with tally.run("a loss of power at each call"):
+                print(f"  ssikvd-restore: {judge_power(files, 'ssikvd-restore')} cases of names after a loss of power", flush=True)
+            show_that_they_fail(tally, files)
+
+    def test_copies(self):
+        with folder() as place:
+            copies = Copies(place)
+            for part in (keeping, ages, links_of_ships, unit):
+                part(self.tally, copies)
 
 
 if __name__ == "__main__":
-    run_harness(main)
+    run_harness()

@@ -5,24 +5,30 @@
     run.sh long                  the long form
     run.sh                       both
     run.sh quick kills trace     these alone
-    run.sh long -k memory        those with this in their name, or that fit it where it has a `*`
+    run.sh long -k memory        the tests with this in their names, or that fit it where it has a `*`
 
-What each prints is shown once it has ended, and is kept in harness/out/NAME.log. First it builds the libraries and file systems of this folder that
-are older than their source, into harness/out. The status is 0 where all held, 1 where a harness failed, 2 where the words are refused.
+Each harness is a test case of unittest, and each test has a name such as `following.Following.test_refusals`. unittest's loader finds them, and its result
+has what failed; -v prints their names, -f stops at the first failure. The tests of a harness run in a process of their own. What that prints is shown
+once it has ended, and is kept in harness/out/NAME.log. First the libraries and file systems of this folder that are older than their source are built,
+into harness/out. The status is 0 where all held, 1 where a test failed, 2 where the words are refused.
 """
 import argparse
 import concurrent.futures
 import fnmatch
 import glob
+import json
 import os
+import re
 import subprocess
 import sys
-import threading
+import tempfile
+import unittest
 from dataclasses import dataclass
+from typing import Any
 
-from ssikvd_harness.arguments import FORMS, parser_of_harness
+from ssikvd_harness.arguments import FORMS, add_unittest, loader_of, parser_of_harness
 from ssikvd_harness.deviations import missing
-from ssikvd_harness.settings import HARNESS, OUT
+from ssikvd_harness.settings import HARNESS, OUT, PROGRAMS
 
 QUICK, LONG = (FORMS[0],), (FORMS[1],)
 
@@ -35,12 +41,12 @@ class Harness:
     forms: tuple[str, ...] = FORMS
 
 
-# What judges the sources of the harnesses themselves.
-FIRST = (Harness("lint", QUICK),)
+# What judges the harnesses themselves.
+FIRST = (Harness("lint", QUICK), Harness("failing_harnesses", QUICK))
 # Several at a time, the ones that take long in front.
 TOGETHER = (
-    Harness("packages"), Harness("kills"), Harness("hostile"), Harness("operation"), Harness("following"), Harness("at_rest"), Harness("looks"),
-    Harness("planted_links"), Harness("stat_and_why"), Harness("restoring"), Harness("clients"), Harness("languages"), Harness("lossy"),
+    Harness("packages"), Harness("day"), Harness("kills"), Harness("hostile"), Harness("operation"), Harness("following"), Harness("at_rest"),
+    Harness("looks"), Harness("planted_links"), Harness("stat_and_why"), Harness("restoring"), Harness("clients"), Harness("languages"), Harness("lossy"),
     Harness("power_cuts"), Harness("vanishing"), Harness("histories"), Harness("resending", LONG), Harness("commands"), Harness("documents"),
     Harness("system_limits"), Harness("server_calls"), Harness("proxies"), Harness("every_command"), Harness("random_scripts"), Harness("trace"),
     Harness("streams"), Harness("pictures"), Harness("installing"), Harness("under_systemd", LONG), Harness("fail_over", LONG),
@@ -74,87 +80,176 @@ def build() -> None:
         missing("what needs a file system of its own", "libfuse3-dev and pkg-config")
 
 
-def environment() -> dict[str, str]:
+def environment(form: str) -> dict[str, str]:
     """That of each harness, which runs in this folder: programs that are named by a path from here are found there, too."""
-    named = {name: os.path.abspath(os.environ[name]) for name in ("SSIKVD", "REFUSED_MEMORY", "PLAIN_PLAY") if os.environ.get(name)}
-    return {**os.environ, **named, "PYTHONDONTWRITEBYTECODE": "1"}
+    named = {name: os.path.abspath(os.environ[name]) for name in PROGRAMS if os.environ.get(name)}
+    return {**os.environ, **named, "FORM": form, "PYTHONDONTWRITEBYTECODE": "1"}
 
 
-class Runs:
-    """Runs of harnesses, and which of them failed."""
+class Fault(Exception):
+    """A failure or an error in another process, as it was shown there."""
 
-    def __init__(self, form: str, jobs: int) -> None:
-        self.form, self.jobs, self.printing = form, jobs, threading.Lock()
-        self.failed: list[str] = []
 
-    def one(self, harness: Harness) -> None:
-        """Runs a harness, and shows what it printed."""
-        name = os.path.join(OUT, f"{harness.name}.log")
-        with open(name, "wb") as log:
-            words = [sys.executable, os.path.join(HARNESS, f"{harness.name}.py"), self.form]
-            status = subprocess.run(words, cwd=HARNESS, stdout=log, stderr=subprocess.STDOUT, env=environment()).returncode
-        with self.printing, open(name, encoding="utf-8", errors="replace") as log:
+class Shown(unittest.TestCase):
+    """A subtest, or what else failed in another process, by the words with which it was shown there."""
+
+    def __init__(self, name: str) -> None:
+        super().__init__()
+        self.name = name
+
+    def runTest(self) -> None:    # it ran elsewhere
+        pass
+
+    def id(self) -> str:
+        return self.name
+
+    __str__ = id
+
+
+class Process(unittest.TestSuite):
+    """The tests of a harness, which run in a process of their own: the script of the harness in this folder."""
+
+    def __init__(self, name: str, form: str, place: str = HARNESS, patterns: tuple[str, ...] = (), is_to_stop: bool = False) -> None:
+        self.name, self.form, self.place, self.log = name, form, place, os.path.join(OUT, f"{name}.log")
+        self.words = [*(word for pattern in patterns for word in ("-k", pattern)), *["-f"] * is_to_stop]
+        self.found: dict[str, Any] = {}
+        self.status: int | None = None
+        super().__init__(loader_of(list(patterns)).loadTestsFromName(name))
+
+    def play(self) -> "Process":
+        """Runs the script to its end, and reads its result."""
+        with tempfile.NamedTemporaryFile(prefix="ssikvd-result-") as result, open(self.log, "wb") as log:
+            words = [sys.executable, os.path.join(self.place, f"{self.name}.py"), "--report", result.name, *self.words, self.form]
+            self.status = subprocess.run(words, cwd=self.place, stdout=log, stderr=subprocess.STDOUT, env=environment(self.form)).returncode
+            text = result.read()
+        self.found = json.loads(text) if text else {}
+        return self
+
+    def tests(self) -> list[unittest.TestCase]:
+        """The tests of all suites within."""
+        def of(suite: Any) -> list[unittest.TestCase]:
+            return [test for each in suite for test in (of(each) if isinstance(each, unittest.TestSuite) else [each])]
+
+        return of(self)
+
+    def countTestCases(self) -> int:
+        return len(self.tests())
+
+    def run(self, result: unittest.TestResult, debug: bool = False) -> unittest.TestResult:
+        """Shows what the process printed, and adds its result to this one."""
+        with open(self.log, encoding="utf-8", errors="replace") as log:
             print(log.read(), end="", flush=True)
-            if status:
-                self.failed.append(harness.name)
+        told = {kind: list(self.found.get(kind, ())) for kind in ("failures", "errors", "skipped")}
+        began, is_held = set(self.found.get("begun", ())), not told["failures"] and not told["errors"]
+        for test in self.tests():
+            if test.id() in began:
+                result.startTest(test)
+                own = {kind: [one for one in all_of_them if (one[0] + " ").startswith(test.id() + " ")] for kind, all_of_them in told.items()}
+                self._add(result, own)
+                if not any(own.values()):
+                    result.addSuccess(test)
+                result.stopTest(test)
+                told = {kind: [one for one in all_of_them if one not in own[kind]] for kind, all_of_them in told.items()}
+        self._add(result, told)    # what belongs to no test of its own, such as a program that is missing
+        is_whole = began | self._left_out() == {test.id() for test in self.tests()}
+        if self.status != (0 if is_held else 1) or not self.found or is_held and not is_whole:
+            ran = f"{len(began)} of {self.countTestCases()} tests were begun"
+            self._add(result, {"errors": [("", f"{self.name} {self.form}", f"it ended with status {self.status}; {ran}")]})
+        return result
 
-    def all(self, chosen: list[Harness], jobs: int) -> None:
-        """Those of them that are chosen and have this form, so many at a time."""
-        with concurrent.futures.ThreadPoolExecutor(jobs) as threads:
+    def _left_out(self) -> set[str]:
+        """The tests of classes that were left out as a whole."""
+        found = [re.fullmatch(r"setUpClass \((.*)\)", name) for name, _, _ in self.found.get("skipped", ())]
+        return {test.id() for test in self.tests() if any(one and test.id().startswith(f"{one[1]}.") for one in found)}
+
+    @staticmethod
+    def _add(result: unittest.TestResult, told: dict[str, list[Any]]) -> None:
+        for _, name, text in told.get("failures", ()):
+            result.addFailure(Shown(name), (Fault, Fault(f"\n{text}"), None))
+        for _, name, text in told.get("errors", ()):
+            result.addError(Shown(name), (Fault, Fault(f"\n{text}"), None))
+        for _, name, reason in told.get("skipped", ()):
+            result.addSkip(Shown(name), reason)
+
+
+class Several(unittest.TestSuite):
+    """Harnesses that run at the same time, so many of them."""
+
+    def __init__(self, processes: list[Process], jobs: int) -> None:
+        self.jobs = jobs
+        super().__init__(processes)
+
+    def run(self, result: unittest.TestResult, debug: bool = False) -> unittest.TestResult:
+        with concurrent.futures.ThreadPoolExecutor(self.jobs) as threads:
             try:
-                for done in [threads.submit(self.one, harness) for harness in chosen if self.form in harness.forms]:
-                    done.result()
-            except BaseException:
-                threads.shutdown(wait=False, cancel_futures=True)
-                raise
+                for done in concurrent.futures.as_completed([threads.submit(process.play) for process in self if isinstance(process, Process)]):
+                    done.result().run(result)
+                    if result.shouldStop:
+                        break
+            finally:
+                threads.shutdown(wait=True, cancel_futures=True)
+        return result
 
-    def play(self, names: set[str]) -> list[str]:
-        """All that are chosen. Those that failed."""
-        for group, jobs in ((FIRST, 1), (TOGETHER, self.jobs), (ALONE, 1)):
-            self.all([harness for harness in group if harness.name in names], jobs)
-        return self.failed
+
+def suite_of(form: str, chosen: dict[str, tuple[str, ...]], jobs: int, is_to_stop: bool = False) -> unittest.TestSuite:
+    """The harnesses that are chosen and have this form, each with the patterns of its tests: those that run together, and those that run alone."""
+    return unittest.TestSuite(
+        Several([Process(one.name, form, HARNESS, chosen[one.name], is_to_stop) for one in group if one.name in chosen and form in one.forms], at_once)
+        for group, at_once in ((FIRST, 1), (TOGETHER, jobs), (ALONE, 1)))
 
 
 def options(parser: argparse.ArgumentParser) -> None:
     parser.add_argument("words", nargs="*", metavar="quick | long | NAME", help="the form, and the harnesses; both forms of all where none is named")
-    parser.add_argument("-k", action="append", metavar="WORD", help="those with WORD in their name; may be given again")
+    add_unittest(parser)
     parser.add_argument("--jobs", type=int, default=int(os.environ.get("JOBS") or 4), metavar="N", help="so many at a time; $JOBS, or 4")
-    parser.add_argument("--list", action="store_true", help="print their names with their forms, and run nothing")
+    parser.add_argument("--list", action="store_true", help="print their names with their forms, and run nothing; with -v those of their tests")
 
 
-def chosen_by(words: list[str], patterns: list[str] | None, parser: argparse.ArgumentParser) -> set[str]:
-    """The names of the harnesses that are asked for."""
-    names = {harness.name for harness in HARNESSES}
-    unknown = set(words) - names
+def patterns_of(name: str, patterns: list[str]) -> tuple[str, ...] | None:
+    """Those of the patterns that choose tests of a harness: none where all of them are chosen, None where no test is."""
+    if not patterns or any(fnmatch.fnmatchcase(name, word if "*" in word else f"*{word}*") for word in patterns):
+        return ()
+    return tuple(patterns) if loader_of(patterns).loadTestsFromName(name).countTestCases() else None
+
+
+def chosen_by(words: list[str], patterns: list[str], parser: argparse.ArgumentParser) -> dict[str, tuple[str, ...]]:
+    """The names of the harnesses that are asked for, each with the patterns of its tests; all of its tests where there is none."""
+    names = [harness.name for harness in HARNESSES]
+    unknown = set(words) - set(names)
     if unknown:
         parser.error(f"there is no harness {', '.join(sorted(unknown))}; --list has all of them")
-    chosen = set(words) or names
-    if patterns:
-        chosen = {name for name in chosen if any(fnmatch.fnmatchcase(name, word if "*" in word else f"*{word}*") for word in patterns)}
+    found = {name: patterns_of(name, patterns) for name in names if name in words or not words}
+    chosen = {name: those for name, those in found.items() if those is not None}
     if not chosen:
-        parser.error("no harness has such a name; --list has all of them")
+        parser.error("no harness and no test has such a name; --list -v has all of them")
     return chosen
+
+
+def show(chosen: dict[str, tuple[str, ...]], forms: list[str], has_tests: bool) -> None:
+    """Prints the names of the harnesses with their forms, or those of their tests."""
+    for harness in HARNESSES:
+        if harness.name in chosen and set(harness.forms) & set(forms):
+            print(harness.name, *harness.forms)
+            for test in Process(harness.name, forms[0], HARNESS, chosen[harness.name]).tests() if has_tests else ():
+                print(f"    {test.id()}")
 
 
 def main() -> int:
     parser = parser_of_harness()
     options(parser)
     asked = parser.parse_args()
-    chosen = chosen_by([word.removesuffix(".py") for word in asked.words if word not in FORMS], asked.k, parser)
+    chosen = chosen_by([word.removesuffix(".py") for word in asked.words if word not in FORMS], asked.k or [], parser)
     forms = [form for form in FORMS if form in asked.words] or list(FORMS)
     if asked.list:
-        for harness in HARNESSES:
-            if harness.name in chosen:
-                print(harness.name, *harness.forms)
+        show(chosen, forms, asked.verbosity > 1)
         return 0
     gone = [form for form in forms if not any(form in harness.forms for harness in HARNESSES if harness.name in chosen)]
     if gone == forms:
         parser.error(f"none of {', '.join(sorted(chosen))} has a form {' or '.join(gone)}")
     build()
-    failed = [name for form in forms for name in Runs(form, max(1, asked.jobs)).play(chosen)]
-    if failed:
-        print("the harnesses that failed:", *dict.fromkeys(failed), file=sys.stderr)
-    return 1 if failed else 0
+    suite = unittest.TestSuite(suite_of(form, chosen, max(1, asked.jobs), asked.failfast) for form in forms)
+    runner = unittest.TextTestRunner(verbosity=asked.verbosity if asked.verbosity > 1 else 0, failfast=asked.failfast)
+    return 0 if runner.run(suite).wasSuccessful() else 1
 
 
 if __name__ == "__main__":

@@ -17,9 +17,10 @@ import os
 import select
 from dataclasses import dataclass
 
-from ssikvd_harness.arguments import is_long, need, run_harness
+from ssikvd_harness.arguments import is_long, run_harness
+from ssikvd_harness.cases import Harness
 from ssikvd_harness.connection import Connection
-from ssikvd_harness.deviations import Tally, expect
+from ssikvd_harness.deviations import expect
 from ssikvd_harness.failing_calls import ACCEPT, ALL, DEVICE, MEMORY, NOTHING, RECEIVE, SEND, Refusals
 from ssikvd_harness.frames import PONG, frame
 from ssikvd_harness.log_format import apply, log_image
@@ -211,16 +212,14 @@ def run_in_turn(tally, counts, name, row, failure):
     raise SystemExit(f"{name}: {CALLS_MAX} calls are too many for it")
 
 
-def main():
-    need()
-    holds = True
-    for failure in FAILURES:
-        tally, counts = Tally(f"serve, {failure.name}"), Counts()
-        for name, row in ROWS.items():
-            run_in_turn(tally, counts, name, row, failure)
-        holds &= tally.end("; " + counts.text())
-    return 0 if holds else 1
+class ServerCalls(Harness):
+    def test_server_calls(self):
+        for failure in FAILURES:
+            tally, counts = self.begin(f"serve, {failure.name}"), Counts()
+            for name, row in ROWS.items():
+                run_in_turn(tally, counts, name, row, failure)
+            tally.more = "; " + counts.text()
 
 
 if __name__ == "__main__":
-    run_harness(main)
+    run_harness()

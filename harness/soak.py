@@ -57,7 +57,7 @@ from ssikvd_harness.log_format import SECTOR, Damaged, NotALog, OldFormat, log_i
 from ssikvd_harness.model import Store
 from ssikvd_harness.rows import request_of
 from ssikvd_harness.server import Server, create, folder
-from ssikvd_harness.settings import HARNESS, OUT, PROGRAM
+from ssikvd_harness.settings import HARNESS, OUT, PLAIN_PLAY, PROGRAM
 from ssikvd_harness.shrinking import Failed, play_whole, shrunk, told
 
 LOG = os.path.join(OUT, "soak.jsonl")
@@ -81,8 +81,8 @@ def judge(tally):
 def play_script(lines):
     """How many commits a script has, whose lines are answered as the model does."""
     due = random_scripts.by_model(lines)
-    programs = [[PROGRAM, "play"], [random_scripts.PLAIN_PLAY]]
-    for words in programs if os.access(random_scripts.PLAIN_PLAY, os.X_OK) else programs[:1]:
+    programs = [[PROGRAM, "play"], [PLAIN_PLAY]]
+    for words in programs if os.access(PLAIN_PLAY, os.X_OK) else programs[:1]:
         random_scripts.expect_alike(lines, due, random_scripts.by_program(words, lines))
     return sum(" :" in line for line in due)
 
@@ -90,7 +90,7 @@ def play_script(lines):
 def scripts(seed):
     chance = random.Random(seed)
     commits = [play_whole(random_scripts.script_of(chance.randrange(1 << 48)), play_script) for _ in range(40)]
-    return {"scripts": len(commits), "commits": sum(commits), "plain engine": os.access(random_scripts.PLAIN_PLAY, os.X_OK)}
+    return {"scripts": len(commits), "commits": sum(commits), "plain engine": os.access(PLAIN_PLAY, os.X_OK)}
 
 
 class Wire:

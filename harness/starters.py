@@ -31,7 +31,8 @@ import threading
 import time
 import urllib.parse
 
-from ssikvd_harness.arguments import is_long, need, run_harness
+from ssikvd_harness.arguments import is_long, run_harness
+from ssikvd_harness.cases import Harness
 from ssikvd_harness.connection import Connection
 from ssikvd_harness.cutting import CLOSE, PIVOT, Proxy, Scripted
 from ssikvd_harness.deviations import Tally, expect, is_refused, missing, wait_for
@@ -637,26 +638,29 @@ def add(tally, some):
         tally.take(found)
 
 
-def main():
-    need(PROGRAM)
-    tally = Tally("starters")
-    with tally.run("judges"):
-        judges()
-    there = [language for language in LANGUAGES if language.is_there()]
-    for language in LANGUAGES:
-        if language not in there:
-            missing(f"the examples for {language.name}", language.needs)
-    with folder() as place, concurrent.futures.ThreadPoolExecutor(max(1, len(there))) as threads:
-        there = [language.of(place) for language in there]
-        add(tally, threads.map(lambda language: judged(language, "build", lambda: build(language)), there))
-        for found in threads.map(lambda language: play(language, (jobs, answers, ledger, reservations, order)), there):
-            add(tally, found)
-        if len(there) > 1:
-            add(tally, play(All(there), (jobs, ledger, reservations)))
-        for found in threads.map(wrong_forms, there) if is_long() else ():
-            add(tally, found)
-    return 0 if tally.end() else 1
+class Starters(Harness):
+    NAME = "starters"
+    NEEDS = (PROGRAM,)
+
+    def test_judges(self):
+        with self.tally.run("judges"):
+            judges()
+
+    def test_starters(self):
+        tally, there = self.tally, [language for language in LANGUAGES if language.is_there()]
+        for language in LANGUAGES:
+            if language not in there:
+                missing(f"the examples for {language.name}", language.needs)
+        with folder() as place, concurrent.futures.ThreadPoolExecutor(max(1, len(there))) as threads:
+            there = [language.of(place) for language in there]
+            add(tally, threads.map(lambda language: judged(language, "build", lambda: build(language)), there))
+            for found in threads.map(lambda language: play(language, (jobs, answers, ledger, reservations, order)), there):
+                add(tally, found)
+            if len(there) > 1:
+                add(tally, play(All(there), (jobs, ledger, reservations)))
+            for found in threads.map(wrong_forms, there) if is_long() else ():
+                add(tally, found)
 
 
 if __name__ == "__main__":
-    run_harness(main)
+    run_harness()

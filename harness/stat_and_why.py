@@ -19,8 +19,9 @@ import subprocess
 import time
 
 from at_rest import damages, turn
-from ssikvd_harness.arguments import need, run_harness
-from ssikvd_harness.deviations import Tally, expect, is_refused, missing, wait_for
+from ssikvd_harness.arguments import run_harness
+from ssikvd_harness.cases import Harness
+from ssikvd_harness.deviations import expect, is_refused, missing, wait_for
 from ssikvd_harness.examples import simple_client
 from ssikvd_harness.log_format import SECTOR, log_image
 from ssikvd_harness.server import Server, create, folder, free_port
@@ -594,15 +595,13 @@ def show_that_they_fail(tally):
             expect(is_refused(lambda: expect_causes(why("--data", data, program=program), "is held by process")), "it isn't reported")
 
 
-def main():
-    need(PROGRAM)
-    tally = Tally("stat_and_why")
-    for part in (
-            writes_nothing, kinds_of_file, permissions, folders, formats, damage, room, locks, addresses, no_cause, the_unit, probes, stats, alerts,
-            show_that_they_fail):
-        part(tally)
-    return 0 if tally.end() else 1
+class StatAndWhy(Harness):
+    NAME = "stat_and_why"
+    NEEDS = (PROGRAM,)
+    PARTS = (
+        writes_nothing, kinds_of_file, permissions, folders, formats, damage, room, locks, addresses, no_cause, the_unit, probes,
+        stats, alerts, show_that_they_fail)
 
 
 if __name__ == "__main__":
-    run_harness(main)
+    run_harness()

@@ -12,9 +12,10 @@ import os
 import socket
 from itertools import combinations
 
-from ssikvd_harness.arguments import is_long, need, run_harness
+from ssikvd_harness.arguments import is_long, run_harness
+from ssikvd_harness.cases import Harness
 from ssikvd_harness.connection import Connection
-from ssikvd_harness.deviations import Deviation, Tally, expect
+from ssikvd_harness.deviations import Deviation, expect
 from ssikvd_harness.failing_calls import ALL, DEVICE, Refusals
 from ssikvd_harness.frames import OK, frame, refusal
 from ssikvd_harness.log_format import SECTOR, log_image, sectors_used
@@ -171,16 +172,16 @@ COMMANDS = {
 }
 
 
-def main():
-    need()
-    tally = Tally("closed streams")
-    for _ in range(TIMES_OF_LONG if is_long() else 1):
-        for closed in CLOSED:
-            for name, command in COMMANDS.items():
-                with folder() as place, tally.run(f"{name}, {shown(closed)}"):
-                    command(place, closed)
-    return 0 if tally.end() else 1
+class Streams(Harness):
+    NAME = "closed streams"
+
+    def test_streams(self):
+        for _ in range(TIMES_OF_LONG if is_long() else 1):
+            for closed in CLOSED:
+                for name, command in COMMANDS.items():
+                    with folder() as place, self.tally.run(f"{name}, {shown(closed)}"):
+                        command(place, closed)
 
 
 if __name__ == "__main__":
-    run_harness(main)
+    run_harness()

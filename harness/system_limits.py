@@ -23,11 +23,12 @@ import signal
 import subprocess
 import time
 
-from ssikvd_harness.arguments import is_long, need, run_harness
+from ssikvd_harness.arguments import is_long, run_harness
+from ssikvd_harness.cases import Harness
 from ssikvd_harness.connection import Connection
-from ssikvd_harness.deviations import Tally, expect
+from ssikvd_harness.deviations import expect
 from ssikvd_harness.failing_calls import ALL, DEVICE, POLL, Refusals
-from ssikvd_harness.frames import OK, PONG, frame, refusal
+from ssikvd_harness.frames import ABORT, BEGIN, COMMIT, OK, PING, PONG, frame, refusal
 from ssikvd_harness.limits import KEY_MAX, MARKS_MAX
 from ssikvd_harness.log_format import SECTOR
 from ssikvd_harness.server import FILE_FAULT, STORE_STOPPED, Server, check, create, folder, free_port, run
@@ -35,7 +36,6 @@ from ssikvd_harness.settings import PATIENCE, PROGRAM
 
 DESCRIPTORS, CONNECTIONS = 24, 40
 SOON = 0.5
-BEGIN, PING, ABORT, COMMIT = (frame(name) for name in ("BEGIN", "PING", "ABORT", "COMMIT"))
 MIB = 1 << 20
 
 
@@ -360,22 +360,27 @@ def pipe_that_does_not_block(place):
 PIPES = (full_output, full_errors_of_a_stopped_store, full_errors_of_an_end, pipe_with_room, pipe_that_does_not_block)
 
 
-def main():
-    need()
-    tally = Tally("limits of the system")
-    with folder() as place:
-        scene(tally, place, "few descriptors", few_descriptors, with_limit(resource.RLIMIT_NOFILE, DESCRIPTORS))
-        memory = (256 if is_long() else 64) * MIB
-        scene(tally, place, "an old transaction", old_transaction, with_limit(resource.RLIMIT_AS, memory))
-    for play in (file_limit_of_serve, file_limit_of_create):
-        for is_ignored in (False, True):
-            with folder() as place, tally.run(f"{play.__name__.replace('_', ' ')}, the signal {'ignored' if is_ignored else 'as it is'}"):
-                play(place, is_ignored)
-    for play in PIPES:
-        with folder() as place, tally.run(play.__name__.replace("_", " ")):
-            play(place)
-    return 0 if tally.end() else 1
+class SystemLimits(Harness):
+    NAME = "limits of the system"
+
+    def test_of_serve(self):
+        with folder() as place:
+            scene(self.tally, place, "few descriptors", few_descriptors, with_limit(resource.RLIMIT_NOFILE, DESCRIPTORS))
+            memory = (256 if is_long() else 64) * MIB
+            scene(self.tally, place, "an old transaction", old_transaction, with_limit(resource.RLIMIT_AS, memory))
+
+    def test_of_files(self):
+        for play in (file_limit_of_serve, file_limit_of_create):
+            for is_ignored in (False, True):
+                with folder() as place, self.tally.run(
+                        f"{play.__name__.replace('_', ' ')}, the signal {'ignored' if is_ignored else 'as it is'}"):
+                    play(place, is_ignored)
+
+    def test_pipes(self):
+        for play in PIPES:
+            with folder() as place, self.tally.run(play.__name__.replace("_", " ")):
+                play(place)
 
 
 if __name__ == "__main__":
-    run_harness(main)
+    run_harness()

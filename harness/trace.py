@@ -17,9 +17,10 @@ import random
 import struct
 from dataclasses import replace
 
-from ssikvd_harness.arguments import is_long, need, run_harness
+from ssikvd_harness.arguments import is_long, run_harness
+from ssikvd_harness.cases import Harness
 from ssikvd_harness.connection import Connection
-from ssikvd_harness.deviations import Deviation, Tally, expect
+from ssikvd_harness.deviations import Deviation, expect
 from ssikvd_harness.frames import PONG, frame
 from ssikvd_harness.limits import KEY_MAX, VALUE_MAX, WRITES_MAX
 from ssikvd_harness.log_format import AT_FIRST, HEAD, SECTOR, Damaged, NotALog, body_sectors, log_image, payload, read_log
@@ -448,30 +449,33 @@ def without_syncs(tally, place, data, sectors, steps):
             expect(is_reported(judge, trace.calls(), data, answered), f"{judge.__name__} doesn't report that no sync is made")
 
 
-def main():
-    need(PROGRAM, TRACER)
-    tally, chance = Tally("order of calls, and crashes"), random.Random(2_008)
-    with folder() as place:
-        place = os.path.realpath(place)
-        data = os.path.join(place, "data")
-        images = make(tally, place, data)
-        log, more = one_server(tally, place, data, [], SECTORS_OF_CREATE, small_steps(), "first server")
-        images += more
-        _, more = one_server(tally, place, data, log, SECTORS_OF_CREATE, transaction("1", [(b"g", b"2")]), "second server")
-        images += more
-        images += by_bare_name(tally, place) + by_link(tally, place)
-        lying = os.path.join(place, "lying")
-        with open(lying, "wb") as file:
-            file.write(log_image([], SECTORS_OF_CREATE))
-        without_syncs(tally, place, lying, SECTORS_OF_CREATE, small_steps()[:20])
-        sectors = 8_192 if is_long() else 1_200
-        large = os.path.join(place, "large")
-        with open(large, "wb") as file:
-            file.write(log_image([], sectors))
-        steps = [*random_steps(chance, 60 if is_long() else 6), *transaction("1", LARGEST), *transaction("1", [(b"a", b"1")])]
-        images += one_server(tally, place, large, [], sectors, steps, "large transactions")[1]
-    return 0 if tally.end(f"; {images} images of crashes") else 1
+class Traced(Harness):
+    NAME = "order of calls, and crashes"
+    NEEDS = (PROGRAM, TRACER)
+
+    def test_trace(self):
+        tally, chance = self.tally, random.Random(2_008)
+        with folder() as place:
+            place = os.path.realpath(place)
+            data = os.path.join(place, "data")
+            images = make(tally, place, data)
+            log, more = one_server(tally, place, data, [], SECTORS_OF_CREATE, small_steps(), "first server")
+            images += more
+            _, more = one_server(tally, place, data, log, SECTORS_OF_CREATE, transaction("1", [(b"g", b"2")]), "second server")
+            images += more
+            images += by_bare_name(tally, place) + by_link(tally, place)
+            lying = os.path.join(place, "lying")
+            with open(lying, "wb") as file:
+                file.write(log_image([], SECTORS_OF_CREATE))
+            without_syncs(tally, place, lying, SECTORS_OF_CREATE, small_steps()[:20])
+            sectors = 8_192 if is_long() else 1_200
+            large = os.path.join(place, "large")
+            with open(large, "wb") as file:
+                file.write(log_image([], sectors))
+            steps = [*random_steps(chance, 60 if is_long() else 6), *transaction("1", LARGEST), *transaction("1", [(b"a", b"1")])]
+            images += one_server(tally, place, large, [], sectors, steps, "large transactions")[1]
+        tally.more = f"; {images} images of crashes"
 
 
 if __name__ == "__main__":
-    run_harness(main)
+    run_harness()

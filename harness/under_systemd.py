@@ -21,13 +21,14 @@ import tempfile
 import time
 
 import installing
-from ssikvd_harness.arguments import is_long, need, run_harness
-from ssikvd_harness.deviations import Deviation, Tally, expect, missing, wait_for
+from ssikvd_harness.arguments import run_harness
+from ssikvd_harness.cases import Harness
+from ssikvd_harness.deviations import Deviation, expect, wait_for
 from ssikvd_harness.examples import simple_client
 from ssikvd_harness.log_format import SECTOR, log_of, map_of
 from ssikvd_harness.server import folder
 from ssikvd_harness.settings import PATIENCE
-from ssikvd_harness.tools import commit, in_own_namespaces, lacking
+from ssikvd_harness.tools import commit, lacking
 from following import count_of, judge_kept, writers
 
 SLOWLY = 3 * PATIENCE    # what systemd does may take so long
@@ -554,20 +555,16 @@ def lacks():
     return "root" if os.geteuid() else None
 
 
-def main():
-    need(installing.BINARY)
-    if not is_long():
-        return 0
-    found = lacks()
-    if found:
-        missing("under_systemd", found)
-        return 0
-    in_own_namespaces("SSIKVD_UNDER_SYSTEMD")
-    signal.signal(signal.SIGTERM, lambda *_: sys.exit(1))    # the machine is ended as well
-    tally = Tally("under_systemd")
-    play(tally)
-    return 0 if tally.end() else 1
+class UnderSystemd(Harness):
+    NAME = "under_systemd"
+    NEEDS = (installing.BINARY,)
+
+    def test_under_systemd(self):
+        self.leave_out_unless("under_systemd", lacks)
+        if self.is_in_own_namespaces("SSIKVD_UNDER_SYSTEMD"):
+            signal.signal(signal.SIGTERM, lambda *_: sys.exit(1))    # the machine is ended as well
+            play(self.tally)
 
 
 if __name__ == "__main__":
-    run_harness(main)
+    run_harness()

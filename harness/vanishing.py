@@ -17,10 +17,11 @@ import subprocess
 import sys
 import time
 
-from ssikvd_harness.arguments import is_long, need, run_harness
+from ssikvd_harness.arguments import asked, is_long, run_harness
+from ssikvd_harness.cases import Harness
 from ssikvd_harness.connection import Connection
-from ssikvd_harness.deviations import Tally, expect
-from ssikvd_harness.frames import OK, PONG, frame
+from ssikvd_harness.deviations import expect
+from ssikvd_harness.frames import ABORT, BEGIN, OK, PING, PONG
 from ssikvd_harness.limits import OPEN_MAX, SESSIONS_MAX
 from ssikvd_harness.server import Server, create, folder
 from ssikvd_harness.settings import PATIENCE, PROGRAM
@@ -36,7 +37,7 @@ OPTIONS = {"SO_KEEPALIVE": socket.SOL_SOCKET, "TCP_KEEPIDLE": socket.IPPROTO_TCP
 DUE = dict(zip(OPTIONS, (1, SILENT, BETWEEN, PROBES, 1)))
 PIDFD_GETFD = 438
 SLACK = 3.0    # seconds by which a connection may end later than the probes say, on a busy machine
-BEGIN, PING, ABORT = (frame(name) for name in ("BEGIN", "PING", "ABORT"))
+LATE = 1 / 8    # and the part of its time by which a timer of Linux may be late: that of the slots of its wheel, the coarser the longer it is
 
 
 # The server's own sockets
@@ -198,7 +199,7 @@ def vanished(place, by):
             there_are_kept(served, peers, good, last if by > 1 else 0.0)
             peers.vanish()
             begun = time.monotonic()
-            found = wait_for_a_place(served.port, good, begun + last + SLACK)
+            found = wait_for_a_place(served.port, good, begun + last * (1 + LATE) + SLACK)
             expect(found, f"no place is free {last:.0f} seconds after {PEERS} peers vanished")
             # The last answer came at most so long before they vanished as lies between two probes of a peer that is there.
             took = found - begun
@@ -230,16 +231,14 @@ def there_are_kept(served, peers, good, seconds):
 
 # All of it
 
-def inside():
-    """What is done in a network of its own. Prints the line of the harness."""
+def inside(tally):
+    """What is done in a network of its own."""
     command("ip", "link", "set", "lo", "up")
-    tally, more = Tally("vanished peers"), ""
     each_is_asked(tally)
     with folder() as place:
         for by in (SHORTER, 1) if is_long() else (SHORTER,):
             with tally.run(f"peers that vanish, the times divided by {by}"):
-                more += f"; a place was free {vanished(place, by):.1f} seconds after they vanished, with times divided by {by}"
-    return 0 if tally.end(more) else 1
+                tally.more += f"; a place was free {vanished(place, by):.1f} seconds after they vanished, with times divided by {by}"
 
 
 def may_have_networks():
@@ -256,19 +255,24 @@ def options(parser):
     parser.add_argument("--inside", action="store_true", help=argparse.SUPPRESS)    # in a network of its own
 
 
-def main(asked):
-    if asked.peers:
-        return be_the_peers()
-    need(PROGRAM)
-    if asked.inside:
-        return inside()
-    if may_have_networks():
-        words = ["unshare", "--net", sys.executable, os.path.abspath(__file__), "--inside", *sys.argv[1:]]
-        return subprocess.run(words, check=False).returncode
-    tally = Tally("vanished peers")
-    each_is_asked(tally)
-    return 0 if tally.end("; peers that vanish are left out, since no networks can be made here") else 1
+def instead(asked):
+    """Is the process of the peers where that is asked for."""
+    return be_the_peers() if asked.peers else None
+
+
+class Vanishing(Harness):
+    NAME = "vanished peers"
+    NEEDS = (PROGRAM,)
+
+    def test_vanishing(self):
+        if asked(options).inside:
+            inside(self.tally)
+        elif may_have_networks():
+            self.run_again(("unshare", "--net"), "--inside")
+        else:
+            each_is_asked(self.tally)
+            self.tally.more = "; peers that vanish are left out, since no networks can be made here"
 
 
 if __name__ == "__main__":
-    run_harness(main, options)
+    run_harness(options, instead)

@@ -2,6 +2,7 @@
 import contextlib
 import subprocess
 import time
+import unittest
 from collections.abc import Callable, Iterator
 from typing import Any, TypeVar
 
@@ -9,9 +10,15 @@ from .settings import PATIENCE
 
 Found = TypeVar("Found")
 
+__unittest = True    # so that unittest leaves the frames of this file out of what it shows of a failure
 
-class Deviation(Exception):
-    """The program did what it should not."""
+
+class Deviation(AssertionError):
+    """The program did what it should not: a failure of the test that finds it."""
+
+
+class GivenUp(Exception):
+    """There were too many deviations."""
 
 
 def expect(holds: object, text: str) -> None:
@@ -44,31 +51,42 @@ def missing(what: str, needed: str) -> None:
 
 
 class Tally:
-    """What a harness found. Deviations of one text are counted together, and it is given up where there are too many."""
+    """What a harness found. Each run is a subtest of the test case that the tally was begun by, if there is one. Deviations of one text are counted
+    together, and it is given up where there are too many."""
 
     TEXT_MAX = 600
     DEVIATIONS_MAX = 200
 
-    def __init__(self, name: str) -> None:
-        self.name, self.runs = name, 0
+    def __init__(self, name: str, case: unittest.TestCase | None = None) -> None:
+        self.name, self.case, self.runs = name, case, 0
         self.deviations: dict[str, list[str]] = {}
+        self.more, self.is_given_up = "", False
 
     @contextlib.contextmanager
     def run(self, what: str) -> Iterator[None]:
-        """One run, whose deviation is counted."""
+        """One run, whose deviation is counted, and is a failure of the test case."""
+        self._go_on()
         self.runs += 1
-        try:
-            yield
-        except Deviation as found:
-            self._add(str(found), what)
-        except (OSError, ValueError, subprocess.SubprocessError) as found:
-            self._add(f"{type(found).__name__}: {found}", what)
+        with self.case.subTest(what) if self.case else contextlib.nullcontext():
+            try:
+                yield
+            except Exception as found:
+                if not isinstance(found, unittest.SkipTest):
+                    self._count(found, what)
+                if self.case:
+                    raise
+        self._go_on()
 
-    def _add(self, text: str, what: str) -> None:
+    def _count(self, found: Exception, what: str) -> None:
+        if not self.case and not isinstance(found, (Deviation, OSError, ValueError, subprocess.SubprocessError)):
+            raise found
+        text = str(found) if isinstance(found, Deviation) else f"{type(found).__name__}: {found}"
         self.deviations.setdefault(text[:self.TEXT_MAX], []).append(what)
+
+    def _go_on(self) -> None:
         if self.count() >= self.DEVIATIONS_MAX:
-            self.end("; given up")
-            raise SystemExit(1)
+            self.is_given_up = True
+            raise GivenUp(f"{self.name}: there are {self.count()} deviations")
 
     def count(self) -> int:
         return sum(len(places) for places in self.deviations.values())
@@ -76,13 +94,17 @@ class Tally:
     def take(self, other: "Tally") -> None:
         """Counts the runs of another one, too, with their deviations under its name."""
         self.runs += other.runs
-        self.deviations.update({f"{other.name}: {text}": places for text, places in other.deviations.items()})
+        for text, places in other.deviations.items():
+            self.deviations[f"{other.name}: {text}"] = places
+            for place in places if self.case else ():
+                with self.case.subTest(f"{other.name}, {place}"):
+                    raise Deviation(text)
 
     def end(self, more: str = "") -> bool:
         """Prints the line of the harness, behind its deviations, and answers whether all held."""
         for text, places in self.deviations.items():
             print(f"  DEVIATION in {len(places)} runs, first {places[0]}, last {places[-1]}: {text}")
         count = self.count()
-        verdict = f"{count} DEVIATIONS" if count else "all held"
-        print(f"{self.name}: {self.runs} runs, {verdict}{more}", flush=True)
-        return not count
+        verdict = f"{count} DEVIATIONS" if count else "not all was run" if self.is_given_up else "all held"
+        print(f"{self.name}: {self.runs} runs, {verdict}{'; given up' * self.is_given_up}{more or self.more}", flush=True)
+        return not count and not self.is_given_up

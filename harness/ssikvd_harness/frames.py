@@ -7,9 +7,14 @@ from .limits import KEY_MAX, PAIRS_MAX, VALUE_MAX
 # Requests
 
 def frame(*parts: bytes | str) -> bytes:
-    """The request of these parts."""
-    whole = [p if isinstance(p, bytes) else p.encode() for p in parts]
-    return b"*%d\r\n" % len(whole) + b"".join(b"$%d\r\n%s\r\n" % (len(p), p) for p in whole)
+    """The request of these parts. Of bytes alone it is made fast, since the measurements of bench make theirs by it, too."""
+    try:
+        return b"*%d\r\n" % len(parts) + b"".join(b"$%d\r\n%b\r\n" % (len(part), part) for part in parts)
+    except TypeError:    # a text isn't taken as bytes
+        return frame(*(part if isinstance(part, bytes) else part.encode() for part in parts))
+
+
+BEGIN, COMMIT, ABORT, PING = (frame(name) for name in (b"BEGIN", b"COMMIT", b"ABORT", b"PING"))
 
 
 class Broken(Exception):

@@ -1,6 +1,6 @@
 """The bytes of the log, written and read as docs/LOG_FORMAT.md has them, and not from the code."""
 import hashlib
-from collections.abc import Callable, Iterable, Sequence
+from collections.abc import Callable, Iterable, Iterator, Sequence
 
 from .limits import KEY_MAX, VALUE_MAX, WRITES_MAX
 
@@ -44,16 +44,29 @@ def sectors_used(log: Iterable[Writes]) -> int:
     return 2 + sum(body_sectors(payload(w)) + 1 for w in log)
 
 
-def log_image(log: Iterable[Writes], sectors: int, head: bytes = HEAD) -> bytes:
-    """The bytes of a device of so many sectors with a log of these write sets, of which nothing else was ever written. With the old head
-    it is a log of format 1, as long as no value is longer than 4,096 bytes."""
-    out, digest = head, bytes(32)
+def records(log: Iterable[Writes]) -> Iterator[bytes]:
+    """The sectors of each record, the open gate in front of its body."""
+    digest = bytes(32)
     for index, writes in enumerate(log):
         content, place = payload(writes), index.to_bytes(8, "big")
         digest = hashlib.sha256(digest + place + content).digest()
         body = len(content).to_bytes(4, "big") + place + digest + content
-        out += b"\1".ljust(SECTOR, b"\0") + body.ljust(SECTOR * body_sectors(content), b"\0")
-    return out.ljust(SECTOR * sectors, b"\0")
+        yield b"\1".ljust(SECTOR, b"\0") + body.ljust(SECTOR * body_sectors(content), b"\0")
+
+
+def log_image(log: Iterable[Writes], sectors: int, head: bytes = HEAD) -> bytes:
+    """The bytes of a device of so many sectors with a log of these write sets, of which nothing else was ever written. With the old head
+    it is a log of format 1, as long as no value is longer than 4,096 bytes."""
+    return b"".join((head, *records(log))).ljust(SECTOR * sectors, b"\0")
+
+
+def write_log(path: str, log: Iterable[Writes], free_sectors: int = 0) -> None:
+    """Writes a data file of these write sets, one after the other, with so many sectors behind the last gate."""
+    with open(path, "wb") as file:
+        file.write(HEAD)
+        for sectors in records(log):
+            file.write(sectors)
+        file.truncate(file.tell() + (1 + free_sectors) * SECTOR)
 
 
 # To read

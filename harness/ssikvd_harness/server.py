@@ -10,6 +10,7 @@ import subprocess
 import tempfile
 import time
 from collections.abc import Callable, Iterable, Iterator, Sequence
+from typing import IO
 
 from . import settings
 from .deviations import expect
@@ -58,6 +59,19 @@ def free_port() -> int:
         return port
 
 
+def memory_of(process: int, name: str) -> int:
+    """A line of the status of a process, in bytes, such as VmHWM."""
+    with open(f"/proc/{process}/status", encoding="ascii") as file:
+        return next(1_024 * int(line.split()[1]) for line in file if line.startswith(name + ":"))
+
+
+def processor_seconds_of(process: int) -> float:
+    """The processor time of a process, without that of its children."""
+    with open(f"/proc/{process}/stat", encoding="ascii") as file:
+        fields = file.read().rsplit(")", 1)[1].split()
+    return (int(fields[11]) + int(fields[12])) / os.sysconf("SC_CLK_TCK")
+
+
 def create(data: str, sectors: int) -> None:
     found = run(["create", "--data", data, "--sectors", str(sectors)], seconds=6 * PATIENCE)
     expect(found == (0, b"", b""), f"create answered {found}")
@@ -77,6 +91,24 @@ def check(data: str) -> tuple[int, ...]:
     fits = len(words) == 8 and words[0::2] == ["records", "keys", "sectors", "of"] and all(w.isdigit() for w in words[1::2])
     expect(status == 0 and not err and fits, f"check answered {(status, out, err)}")
     return tuple(int(w) for w in words[1::2])
+
+
+def first_line(output: IO[bytes], pieces: list[bytes], seconds: float = PATIENCE) -> bytes:
+    """The first line that a process prints, of which each piece that was read is kept; less where it ends, or where the time is over."""
+    end = time.monotonic() + seconds
+    while not pieces or not pieces[-1].endswith(b"\n"):
+        ready, _, _ = select.select([output], [], [], max(0.0, end - time.monotonic()))
+        piece = os.read(output.fileno(), 4_096) if ready else b""
+        if not piece:
+            break
+        pieces.append(piece)
+    return b"".join(pieces)
+
+
+def address_of(line: bytes) -> str | None:
+    """The address at which a server listens that printed this line first; None where it says none."""
+    words = line.decode(errors="replace").split()
+    return words[1] if line.endswith(b"\n") and len(words) == 2 and words[0] == "listening" else None
 
 
 class Server:
@@ -100,21 +132,10 @@ class Server:
         assert self.process.stdout
         self.output = self.process.stdout
         self.pieces: list[bytes] = []
-        self.line = self._first_line()
+        self.line = first_line(self.output, self.pieces)
         self.port = int(self.line.rsplit(b":", 1)[1]) if self.is_listening() else None
         if 1 in closed:
             self.port = self._port_that_answers(int(listen.rsplit(":", 1)[1]))
-
-    def _first_line(self) -> bytes:
-        """The first line that it prints, of which each piece that was read is kept."""
-        end = time.monotonic() + PATIENCE
-        while not self.pieces or not self.pieces[-1].endswith(b"\n"):
-            ready, _, _ = select.select([self.output], [], [], max(0.0, end - time.monotonic()))
-            piece = os.read(self.output.fileno(), 4_096) if ready else b""
-            if not piece:
-                break
-            self.pieces.append(piece)
-        return b"".join(self.pieces)
 
     def _port_that_answers(self, port: int) -> int | None:
         """This port, once a client is served; None where the server has ended."""
@@ -148,17 +169,14 @@ class Server:
 
     def memory(self, name: str) -> int:
         """A line of the process's status, in bytes, such as VmHWM."""
-        with open(f"/proc/{self.process.pid}/status", encoding="ascii") as file:
-            return next(1_024 * int(line.split()[1]) for line in file if line.startswith(name + ":"))
+        return memory_of(self.process.pid, name)
 
     def descriptors(self) -> int:
         """How many descriptors the process has."""
         return len(os.listdir(f"/proc/{self.process.pid}/fd"))
 
     def processor_seconds(self) -> float:
-        with open(f"/proc/{self.process.pid}/stat", encoding="ascii") as file:
-            fields = file.read().rsplit(")", 1)[1].split()
-        return (int(fields[11]) + int(fields[12])) / os.sysconf("SC_CLK_TCK")
+        return processor_seconds_of(self.process.pid)
 
     def kill(self) -> None:
         if self.is_alive():

@@ -4,7 +4,10 @@ import os
 HARNESS = os.path.dirname(os.path.dirname(os.path.abspath(__file__)))
 TOP = os.path.dirname(HARNESS)
 OUT = os.path.join(HARNESS, "out")
-PROGRAM = os.path.abspath(os.environ.get("SSIKVD") or os.path.join(TOP, "crates", "ssikvd", "out", "ssikvd"))
+# The built programs, by the variable of the environment that names another one, and the crate that leaves it.
+PROGRAMS = {"SSIKVD": "ssikvd", "REFUSED_MEMORY": "test_refused_memory", "PLAIN_PLAY": "test_plain_play"}
+PROGRAM, REFUSED_MEMORY, PLAIN_PLAY = (
+    os.path.abspath(os.environ.get(name) or os.path.join(TOP, "crates", crate, "out", crate)) for name, crate in PROGRAMS.items())
 SHIM = os.path.join(OUT, "refuse.so")
 TRACER = os.path.join(OUT, "trace.so")
 PATIENCE = float(os.environ.get("PATIENCE") or 20.0)    # seconds for a reply; more for a machine that does much else

@@ -95,13 +95,6 @@ def command(*words: str, seconds: float = 6 * PATIENCE) -> subprocess.CompletedP
     return ran
 
 
-def in_own_namespaces(variable: str, *more: str) -> None:
-    """Begins the harness again as a process with mounts and a network of its own, in which this variable is set; there it goes on."""
-    if not os.environ.get(variable):
-        os.execvpe("unshare", ["unshare", "--mount", "--net", *more, sys.executable, *sys.argv], {**os.environ, variable: "1"})
-    command("ip", "link", "set", "lo", "up")
-
-
 def promtool() -> str | None:
     return os.environ.get("PROMTOOL") or shutil.which("promtool")
 
