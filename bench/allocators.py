@@ -1,35 +1,34 @@
 #!/usr/bin/env python3
-"""Measures what the C library's allocator, its settings and jemalloc make of the program: pauses, processor time and memory.
+"""Measures what the C library's allocator, its settings and jemalloc make of the program: pauses, CPU time and memory.
 
     bench/allocators.py [--program PROGRAM] [--keys N] [--allocators NAME..] [--rounds N] [--out FILE]
 
-For each allocator in turn, over a data file in memory: a load of N keys in random order; all of them written again; all again beside an old
-transaction; that one's end, and turns until nothing is left to give back; then one RANGE of 100 pairs, the first request that asks for a long block.
+For each allocator in turn, over a data file in memory: a load of N keys in random order; all of them written again; all again while an
+old transaction is open; that one's end, and turns until no garbage is left; then one RANGE of 100 pairs, the first request that allocates a long block.
 After that the program is started again over that log, in which each key is written three times, and over one in which each is written once; and a store
 of 128 values of 16,384 bytes is asked for all of them, again and again.
 
-The figures: the server's processor time for each key of the load and of what was written again; the longest turn from the end on until nothing was
-left, and of that RANGE; the resident memory after each step, `later` so many seconds after the end, in which PINGs came. The longest turns are taken
+The figures: the server's CPU time for each key of the load and of what was written again; the longest turn from the end on until nothing was
+left, and of that RANGE; the resident memory after each step, `later` some seconds after the end, while PINGs came. The longest turns are taken
 by a library that is preloaded as well (harness/polls.c). Needs Python 3, make and a C compiler, and for a million keys 2 GB of memory. jemalloc is
 Debian's libjemalloc2.
 """
 
-import argparse
 import contextlib
 import ctypes.util
-import json
-import os
-import signal
 import statistics
 import sys
 import time
 
 sys.dont_write_bytecode = True
 
-from pause_scenes import LARGE_VALUE, LONG_REPLY_PAIRS, PAIRS, PING, Turns, fill_large, large_key, opened, set_all  # noqa: E402
-from preloaded import build, environment                                                             # noqa: E402
-from scale import BEGIN, COMMIT, COMMIT_WRITES, DEFAULT_PROGRAM, Client, Store, about, frame, scattered  # noqa: E402
-from servers import Failure, Listening, Ssikvd                                                       # noqa: E402
+from entry import parser_of, print_table, run_script, shown, words_of, write_results    # noqa: E402
+from pause_scenes import LARGE_VALUE, LONG_REPLY_PAIRS, PAIRS, Turns, fill_large, large_key, opened, set_all    # noqa: E402
+from preloaded import build, environment    # noqa: E402
+from scale import about    # noqa: E402
+from servers import Listening    # noqa: E402
+from ssikvd_harness.frames import BEGIN, COMMIT, PING, frame    # noqa: E402
+from stores import COMMIT_WRITES, Client, Store, scattered    # noqa: E402
 
 TUNABLES = "GLIBC_TUNABLES"
 LATER_SECONDS, PINGS_A_SECOND = 12, 100
@@ -55,7 +54,7 @@ COLUMNS = {
 class Opened(Listening):
     """The server over a data file that is there."""
 
-    resident_bytes, processor_seconds = Ssikvd.resident_bytes, Store.processor_seconds
+    processor_seconds = Store.processor_seconds
 
     def __init__(self, options, data, variables):
         super().__init__([options.program, "serve", "--data", data, "--listen", "127.0.0.1:0"], env=variables)
@@ -73,7 +72,7 @@ class Trial:
         self.found[f"{name}_mb"] = self.server.resident_bytes() / 1e6
 
     def write_all(self, name):
-        """All keys are written. The processor time for each."""
+        """All keys are written. The CPU time for each."""
         before = self.server.processor_seconds()
         set_all(self.client, scattered, self.keys)
         self.found[f"{name}_us"] = 1e6 * (self.server.processor_seconds() - before) / self.keys
@@ -120,7 +119,7 @@ class Trial:
 
 
 def large_range_us(options, variables):
-    """The processor time of the largest RANGE, which is asked for again and again."""
+    """The CPU time of the largest RANGE, which is asked for again and again."""
     with Store(options, 0, 2 * PAIRS, variables) as server:
         client, buffer = Client(server.address), bytearray(1 << 20)
         fill_large(client, LARGE_VALUE)
@@ -153,52 +152,26 @@ def measure(options, name):
     return trial.found
 
 
-def shown(value):
-    return f"{value:,.0f}" if value >= 100 else f"{value:.3g}"
-
-
-def print_table(rows):
-    print("| Allocator | " + " | ".join(COLUMNS.values()) + " |\n|" + "---|" * (1 + len(COLUMNS)))
-    for name, found in rows.items():
-        print(f"| {name} | " + " | ".join(shown(statistics.median(it[column] for it in found)) for column in COLUMNS) + " |")
-
-
-def read_options():
-    parser = argparse.ArgumentParser(description=__doc__, formatter_class=argparse.RawDescriptionHelpFormatter)
-    parser.add_argument("--program", default=os.path.normpath(DEFAULT_PROGRAM), help="(%(default)s)")
+def main():
+    parser = parser_of(__doc__)
     parser.add_argument("--keys", type=int, default=100_000, help="(%(default)s)")
     parser.add_argument("--allocators", nargs="+", choices=ALLOCATORS, default=list(ALLOCATORS), metavar="NAME", help="of: " + "; ".join(ALLOCATORS))
     parser.add_argument("--rounds", type=int, default=1, help="the allocators take turns in each (%(default)s)")
     parser.add_argument("--later", type=float, default=LATER_SECONDS, help="seconds after the end at which memory is looked at again (%(default)s)")
-    parser.add_argument("--folder", default="/dev/shm", help="where data files are made (%(default)s)")
-    parser.add_argument("--out", help="a file for the figures, as JSON")
-    options = parser.parse_args()
+    options = words_of(parser)
     options.jemalloc = ctypes.util.find_library("jemalloc")
-    if not os.access(options.program, os.X_OK):
-        parser.error(f"there is no program {options.program}")
-    return options
-
-
-def main():
-    options = read_options()
-    signal.signal(signal.SIGTERM, lambda *_: sys.exit("stopped"))
     names = [name for name in options.allocators if options.jemalloc or not name.startswith("jemalloc")]
     if len(names) < len(options.allocators):
         print("jemalloc was not found: its rows are missing.\n")
-    try:
-        options.library, rows = build("polls"), {name: [] for name in names}
-        for _ in range(options.rounds):
-            for name in names:
-                rows[name].append(measure(options, name))
-                print(f"{name}: {rows[name][-1]}", file=sys.stderr)
-        print_table(rows)
-        if options.out:
-            with open(options.out, "w", encoding="utf-8") as file:
-                json.dump({"about": about(options.program), "keys": options.keys, "rows": rows}, file, indent=1)
-                file.write("\n")
-    except Failure as failure:
-        sys.exit(f"allocators.py: {failure}")
+    options.library, rows = build("polls"), {name: [] for name in names}
+    for _ in range(options.rounds):
+        for name in names:
+            rows[name].append(measure(options, name))
+            print(f"{name}: {rows[name][-1]}", file=sys.stderr)
+    print_table(["Allocator", *COLUMNS.values()], (
+        [name, *(shown(statistics.median(it[column] for it in found)) for column in COLUMNS)] for name, found in rows.items()))
+    write_results(options.out, {"about": about(options.program), "keys": options.keys, "rows": rows})
 
 
 if __name__ == "__main__":
-    main()
+    run_script(main)

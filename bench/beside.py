@@ -4,26 +4,15 @@ import contextlib
 import multiprocessing
 import os
 import select
-import socket
 import subprocess
 import time
 
-from servers import PROGRAMS, Failure
+from servers import PROGRAMS, Failure, connect
+from ssikvd_harness.frames import ABORT, BEGIN, COMMIT, PING, frame
 
-PING = b"*1\r\n$4\r\nPING\r\n"
-BEGIN = b"*1\r\n$5\r\nBEGIN\r\n"
 FLOODING, WAVE, BUSY_SECONDS = 60, 8, 3.0
 BURST, WRITERS = 10_000, 63
 VALUE_OF_RANGE, PAIRS_OF_RANGE = 4_096, 128
-
-
-def frame(*parts):
-    return b"*%d\r\n" % len(parts) + b"".join(b"$%d\r\n%s\r\n" % (len(part), part) for part in parts)
-
-
-def connect(address):
-    host, port = address.rsplit(":", 1)
-    return socket.create_connection((host, int(port)), 10)
 
 
 def exchange(connection, request, length):
@@ -43,7 +32,7 @@ def fill_large(ssikvd):
     keys = [b"large%03d" % i for i in range(PAIRS_OF_RANGE)]
     with connect(ssikvd.address) as connection:
         for part in (keys[:64], keys[64:]):
-            batch = BEGIN + b"".join(frame(b"SET", key, b"x" * VALUE_OF_RANGE) for key in part) + frame(b"COMMIT")
+            batch = BEGIN + b"".join(frame(b"SET", key, b"x" * VALUE_OF_RANGE) for key in part) + COMMIT
             reply = exchange(connection, batch, 5 + 5 * len(part) + 4)
             if not reply.startswith(b"+OK") or b"-" in reply:
                 raise Failure(f"large values were answered {bytes(reply[-80:])!r}")
@@ -56,7 +45,7 @@ def range_request(pairs):
 
 def flood(address, seconds):
     """Connections that each have some of the largest RANGE under way all the time."""
-    wave = BEGIN + range_request(PAIRS_OF_RANGE) * WAVE + frame(b"ABORT")
+    wave = BEGIN + range_request(PAIRS_OF_RANGE) * WAVE + ABORT
     connections = [connect(address) for _ in range(FLOODING)]
     poll, buffer, due, end = select.epoll(), bytearray(1 << 20), {}, time.monotonic() + seconds
     for connection in connections:
@@ -75,7 +64,7 @@ def flood(address, seconds):
 
 
 def burst(address, seconds):
-    """A connection that sends so many requests at once, again and again."""
+    """A connection that pipelines so many requests, again and again."""
     request, answer = PING * BURST, 7 * BURST
     with connect(address) as connection:
         connection.setblocking(False)
@@ -104,7 +93,7 @@ def times_of_pings(ssikvd):
 
 
 def pings_beside(ssikvd, what, other):
-    """The figures of PING beside a process that keeps the server busy."""
+    """The figures of PING while a process keeps the server busy."""
     other.start()
     time.sleep(0.5)
     times = times_of_pings(ssikvd)
@@ -157,7 +146,7 @@ def rates_of_large_ranges(options, ssikvd):
             while time.monotonic() < end:
                 exchange(connection, request, length)
                 count += 1
-            exchange(connection, frame(b"ABORT"), 5)
+            exchange(connection, ABORT, 5)
             rate = count / options.seconds
             yield {"what": f"RANGE of {pairs} values of {VALUE_OF_RANGE} bytes, one connection", "figure": rate, "unit": "a second", "text": f"{rate:,.0f} a second"}
 

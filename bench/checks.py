@@ -2,8 +2,8 @@
 """How long the check of each crate takes from nothing, in a copy of the repository: a table of seconds, for docs/MAINTAINING.md.
 
 The crates are checked one after the other, in the order of crates.txt, each over the work of those below it. `checks.py NAME ..` prints the
-named ones alone; those below them are checked as well. `--processors 2` keeps to two of the machine's. Beside the time by the clock stands that
-of the processors, which says more where the machine does other work. It needs `rt`, and does not touch the repository.
+named ones alone; those below them are checked as well. `--processors 2` keeps to two of the machine's. Next to the wall-clock time is the
+CPU time, which says more where the machine does other work. It needs `rt`, and does not touch the repository.
 """
 import argparse
 import os
@@ -64,7 +64,7 @@ def main():
         shutil.copytree(os.path.join(TOP, "crates"), os.path.join(copy, "crates"), ignore=shutil.ignore_patterns("out"))
         for name in ("crates.txt", "HANDLES"):
             shutil.copy(os.path.join(TOP, name), copy)
-        print(f"on {options.processors} of {os.cpu_count()} processors\n\n| Crate | Seconds | of the processors |\n|---|---|---|")
+        print(f"on {options.processors} of {os.cpu_count()} processors\n\n| Crate | Seconds | of CPU time |\n|---|---|---|")
         for name in in_order(stands_on, wanted):
             begun, used = time.monotonic(), processor_seconds()
             ran = subprocess.run(

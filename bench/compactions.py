@@ -7,11 +7,8 @@ A server over N keys of 9 bytes with values of 100, 64 keys a record, in a folde
 as soon as it can. Meanwhile dist/ssikvd-compact stops the server, swaps the files and starts it again. The figure is the longest time from one
 answered commit to the next, without the distance of two. Then ssikvd-verify reads a log of 100,000 commits of one key. Needs Python 3 and flock.
 """
-import argparse
 import contextlib
-import json
 import os
-import socket
 import subprocess
 import sys
 import tempfile
@@ -20,9 +17,12 @@ import time
 
 sys.dont_write_bytecode = True
 
-from logs import write_log, write_records                                    # noqa: E402
-from scale import BEGIN, COMMIT, COMMIT_WRITES, DEFAULT_PROGRAM, frame       # noqa: E402
-from servers import HERE, Failure, free_port, run                            # noqa: E402
+from entry import parser_of, run_script, words_of, write_results    # noqa: E402
+from servers import HERE, Failure, connect, run    # noqa: E402
+from ssikvd_harness.frames import BEGIN, COMMIT, frame    # noqa: E402
+from ssikvd_harness.log_format import write_log    # noqa: E402
+from ssikvd_harness.server import free_port    # noqa: E402
+from stores import parts_of, small_commits    # noqa: E402
 
 TOOLS = os.path.normpath(os.path.join(HERE, "..", "dist"))
 EACH_SECONDS, COMMITS = 1 / 80, 100_000
@@ -42,7 +42,7 @@ def key_of(number):
 
 
 class Client(threading.Thread):
-    """Commits until it is told to end, and notes when each was answered."""
+    """Commits until it is asked to end, and notes when each was answered."""
 
     def __init__(self, port, keys):
         super().__init__()
@@ -53,7 +53,7 @@ class Client(threading.Thread):
         while not self.ended.is_set():
             begun = time.monotonic()
             try:
-                connection = connection or socket.create_connection(("127.0.0.1", self.port), 30)
+                connection = connection or connect(f"127.0.0.1:{self.port}", 30)
                 connection.sendall(BEGIN + frame(b"SET", key_of(number % self.keys), b"y" * 100) + COMMIT)
                 reply = b""
                 while reply.count(b"\n") < 3:
@@ -78,7 +78,7 @@ class Client(threading.Thread):
 
 def wait_for(port):
     for _ in range(3_000):
-        with contextlib.suppress(OSError), socket.create_connection(("127.0.0.1", port), 1):
+        with contextlib.suppress(OSError), connect(f"127.0.0.1:{port}", 1):
             return
         time.sleep(0.01)
     raise Failure("the server did not come up")
@@ -95,8 +95,7 @@ def script(folder, name, text, **more):
 def compaction(options, folder, keys):
     """Seconds without a commit, and of the whole compaction."""
     data, port = os.path.join(folder, "data"), free_port()
-    parts = ([(key_of(it), b"x" * 100) for it in range(at, min(at + COMMIT_WRITES, keys))] for at in range(0, keys, COMMIT_WRITES))
-    write_records(data, parts, free_sectors=200_000)
+    write_log(data, ([(key_of(it), b"x" * 100) for it in part] for part in parts_of(range(keys))), free_sectors=200_000)
     start = script(folder, "start", SERVE, program=options.program, data=data, port=port)
     stop = script(folder, "stop", STOP)
     subprocess.run([start], check=True)
@@ -120,42 +119,32 @@ def compaction(options, folder, keys):
 
 def rate_of_verifying(folder):
     path = os.path.join(folder, "small")
-    write_log(path, COMMITS, 10_000, 100)
+    write_log(path, small_commits(COMMITS, 10_000, 100))
     begun = time.monotonic()
     run([os.path.join(TOOLS, "ssikvd-verify"), path])
     return COMMITS / (time.monotonic() - begun)
 
 
 def main():
-    parser = argparse.ArgumentParser(description=__doc__, formatter_class=argparse.RawDescriptionHelpFormatter)
-    parser.add_argument("--program", default=os.path.normpath(DEFAULT_PROGRAM), help="(%(default)s)")
+    parser = parser_of(__doc__)
     parser.add_argument("--keys", type=int, nargs="+", default=[100_000, 1_000_000], help="(100000 1000000)")
     parser.add_argument("--runs", type=int, default=3, help="(%(default)s)")
-    parser.add_argument("--folder", default="/dev/shm", help="where the files lie (%(default)s)")
-    parser.add_argument("--out", help="a file for the figures, as JSON")
-    options = parser.parse_args()
+    options = words_of(parser)
     found = {"runs": options.runs, "rows": []}
-    try:
-        for keys in options.keys:
-            row = {"keys": keys, "not_served_s": [], "whole_s": []}
-            for _ in range(options.runs):
-                with tempfile.TemporaryDirectory(prefix="ssikvd-compactions-", dir=options.folder) as folder:
-                    not_served, whole = compaction(options, folder, keys)
-                row["not_served_s"].append(round(not_served, 3))
-                row["whole_s"].append(round(whole, 3))
-            print(row)
-            found["rows"].append(row)
-        with tempfile.TemporaryDirectory(prefix="ssikvd-compactions-", dir=options.folder) as folder:
-            found["verified_a_second"] = [round(rate_of_verifying(folder)) for _ in range(options.runs)]
-        print(f"small records that are verified a second: {found['verified_a_second']}")
-        if options.out:
-            with open(options.out, "w", encoding="utf-8") as file:
-                json.dump(found, file, indent=1)
-                file.write("\n")
-    except Failure as failure:
-        return f"compactions.py: {failure}"
-    return 0
+    for keys in options.keys:
+        row = {"keys": keys, "not_served_s": [], "whole_s": []}
+        for _ in range(options.runs):
+            with tempfile.TemporaryDirectory(prefix="ssikvd-compactions-", dir=options.folder) as folder:
+                not_served, whole = compaction(options, folder, keys)
+            row["not_served_s"].append(round(not_served, 3))
+            row["whole_s"].append(round(whole, 3))
+        print(row)
+        found["rows"].append(row)
+    with tempfile.TemporaryDirectory(prefix="ssikvd-compactions-", dir=options.folder) as folder:
+        found["verified_a_second"] = [round(rate_of_verifying(folder)) for _ in range(options.runs)]
+    print(f"small records that are verified a second: {found['verified_a_second']}")
+    write_results(options.out, found)
 
 
 if __name__ == "__main__":
-    sys.exit(main())
+    run_script(main)

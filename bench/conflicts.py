@@ -12,21 +12,18 @@ since whom it waits for comes later in the schedule; it is given up and counted 
 
 import argparse
 import collections
-import json
-import os
 import random
 import socket
 import struct
 import sys
 import tempfile
 
-HERE = os.path.dirname(os.path.abspath(__file__))
-sys.path.insert(0, os.path.join(HERE, "..", "harness"))
 sys.dont_write_bytecode = True
 
-from ssikvd_harness import model  # noqa: E402
-from ssikvd_harness.model import Record, Store  # noqa: E402
-from servers import POSTGRES_SETTINGS, Failure, Postgres, find_postgres  # noqa: E402
+from entry import run_script, write_results    # noqa: E402
+from servers import POSTGRES_SETTINGS, Failure, Postgres, find_postgres    # noqa: E402
+from ssikvd_harness import model    # noqa: E402
+from ssikvd_harness.model import Record, Store    # noqa: E402
 
 KEYS, SESSIONS = (10, 40, 400), (8, 32)
 WAIT_MILLISECONDS = 20
@@ -225,11 +222,8 @@ def main():
     for row in rows(arguments, programs):
         print(row, flush=True)
         found.append(row)
-    if arguments.out:
-        with open(arguments.out, "w", encoding="utf-8") as file:
-            json.dump({"transactions": arguments.transactions, "seed": arguments.seed, "row_locks": arguments.row_locks, "rows": found}, file, indent=1)
-            file.write("\n")
+    write_results(arguments.out, {"transactions": arguments.transactions, "seed": arguments.seed, "row_locks": arguments.row_locks, "rows": found})
 
 
 if __name__ == "__main__":
-    main()
+    run_script(main)

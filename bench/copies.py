@@ -1,36 +1,36 @@
 #!/usr/bin/env python3
 """What `compact` costs against reading the old file and writing the new one: seconds of wall-clock time, medians of some runs.
 
-    bench/copies.py [PROGRAM] [--keys N] [--runs R] [--folder F] [--out FILE]
+    bench/copies.py [--program PROGRAM] [--keys N] [--runs R] [--folder F] [--out FILE]
 
 Logs of N keys of 16 bytes with values of 100, 64 keys a record, once by rising keys over the whole log and once in a random order. Each is copied
 by `compact`; next to it stand `sha256sum` of the old file and writing as many bytes as the new one has, with one sync. The folder is one in
 memory, unless another is named. Needs Python 3 and sha256sum.
 """
-import argparse
-import json
 import os
 import random
 import resource
 import statistics
 import subprocess
+import sys
 import tempfile
 import time
 
-from logs import write_records
-from servers import HERE
+sys.dont_write_bytecode = True
 
-PROGRAM = os.path.normpath(os.path.join(HERE, "..", "crates", "ssikvd", "out", "ssikvd"))
-VALUE, IN_RECORD = b"v" * 100, 64
+from entry import parser_of, run_script, words_of, write_results    # noqa: E402
+from ssikvd_harness.log_format import write_log    # noqa: E402
+from stores import parts_of    # noqa: E402
+
+VALUE = b"v" * 100
 
 
-def write_log(path, keys, order):
+def log_of(keys, order):
     """A log of so many keys, which rise within each record."""
     names = [b"key%013d" % number for number in range(keys)]
     if order == "random":
         random.Random(7).shuffle(names)
-    parts = (names[at:at + IN_RECORD] for at in range(0, keys, IN_RECORD))
-    write_records(path, ([(key, VALUE) for key in sorted(part)] for part in parts))
+    return ([(key, VALUE) for key in sorted(part)] for part in parts_of(names))
 
 
 def timed(work):
@@ -51,7 +51,7 @@ def write_once(path, block, length):
 def measured(options, folder, order):
     """The times of each kind."""
     old, new = os.path.join(folder, "old"), os.path.join(folder, "new")
-    write_log(old, options.keys, order)
+    write_log(old, log_of(options.keys, order))
     times = {"compact": [], "sha256sum of the file": [], "writing as many bytes with one sync": []}
     block, quiet = os.urandom(1 << 20), {"stdout": subprocess.DEVNULL, "check": True}
     for _ in range(options.runs):
@@ -70,22 +70,16 @@ def measured(options, folder, order):
 
 
 def main():
-    parser = argparse.ArgumentParser(description=__doc__, formatter_class=argparse.RawDescriptionHelpFormatter)
-    parser.add_argument("program", nargs="?", default=PROGRAM, help="the program that was built (%(default)s)")
+    parser = parser_of(__doc__)
     parser.add_argument("--keys", type=int, default=1_000_000, help="(%(default)s)")
     parser.add_argument("--runs", type=int, default=11, help="(%(default)s)")
-    parser.add_argument("--folder", default="/dev/shm", help="where the files lie (%(default)s)")
-    parser.add_argument("--out", help="a file for the figures, as JSON")
-    options = parser.parse_args()
+    options = words_of(parser)
     with tempfile.TemporaryDirectory(prefix="ssikvd-copies-", dir=options.folder) as folder:
         rows = [measured(options, folder, order) for order in ("rising", "random")]
     most_mb = resource.getrusage(resource.RUSAGE_CHILDREN).ru_maxrss * 1024 / 1e6
     print(f"the most that a process held: {most_mb:.0f} MB")
-    if options.out:
-        with open(options.out, "w", encoding="utf-8") as file:
-            json.dump({"runs": options.runs, "most_mb": round(most_mb), "rows": rows}, file, indent=1)
-            file.write("\n")
+    write_results(options.out, {"runs": options.runs, "most_mb": round(most_mb), "rows": rows})
 
 
 if __name__ == "__main__":
-    main()
+    run_script(main)

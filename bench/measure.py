@@ -1,14 +1,14 @@
 #!/usr/bin/env python3
-"""One sitting: measures all that docs/PERFORMANCE.md tells, with one program on one host, and leaves it in bench/results.
+"""One run: measures all that docs/PERFORMANCE.md reports, with one program on one host, and leaves it in bench/results.
 
-    bench/measure.py [--ssikvd PROGRAM] [--quick] [--only PART..]
+    bench/measure.py [--program PROGRAM] [--quick] [--only PART..]
 
-Takes up to 25 minutes on a machine that does nothing else. Each part leaves a file of its own name, and head.json tells what was measured, and where:
+Takes up to 25 minutes on a machine that does nothing else. Each part leaves a file of its own name, and head.json says what was measured, and where:
 
     throughput            transactions that read (BEGIN, 4 GET, COMMIT) and that write (BEGIN, SET, COMMIT) over 1 to 128 connections: ssikvd;
                           PostgreSQL, SERIALIZABLE; Redis with `appendfsync always`; etcd by its HTTP/JSON gateway. One request at a time, and pipelined
-    readers_and_writers   those that read beside those that write, where a sync takes 0.04, 1 and 5 ms (mix.py)
-    rows                  the rows of run.py, beside an echo server, a stand-in in C and the device
+    readers_and_writers   those that read while others write, where a sync takes 0.04, 1 and 5 ms (readers_and_writers.py)
+    rows                  workloads against an echo server, a stand-in in C, the device, Redis and PostgreSQL (workloads.py)
     growth                what requests cost over 10,000, 100,000 and 1,000,000 keys (scale.py)
     opening               how long it takes to open a log of so many keys, and the memory for each (scale.py)
     copies                `compact` over a log of 1,000,000 keys (copies.py)
@@ -17,27 +17,29 @@ Takes up to 25 minutes on a machine that does nothing else. Each part leaves a f
     pauses                for how long nobody else is served (pauses.py), over 10,000 and 1,000,000 keys
 
 What isn't installed is left out with a word. `bench/page.py` makes the tables of the page from these files, and docs/pictures/draw.py the pictures.
-`--quick` makes sure that all of it works, in about a minute; its figures are no use.
+`--quick` makes sure that all of it works, in about a minute; its figures are no use. Of the first three, --rounds and --seconds say how many slices there
+are and how long each is, and --keys how large the stores are; --workloads chooses some of the rows, and --servers, --kinds and --sync-ms some of
+readers_and_writers. Needs make and a C compiler.
 """
 
-import argparse
 import contextlib
 import datetime
-import hashlib
 import json
 import os
 import platform
 import shutil
-import signal
 import subprocess
 import sys
 import tempfile
 import time
+from argparse import Namespace
 
 sys.dont_write_bytecode = True
 
-from run import DEFAULT_PROGRAM, Load, check_commits, fill, rounded            # noqa: E402
+from entry import IN_MEMORY, facts, parser_of, rounded, run_script, words_of, write_results    # noqa: E402
+from readers_and_writers import KINDS, SERVERS, measure_readers_and_writers    # noqa: E402
 from servers import HERE, Etcd, Failure, Postgres, Redis, Ssikvd, find_postgres, run    # noqa: E402
+from workloads import PARTS as WORKLOADS, Load, check_commits, fill, measure_workloads    # noqa: E402
 
 RESULTS = os.path.join(HERE, "results")
 CONNECTIONS = (1, 2, 4, 8, 16, 32, 64, 128)
@@ -81,16 +83,13 @@ def file_system(folder):
 
 
 def head(options):
-    with open(options.ssikvd, "rb") as binary:
-        digest = hashlib.sha256(binary.read()).hexdigest()
-    with open("/proc/cpuinfo") as info:
-        models = sorted({line.split(":", 1)[1].strip() for line in info if line.startswith("model name")})
+    found = facts(options.program)
     with open("/proc/meminfo") as info:
         memory = int(info.readline().split()[1])
-    commit, changed = commit_of(options.ssikvd)
-    return {"commit": commit, "changed": changed, "version": first_line([options.ssikvd, "--version"]), "program_sha256": digest,
-            "date": datetime.datetime.now(datetime.timezone.utc).strftime("%Y-%m-%d"), "processors": os.cpu_count(), "model": ", ".join(models),
-            "memory_gb": round(memory / 1e6, 1), "kernel": os.uname().release, "libc": " ".join(platform.libc_ver()), "disk": file_system(options.folder),
+    commit, changed = commit_of(options.program)
+    return {"commit": commit, "changed": changed, "version": first_line([options.program, "--version"]), "program_sha256": found["program_sha256"],
+            "date": datetime.datetime.now(datetime.timezone.utc).strftime("%Y-%m-%d"), "processors": found["processors"], "model": found["model"],
+            "memory_gb": round(memory / 1e6, 1), "kernel": found["kernel"], "libc": " ".join(platform.libc_ver()), "disk": file_system(options.folder),
             "in_memory": file_system("/dev/shm"), "virtual": first_line(["systemd-detect-virt", "--vm"]) if shutil.which("systemd-detect-virt") else None,
             "postgres": postgres_program(options) and run([postgres_program(options), "--version"]).strip(),
             "redis": first_line(["redis-server", "--version"]), "etcd": first_line(["etcd", "--version"]), "quick": options.quick, "remarks": [], "parts": {}}
@@ -98,18 +97,20 @@ def head(options):
 
 def store(options, part, value):
     """The figures of a part as JSON, a row a line."""
-    text = json.dumps(rounded({name: it for name, it in value.items() if name != "rows"}), indent=1)
-    if "rows" in value:
-        text = text[:-2] + ',\n "rows": [\n' + ",\n".join("  " + json.dumps(rounded(row)) for row in value["rows"]) + "\n ]\n}"
-    with open(path_of(options, part), "w", encoding="utf-8") as file:
-        file.write(text + "\n")
+    write_results(path_of(options, part), rounded(value))
+
+
+def slices_of(options, quick, otherwise):
+    """How many slices there are, and how long each is: what was asked for, else these of the quick form and of the other."""
+    rounds, seconds = quick if options.quick else otherwise
+    return {"rounds": options.rounds or rounds, "seconds": options.seconds or seconds}
 
 
 # Throughput over connections
 
 def started(options, stack):
     """Those servers that are installed, filled, each with the name in the results."""
-    ssikvd = stack.enter_context(Ssikvd(options.ssikvd, options.folder, options.sectors))
+    ssikvd = stack.enter_context(Ssikvd(options.program, options.folder, options.sectors))
     fill(options, ssikvd)
     yield "ssikvd", ssikvd
     programs = find_postgres(options.postgres)
@@ -137,7 +138,7 @@ def slice_of(options, server, work, how, connections):
 
 
 def throughput(options):
-    rows = []
+    rows, options = [], Namespace(**{**vars(options), **slices_of(options, (1, 0.2), (3, 1.0))})
     with contextlib.ExitStack() as stack:
         servers = dict(started(options, stack))
         for how in (PIPELINED, ONE):
@@ -179,13 +180,13 @@ def path_of(options, part):
 
 
 def readers_and_writers(options):
-    more = ["--rounds", 1, "--seconds", 0.2] if options.quick else ["--rounds", 3, "--seconds", 0.7]
-    program("mix.py", "--ssikvd", options.ssikvd, "--results", path_of(options, "readers_and_writers"), *more)
+    chosen = {**slices_of(options, (1, 0.2), (3, 0.7)), "folder": IN_MEMORY, "sectors": 1 << 20}
+    store(options, "readers_and_writers", measure_readers_and_writers(Namespace(**{**vars(options), **chosen})))
 
 
-def rows_of_run(options):
-    more = ["--rounds", 1, "--seconds", 0.1] if options.quick else ["--rounds", 3, "--seconds", 0.5]
-    program("run.py", "--ssikvd", options.ssikvd, "--folder", options.folder, "--results", path_of(options, "rows"), *more)
+def rows_of_workloads(options):
+    chosen = {**slices_of(options, (1, 0.1), (3, 0.5)), "sectors": 1 << 20}
+    store(options, "rows", measure_workloads(Namespace(**{**vars(options), **chosen})))
 
 
 def merged(options, part, files):
@@ -204,7 +205,7 @@ def scale(options, part, sizes_of_rows):
         files.append(path_of(options, f"{part}.{row}"))
         sizes = sizes[:1] if options.quick else sizes
         words = [word for size in sizes for word in ("--size", size)]
-        program("scale.py", "--program", options.ssikvd, "--out", files[-1], "--row", row, "--limit", 30, *words)
+        program("scale.py", "--program", options.program, "--out", files[-1], "--row", row, "--limit", 30, *words)
     merged(options, part, files)
 
 
@@ -218,17 +219,17 @@ def opening(options):
 
 def copies(options):
     more = ["--keys", 10_000, "--runs", 1] if options.quick else ["--runs", 3]
-    program("copies.py", options.ssikvd, "--out", path_of(options, "copies"), *more)
+    program("copies.py", "--program", options.program, "--out", path_of(options, "copies"), *more)
 
 
 def compactions(options):
     more = ["--keys", 10_000, "--runs", 1] if options.quick else ["--runs", 3]
-    program("compactions.py", "--program", options.ssikvd, "--out", path_of(options, "compactions"), *more)
+    program("compactions.py", "--program", options.program, "--out", path_of(options, "compactions"), *more)
 
 
 def allocators(options):
     more = ["--keys", 5_000, "--later", 0.5] if options.quick else ["--later", 2]
-    program("allocators.py", "--program", options.ssikvd, "--out", path_of(options, "allocators"), "--allocators", *ALLOCATORS, *more)
+    program("allocators.py", "--program", options.program, "--out", path_of(options, "allocators"), "--allocators", *ALLOCATORS, *more)
 
 
 def late_ms(file):
@@ -248,7 +249,7 @@ def pauses(options):
             files.append(path_of(options, f"pauses.{keys}.{scene}"))
             for _ in range(TRIES):
                 try:
-                    program("pauses.py", "--program", options.ssikvd, "--out", files[-1], "--keys", keys, "--scene", scene, "--seconds", 1.5)
+                    program("pauses.py", "--program", options.program, "--out", files[-1], "--keys", keys, "--scene", scene, "--seconds", 1.5)
                 except Failure as failure:
                     print(failure, file=sys.stderr)
                     break
@@ -257,52 +258,53 @@ def pauses(options):
     merged(options, "pauses", [file for file in files if os.path.exists(file)])
 
 
-PARTS = {"throughput": throughput, "readers_and_writers": readers_and_writers, "rows": rows_of_run, "growth": growth, "opening": opening, "copies": copies,
+PARTS = {"throughput": throughput, "readers_and_writers": readers_and_writers, "rows": rows_of_workloads, "growth": growth, "opening": opening, "copies": copies,
          "compactions": compactions, "allocators": allocators, "pauses": pauses}
 
 
 def read_options():
-    parser = argparse.ArgumentParser(description=__doc__, formatter_class=argparse.RawDescriptionHelpFormatter)
-    parser.add_argument("--ssikvd", default=os.environ.get("SSIKVD", os.path.normpath(DEFAULT_PROGRAM)), help="the program that was built (%(default)s)")
-    parser.add_argument("--folder", default="/tmp", help="where data lies that is to be on a disk (%(default)s)")
+    parser = parser_of(__doc__, "/tmp")
     parser.add_argument("--postgres", help="the folder of PostgreSQL's programs (else found)")
     parser.add_argument("--results", default=RESULTS, help="the folder for the figures (%(default)s)")
-    parser.add_argument("--only", nargs="+", choices=PARTS, default=list(PARTS), help="parts of the sitting (all); head.json stays as it is")
+    parser.add_argument("--only", nargs="+", choices=PARTS, default=list(PARTS), help="parts of the run (all); head.json stays as it is")
     parser.add_argument("--minutes", type=float, default=24, help="after which no further scene of the pauses begins (%(default)s)")
     parser.add_argument("--quick", action="store_true", help="very short slices, few connections and small stores")
-    options = parser.parse_args()
-    if not os.access(options.ssikvd, os.X_OK):
-        parser.error(f"there is no program {options.ssikvd}")
-    options.rounds, options.seconds = (1, 0.2) if options.quick else (3, 1.0)
+    parser.add_argument("--rounds", type=int, help="slices of throughput, readers_and_writers and rows (3, quick 1)")
+    parser.add_argument("--seconds", type=float, help="of each of these (1, 0.7 and 0.5, quick 0.2, 0.2 and 0.1)")
+    parser.add_argument("--threads", type=int, default=2, help="of each load generator (%(default)s)")
+    parser.add_argument("--keys", type=int, default=10_000, help="of these three (%(default)s)")
+    parser.add_argument("--value-bytes", type=int, default=100, help="(%(default)s)")
+    parser.add_argument("--workloads", nargs="+", choices=WORKLOADS, default=WORKLOADS, help="of rows (all)")
+    parser.add_argument("--real-time", action="store_true", help="run the rows above all other work of the machine (needs root)")
+    parser.add_argument("--servers", nargs="+", choices=SERVERS, default=SERVERS, help="of readers_and_writers (all)")
+    parser.add_argument("--kinds", nargs="+", choices=KINDS, default=list(KINDS), help="of readers_and_writers (all)")
+    parser.add_argument("--sync-ms", type=float, nargs="+", default=[0.04, 1, 5], help="how long a sync takes at least there (0.04 1 5)")
+    options = words_of(parser)
     options.connections = (1, 16, 128) if options.quick else CONNECTIONS
-    options.keys, options.value_bytes, options.threads, options.sectors = 10_000, 100, 2, 1 << 22
+    options.sectors = 1 << 22
     options.end = time.monotonic() + 60 * options.minutes
     return options
 
 
 def main():
     options = read_options()
-    signal.signal(signal.SIGTERM, lambda *_: sys.exit("stopped"))
-    try:
-        subprocess.run(["make", "-s", "-C", HERE], check=True)
-        os.makedirs(options.results, exist_ok=True)
-        found = head(options)
-        for part in options.only:
-            begun, failed = time.monotonic(), {}
-            try:
-                PARTS[part](options)
-            except Failure as failure:
-                print(f"{part}: {failure}", file=sys.stderr)
-                failed = {"failed": str(failure)}
-            found["parts"][part] = {"seconds": round(time.monotonic() - begun), "load_after": round(os.getloadavg()[0], 1), **failed}
-            if options.only == list(PARTS):
-                store(options, "head", found)
-            print(f"--- {part}: {found['parts'][part]['seconds']} s", file=sys.stderr)
-        failed = [part for part, it in found["parts"].items() if "failed" in it]
-        return f"measure.py: failed: {', '.join(failed)}" if failed else 0
-    except Failure as failure:
-        return f"measure.py: {failure}"
+    subprocess.run(["make", "-s", "-C", HERE], check=True)
+    os.makedirs(options.results, exist_ok=True)
+    found = head(options)
+    for part in options.only:
+        begun, failed = time.monotonic(), {}
+        try:
+            PARTS[part](options)
+        except Failure as failure:
+            print(f"{part}: {failure}", file=sys.stderr)
+            failed = {"failed": str(failure)}
+        found["parts"][part] = {"seconds": round(time.monotonic() - begun), "load_after": round(os.getloadavg()[0], 1), **failed}
+        if options.only == list(PARTS):
+            store(options, "head", found)
+        print(f"--- {part}: {found['parts'][part]['seconds']} s", file=sys.stderr)
+    failed = [part for part, it in found["parts"].items() if "failed" in it]
+    return f"measure.py: failed: {', '.join(failed)}" if failed else 0
 
 
 if __name__ == "__main__":
-    sys.exit(main())
+    run_script(main)

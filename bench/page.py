@@ -44,12 +44,12 @@ def throughput():
 
 
 def rows():
-    """The rows of run.py by what was measured and against whom."""
+    """The rows of workloads.py by what was measured and against whom."""
     return {(row["what"], row["peer"]): row for row in read("rows")["rows"]}
 
 
 def loose_figures():
-    """Those of run.py that have no peer, by what was measured."""
+    """Those of workloads.py that have no peer, by what was measured."""
     return {figure["what"]: figure for figure in read("rows")["figures"]}
 
 
@@ -59,7 +59,7 @@ def scaled(part, row, figure):
 
 
 def mixed(sync_ms, server, kind, who, figure):
-    """A figure of those that read or that write, of mix.py."""
+    """A figure of those that read or that write, of readers_and_writers.py."""
     for row in read("readers_and_writers")["rows"]:
         if (row["sync_ms"], row["server"], row["kind"]) == (sync_ms, server, kind):
             return median([it[who][figure] for it in row["slices"]] if who else [it.get(figure) for it in row["slices"]])
@@ -105,7 +105,7 @@ def versions():
 
 def head_table():
     head = read("head")
-    yield from table(["What", "This sitting"], [
+    yield from table(["What", "This run"], [
         ["Program", f"{head['version']}, commit `{head['commit'][:12]}`"],
         ["Host", host()],
         ["System", f"Linux {head['kernel']}, {head['libc']}; {head['disk']}; {head['in_memory'].split()[0]} for data in memory"],

@@ -1,5 +1,5 @@
-"""What else a server does while one client waits for it: scenes over a store of so many keys, each with the waits of a PING beside it, and the
-processor time and the syncs between two polls, which harness/polls.c measures."""
+"""What else a server does while one client waits for it: scenes over a store of so many keys, each with the waits of a PING meanwhile, and the
+CPU time and the syncs between two polls, which harness/polls.c measures."""
 
 import array
 import collections
@@ -12,17 +12,18 @@ import socket
 import time
 
 from preloaded import Shared, Syncs, environment
-from scale import BEGIN, COMMIT, COMMIT_WRITES, MARKS, Client, Store, before_all, frame, map_keys, scattered, sets
-from servers import Failure
+from servers import Failure, connect
+from ssikvd_harness.frames import BEGIN, COMMIT, PING, PONG, frame
+from ssikvd_harness.limits import MARKS_MAX
+from stores import COMMIT_WRITES, Client, Store, before_all, map_keys, scattered, sets
 
-PING, PONG = frame(b"PING"), b"+PONG\r\n"
 EACH_SECONDS = 0.001
 SESSIONS, FLOODING = 128, 60
 # The largest RANGE: so many pairs of the largest values; and one of values of a quarter of that. Some is answered within so many seconds.
 PAIRS, LARGE_VALUE, MIDDLE_VALUE, ANSWERED_WITHIN = 128, 16_384, 4_096, 30
 QUEUE, STEP = 1_000, 32
 SMALL_COMMITS = 50
-# Transactions that write one key each: at most so many leave lists of older versions, so many follow, and so many are sent at once.
+# Transactions that write one key each: at most so many leave lists of older versions, so many follow, and so many are pipelined.
 SINGLE_WRITES, SAME_KEY, AT_ONCE = 20_000, 5_000, 20
 # In two scenes so many times as many keys are written. Of transactions of three requests a turn serves so many of a session.
 TIMES, THREES = 4, 21
@@ -38,8 +39,7 @@ LARGE_WRITERS, LEFT_ONE_IN = 24, 384
 
 def ping(address, channel):
     """Sends PING each millisecond until it is told to end. Gives of each when it was sent, its wait, and how late the client itself was."""
-    host, port = address.rsplit(":", 1)
-    connection = socket.create_connection((host, int(port)))
+    connection = connect(address, None)
     connection.setsockopt(socket.IPPROTO_TCP, socket.TCP_NODELAY, 1)
     channel.send("ready")
     sent, waits, late = (array.array("d") for _ in range(3))
@@ -86,7 +86,7 @@ class Pinger:
         self.process.join()
 
 
-# The processor time between two polls
+# The CPU time between two polls
 
 class Turns(Shared):
     """What the preloaded library shares: the turns of the program between two polls."""
@@ -118,7 +118,7 @@ class Turns(Shared):
             self.put(number, 0)
 
     def waste(self, milliseconds):
-        """The program wastes so much processor time in its next turn."""
+        """The program wastes so much CPU time in its next turn."""
         self.put(3, int(milliseconds * 1e6))
 
 
@@ -135,7 +135,7 @@ class Scene:
                 libraries.append(Syncs())
                 stack.callback(libraries[-1].remove)
                 libraries[-1].slow_down(sync_ms)
-            self.store = Store(options, keys, commits, environment(*libraries, more=options.preload))
+            self.store = Store(options, keys, commits, environment(*libraries))
             self.shared = stack.pop_all()
 
     def __enter__(self):
@@ -170,7 +170,7 @@ class Scene:
             self.watcher.ask(PING)
 
     def wait_until_idle(self):
-        """Waits for a poll that was to wait, since the figures began: the turns have given back what no transaction needs."""
+        """Waits for a poll that was to wait, since the figures began: the turns have freed what no transaction needs."""
         while not self.turns.is_idle():
             time.sleep(EACH_SECONDS)
 
@@ -217,7 +217,7 @@ def in_commits(count, start=0):
 
 
 def commit_all(client, requests):
-    """A transaction of these requests, each with a reply of one line, sent at once."""
+    """A transaction of these requests, each with a reply of one line, pipelined."""
     client.ask_lines(BEGIN + b"".join(requests) + COMMIT, 2 + len(requests))
 
 
@@ -252,13 +252,13 @@ def opened(client):
 
 def bounds(number):
     """The least key of this part of 256 of the scattered ones, and the end of the part."""
-    return b"%02x" % number, b"%02x" % (number + 1) if number < MARKS - 1 else b"g"
+    return b"%02x" % number, b"%02x" % (number + 1) if number < MARKS_MAX - 1 else b"g"
 
 
 def marking(client, most_pairs, whose=0):
     """A transaction reads 256 ranges, which hold all scattered keys where these are few, and writes 64 keys that nobody else does."""
     client.ask(BEGIN)
-    found = sum(len(client.ask(frame(b"RANGE", *bounds(number), b"%d" % most_pairs))) // 2 for number in range(MARKS))
+    found = sum(len(client.ask(frame(b"RANGE", *bounds(number), b"%d" % most_pairs))) // 2 for number in range(MARKS_MAX))
     own = [b"own%02d-%02d" % (whose, number) for number in range(COMMIT_WRITES)]
     client.ask_lines(sets(own), len(own))
     return found
@@ -318,7 +318,7 @@ def younger(options):
 
 
 def same_key(options):
-    """Many commits of one write each beside an old transaction leave as many lists of older versions at its end."""
+    """Many commits of one write each, made while an old transaction was open, leave as many lists of older versions at its end."""
     keys = [scattered(number) for number in range(min(options.keys, SINGLE_WRITES))]
     with Scene(options, 0, 2 * len(keys) + SAME_KEY + 8) as scene:
         old, client = scene.client(), scene.client()
@@ -364,14 +364,14 @@ def half_deleted(options):
             delete_all(client, lower)
             for _ in range(20):
                 client.ask(BEGIN)
-                for number in range(MARKS // 2):
+                for number in range(MARKS_MAX // 2):
                     client.ask(frame(b"RANGE", bounds(number)[0], b"", b"%d" % (1 if number % 2 else PAIRS)))
                 client.ask(COMMIT)
     return scene
 
 
 def refilled(options):
-    """Beside an older transaction that sees all keys, one begins once they are deleted. It looks for the first of them when all are set again."""
+    """While an older transaction that sees all keys is open, one begins once they are deleted. It looks for the first of them when all are set again."""
     keys = map_keys(scattered, 0, options.keys)
     with Scene(options, options.keys, 2 * (options.keys // COMMIT_WRITES) + 8) as scene:
         older, reader, client = scene.client(), scene.client(), scene.client()
@@ -404,14 +404,14 @@ def straddling(options):
 
 def overlapping(options):
     """The same, where each range holds those that were read before it. A first commit after the begin writes a key that none holds, so that the
-    numbers before the begin tell of each block of keys that some might be less."""
+    numbers before the begin say of each block of keys that some might be less."""
     half = TIMES * options.keys // 2
     with Scene(options, 0, 2 * half // COMMIT_WRITES + SMALL_COMMITS + 8) as scene:
         older, old, client = scene.client(), scene.client(), scene.client()
         opened(older)
         delete_all(client, map_keys(scattered, 0, half))
         old.ask(BEGIN)
-        for number in reversed(range(MARKS)):
+        for number in reversed(range(MARKS_MAX)):
             if old.ask(frame(b"RANGE", b"0%02x" % number, b"g", b"%d" % PAIRS)):
                 raise Failure("a range isn't empty")
         old.ask(sets([b"own"]))
@@ -513,7 +513,7 @@ def coming_and_going(options):
 
 
 def first_long_reply(options):
-    """The turns give back what an old transaction saw, in small blocks; then a client asks for a long reply. All was written by commits."""
+    """The turns free what an old transaction saw, in small blocks; then a client asks for a long reply. All was written by commits."""
     with Scene(options, 0, 2 * (options.keys // COMMIT_WRITES) + 16) as scene:
         old, client = scene.client(), scene.client()
         set_all(client, scattered, options.keys)

@@ -1,193 +1,51 @@
 #!/usr/bin/env python3
-"""Measures what requests of ssikvd cost as the store grows: over the number of keys, of deleted keys, and of commits beside an old
-transaction. Writes the figures as JSON.
+"""Measures what requests of ssikvd cost as the store grows: over the number of keys, of deleted keys, and of commits while an old
+transaction is open. Writes the figures as JSON.
 
     bench/scale.py [--program PROGRAM] [--out FILE] [--quick] [--row ROW]..
 
-Each row is measured at each size against a server of its own, over a data file in memory (--folder), by one client that sends a transaction's
-requests at once. Keys have 16 bytes and stand in random order, values 100 bytes. A row at a size ends after --limit seconds; its figures then
-tell of what was done until then, and `cut` of how much that was. Needs Python 3 alone, and memory for data files of up to 0.6 GB.
+Each row is measured at each size against a server of its own, over a data file in memory (--folder), by one client that pipelines a transaction's
+requests. Keys have 16 bytes and come in random order, values 100 bytes. A row at a size ends after --limit seconds; its figures are
+then those of what was done until then, and `cut` says how much that was. Needs Python 3 alone, and memory for data files of up to 0.6 GB.
 
-The rows, and the figures of each. Times are by the clock of the client; those with `cpu` are the server's processor time.
+The rows, and the figures of each. Times are the client's wall-clock; those with `cpu` are the server's CPU time.
 
-    fill       N new keys in random order into an empty store, commits of 64: seconds in all, the longest COMMIT, the longest whole
-               transaction by the server's processor time, memory for each key
+    fill       N new keys in random order into an empty store, commits of 64: seconds in all, the longest COMMIT, the last hundred, the longest whole
+               transaction by the server's CPU time, memory for each key
     insert     a store of N keys: a new key in commits of 64 at random places; in falling order before all others; alone in its commit;
                and a COMMIT of 64 of them
     rewrite    a store of N keys: a written key in commits of 64, and alone in its commit
     read       a store of N keys: GET, and RANGE with limit 100
     deleted    RANGE with limit 1 over N deleted keys, and with 64 own writes before them and limit 65
-    beside     RANGE with limit 1 over N keys deleted beside an old transaction, and that one's own over N keys that came after its begin
+    old_reader RANGE with limit 1 over N keys deleted while an old transaction is open, and that one's own over N keys that came after its begin
     old_commit the COMMIT of a transaction with 64 writes and 256 range marks after N commits of 64 other keys
     old_end    the COMMIT of a transaction that wrote nothing, after which the older versions of N keys are dropped
-    read_only  N commits that only read, each with 256 marks over 1,000 keys, beside an open transaction: how much the server grows
-    records    a commit of one key beside an open transaction and N kept commits, over one beside none
-    start      opening a log of N keys, beside sha256sum of the file; memory for each key
+    read_only  N commits that only read, each with 256 marks over 1,000 keys, while a transaction is open: how much the server grows
+    records    a commit of one key with an open transaction and N kept commits, over one with none
+    start      opening a log of N keys, against sha256sum of the file; memory for each key
 """
 
-import argparse
 import datetime
-import hashlib
-import json
 import os
-import socket
 import statistics
 import sys
-import tempfile
 import time
 
 sys.dont_write_bytecode = True
 
-from logs import SECTOR, write_records  # noqa: E402
-from servers import HERE, Failure, Listening, Ssikvd, run  # noqa: E402
+from entry import facts, parser_of, run_script, words_of, write_results    # noqa: E402
+from servers import Failure, run    # noqa: E402
+from ssikvd_harness.frames import BEGIN, COMMIT, frame    # noqa: E402
+from ssikvd_harness.limits import MARKS_MAX    # noqa: E402
+from stores import COMMIT_WRITES, Client, Store, before_all, map_keys, scattered, sets    # noqa: E402
 
-DEFAULT_PROGRAM = os.path.join(HERE, "..", "crates", "ssikvd", "out", "ssikvd")
-KEY_BYTES, VALUE_BYTES, COMMIT_WRITES, MARKS = 16, 100, 64, 256
 LONG_SIZES, SHORT_SIZES = (10_000, 100_000, 1_000_000), (1_000, 10_000, 100_000)
 QUICK_LONG_SIZES, QUICK_SHORT_SIZES = (10_000, 100_000), (1_000, 10_000)
 GROWTH_LIMIT_BYTES = 1 << 30
 
 
-def scattered(number):
-    """The key of this number: numbers that rise give keys in random order."""
-    return b"%016x" % (number * 0x9E3779B97F4A7C15 % (1 << 64))
-
-
-def before_all(number):
-    """The key of this number, below every scattered one: numbers that rise give keys that fall."""
-    return b"!%015d" % (10**14 - number)
-
-
-def frame(*words):
-    return b"*%d\r\n" % len(words) + b"".join(b"$%d\r\n%b\r\n" % (len(word), word) for word in words)
-
-
-BEGIN, COMMIT = frame(b"BEGIN"), frame(b"COMMIT")
-
-
-def value_of(key):
-    return key.ljust(VALUE_BYTES, b"x")
-
-
-def sets(keys):
-    return b"".join(frame(b"SET", key, value_of(key)) for key in keys)
-
-
-class Client:
-    """A session of the server."""
-
-    def __init__(self, address):
-        host, port = address.rsplit(":", 1)
-        self.socket = socket.create_connection((host, int(port)), timeout=300)
-        self.socket.setsockopt(socket.IPPROTO_TCP, socket.TCP_NODELAY, 1)
-        self.buffer = b""
-
-    def line(self):
-        while b"\r\n" not in self.buffer:
-            self.more()
-        line, self.buffer = self.buffer.split(b"\r\n", 1)
-        return line
-
-    def more(self):
-        received = self.socket.recv(1 << 20)
-        if not received:
-            raise Failure("the server closed the connection")
-        self.buffer += received
-
-    def reply(self):
-        """One whole reply: bytes, None, or a list of them."""
-        line = self.line()
-        kind, rest = line[:1], line[1:]
-        if kind == b"-":
-            raise Failure(f"refused: {rest.decode()}")
-        if kind == b"*":
-            return [self.reply() for _ in range(int(rest))]
-        if kind != b"$":
-            return rest
-        if rest == b"-1":
-            return None
-        while len(self.buffer) < int(rest) + 2:
-            self.more()
-        value, self.buffer = self.buffer[: int(rest)], self.buffer[int(rest) + 2 :]
-        return value
-
-    def ask(self, request):
-        self.socket.sendall(request)
-        return self.reply()
-
-    def ask_lines(self, requests, lines):
-        """Sends requests at once whose replies have so many lines in all, and waits for these."""
-        self.socket.sendall(requests)
-        while True:
-            lines -= self.buffer.count(b"\r\n")
-            if b"-" in self.buffer and (self.buffer.startswith(b"-") or b"\n-" in self.buffer):
-                raise Failure(f"refused: {self.buffer[:200]!r}")
-            if lines < 0:
-                raise Failure(f"{-lines} lines more than were due")
-            if not lines:
-                break
-            # What ends between the two bytes of a line's end waits for the second.
-            self.buffer = b"\r" if self.buffer.endswith(b"\r") else b""
-            self.more()
-        self.buffer = b""
-
-    def timed(self, request):
-        """Seconds until the reply to one request."""
-        begun = time.perf_counter()
-        self.ask(request)
-        return time.perf_counter() - begun
-
-    def commit(self, keys):
-        """A whole transaction that sets these keys, sent at once but for its COMMIT, whose seconds it gives."""
-        self.ask_lines(BEGIN + sets(keys), 1 + len(keys))
-        return self.timed(COMMIT)
-
-
-class Store(Ssikvd):
-    """A server over a data file of so many scattered keys."""
-
-    def __init__(self, options, keys, commits, environment=None):
-        self.folder = tempfile.mkdtemp(prefix="ssikvd-scale-", dir=options.folder)
-        self.data = os.path.join(self.folder, "data")
-        self.keys = keys
-        words = [options.program, "serve", "--data", self.data, "--listen", "127.0.0.1:0"]
-        try:
-            write_records(self.data, records(keys), free_sectors=commits * sectors_of(COMMIT_WRITES) + 64)
-            self.begun = time.perf_counter()
-            Listening.__init__(self, words, env=environment)
-            self.opened = time.perf_counter() - self.begun
-        except BaseException:
-            self.remove()
-            raise
-
-    def remove(self):
-        if os.path.exists(self.data):
-            os.remove(self.data)
-        os.rmdir(self.folder)
-
-    def __exit__(self, *_):
-        self.stop()
-        self.remove()
-
-    def processor_seconds(self):
-        """The processor time of the server, by the scheduler's own count."""
-        with open(f"/proc/{self.process.pid}/schedstat") as stat:
-            return int(stat.read().split()[0]) / 1e9
-
-
-def sectors_of(writes):
-    """The sectors of a record of so many writes, with its gate."""
-    return 2 + (48 + writes * (7 + KEY_BYTES + VALUE_BYTES)) // SECTOR
-
-
-def records(keys):
-    """The records of a log of so many scattered keys."""
-    for start in range(0, keys, COMMIT_WRITES):
-        yield sorted((key, value_of(key)) for key in map(scattered, range(start, min(keys, start + COMMIT_WRITES))))
-
-
 class Work:
-    """Rounds of work on a server until they are done or the time is over: their times, and the processor time of all."""
+    """Rounds of work on a server until they are done or the time is over: their times, and the CPU time of all."""
 
     def __init__(self, server, options, rounds):
         self.server, self.until, self.rounds = server, time.perf_counter() + options.limit, rounds
@@ -208,7 +66,7 @@ class Work:
         return len(self.times)
 
     def us_per(self, units):
-        """Microseconds for each of so many units a round: by the clock, and of processor time."""
+        """Microseconds for each of so many units a round: wall-clock, and of CPU time."""
         each = 1e6 / (self.done() * units)
         return round(self.seconds * each, 2), round(self.cpu_seconds * each, 2)
 
@@ -240,11 +98,8 @@ def row_fill(options, keys):
         wall, cpu = work.us_per(COMMIT_WRITES)
         memory = (server.resident_bytes() - empty_bytes) / (work.done() * COMMIT_WRITES)
         return {"seconds": round(work.seconds, 2), "us_per_key": wall, "cpu_us_per_key": cpu, "longest_commit_ms": ms(max(work.times)),
-                "cpu_longest_transaction_ms": ms(max(processor)), "bytes_per_key": round(memory), **work.cut()}
-
-
-def map_keys(key_of, start, count=COMMIT_WRITES):
-    return [key_of(number) for number in range(start, start + count)]
+                "last_commits_ms": ms(statistics.mean(work.times[-100:])), "cpu_longest_transaction_ms": ms(max(processor)),
+                "bytes_per_key": round(memory), **work.cut()}
 
 
 def row_insert(options, keys):
@@ -336,7 +191,7 @@ def row_deleted(options, keys):
         return {"range_1_us": us(bare), "range_after_64_own_writes_us": us(covered), **work.cut()}
 
 
-def row_beside(options, keys):
+def row_old_reader(options, keys):
     rounds = -(-keys // COMMIT_WRITES)
     last = b"~last"
     with Store(options, keys, 2 * rounds + 2) as server:
@@ -360,7 +215,7 @@ def row_beside(options, keys):
                 pairs = session.ask(frame(b"RANGE", start, end, b"1"))
                 times.append(time.perf_counter() - begun)
                 if wanted is not None and pairs[::2] != wanted:
-                    raise Failure(f"a range beside an old transaction gave {pairs!r}")
+                    raise Failure(f"a range with an old transaction open gave {pairs!r}")
             return us(statistics.median(times))
 
         deleting = Work(server, options, rounds).do(delete)
@@ -379,9 +234,9 @@ def row_old_commit(options, commits):
     with Store(options, keys, commits + 1) as server:
         old, client = Client(server.address), Client(server.address)
         below = sorted(key for key in map(scattered, range(reads)) if key < b"8")
-        step = len(below) // MARKS
+        step = len(below) // MARKS_MAX
         old.ask(BEGIN)
-        for number in range(MARKS):
+        for number in range(MARKS_MAX):
             old.ask(frame(b"RANGE", below[number * step], below[number * step + 2], b"100"))
         old.ask_lines(sets(below[1 : 4 * COMMIT_WRITES : 4]), COMMIT_WRITES)
         some = [b"".join(frame(b"SET", key, b"v") for key in above[n * COMMIT_WRITES : (n + 1) * COMMIT_WRITES]) for n in range(500)]
@@ -423,11 +278,11 @@ def row_read_only(options, commits):
         old.ask(BEGIN)
         old.ask(frame(b"GET", scattered(0)))
         # A value is two lines.
-        some = [BEGIN + b"".join(frame(b"GET", scattered((n * 31 + it * 3) % keys)) for it in range(MARKS)) + COMMIT for n in range(keys)]
+        some = [BEGIN + b"".join(frame(b"GET", scattered((n * 31 + it * 3) % keys)) for it in range(MARKS_MAX)) + COMMIT for n in range(keys)]
         before = server.resident_bytes()
 
         def read(number):
-            client.ask_lines(some[number % len(some)], 2 + 2 * MARKS)
+            client.ask_lines(some[number % len(some)], 2 + 2 * MARKS_MAX)
             if number % 100 == 99 and server.resident_bytes() > before + GROWTH_LIMIT_BYTES:
                 work.until = 0
             return 0.0
@@ -486,7 +341,7 @@ def row_start(options, keys):
 # Each row, and whether its sizes are numbers of keys or of commits.
 ROWS = {
     "fill": (row_fill, True), "insert": (row_insert, True), "rewrite": (row_rewrite, True), "read": (row_read, True),
-    "deleted": (row_deleted, True), "beside": (row_beside, True), "old_commit": (row_old_commit, False), "old_end": (row_old_end, True),
+    "deleted": (row_deleted, True), "old_reader": (row_old_reader, True), "old_commit": (row_old_commit, False), "old_end": (row_old_end, True),
     "read_only": (row_read_only, False), "records": (row_records, False), "start": (row_start, True),
 }
 
@@ -513,40 +368,27 @@ def measure(options, row, size):
 
 
 def about(program):
-    """What was measured, and where."""
-    with open(program, "rb") as binary:
-        digest = hashlib.sha256(binary.read()).hexdigest()
-    with open("/proc/cpuinfo") as info:
-        models = {line.split(":", 1)[1].strip() for line in info if line.startswith("model name")}
-    return {"program_sha256": digest, "began": datetime.datetime.now(datetime.timezone.utc).strftime("%Y-%m-%d %H:%M UTC"),
-            "processors": os.cpu_count(), "model": ", ".join(sorted(models)), "kernel": os.uname().release}
+    """What was measured, where and when."""
+    return {**facts(program), "began": datetime.datetime.now(datetime.timezone.utc).strftime("%Y-%m-%d %H:%M UTC")}
 
 
 def main():
-    parser = argparse.ArgumentParser(description=__doc__, formatter_class=argparse.RawDescriptionHelpFormatter)
-    parser.add_argument("--program", default=DEFAULT_PROGRAM)
-    parser.add_argument("--out", help="the file for the figures, as JSON")
+    parser = parser_of(__doc__)
     parser.add_argument("--row", action="append", choices=ROWS, help="only this row; may be given more than once")
     parser.add_argument("--size", action="append", type=int, help="only this size; may be given more than once")
     parser.add_argument("--quick", action="store_true", help="sizes up to 100,000, 4 seconds for each row at a size: under two minutes")
     parser.add_argument("--limit", type=float, help="seconds for each row at a size (default 120, quick 4)")
-    parser.add_argument("--folder", default="/dev/shm", help="where data files are made (default /dev/shm)")
-    options = parser.parse_args()
+    options = words_of(parser)
     options.limit = options.limit or (4 if options.quick else 120)
-    if not os.access(options.program, os.X_OK):
-        parser.error(f"there is no program {options.program}")
     results = {"about": about(options.program), "limit_seconds": options.limit, "rows": []}
     for row in options.row or ROWS:
         for size in sizes_of(options, row):
             results["rows"].append(measure(options, row, size))
-            if options.out:
-                with open(options.out, "w") as out:
-                    json.dump(results, out, indent=1)
-                    out.write("\n")
+            write_results(options.out or os.devnull, results)
     if not options.out:
-        print(json.dumps(results, indent=1))
+        write_results("/dev/stdout", results)
     return 1 if any("failed" in it["figures"] for it in results["rows"]) else 0
 
 
 if __name__ == "__main__":
-    sys.exit(main())
+    run_script(main)

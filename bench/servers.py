@@ -4,16 +4,20 @@ import contextlib
 import glob
 import os
 import pwd
-import select
 import shutil
 import signal
 import socket
 import subprocess
+import sys
 import tempfile
 import time
 import urllib.request
 
 HERE = os.path.dirname(os.path.abspath(__file__))
+sys.path.append(os.path.join(HERE, "..", "harness"))    # for ssikvd_harness, which each script here imports after this module
+
+from ssikvd_harness.server import address_of, first_line, free_port, memory_of, processor_seconds_of    # noqa: E402
+
 PROGRAMS = os.path.join(HERE, "out")
 
 
@@ -30,6 +34,12 @@ def run(words, **more):
     if done.returncode != 0:
         raise Failure(f"{' '.join(words)} ended with {done.returncode}: {(done.stderr or done.stdout).strip()[:400]}")
     return done.stdout
+
+
+def connect(address, seconds=10):
+    """A connection, which waits for so long."""
+    host, port = address.rsplit(":", 1)
+    return socket.create_connection((host, int(port)), seconds)
 
 
 class Process:
@@ -58,23 +68,23 @@ class Process:
         return self.process.poll() is None
 
     def processor_seconds(self):
-        """The processor time of the process, without that of its children."""
-        with open(f"/proc/{self.process.pid}/stat") as stat:
-            fields = stat.read().rsplit(")", 1)[1].split()
-        return (int(fields[11]) + int(fields[12])) / os.sysconf("SC_CLK_TCK")
+        """The CPU time of the process, without that of its children."""
+        return processor_seconds_of(self.process.pid)
+
+    def resident_bytes(self):
+        """The memory that the process holds."""
+        return memory_of(self.process.pid, "VmRSS")
 
 
 class Listening(Process):
     """A server that prints `listening ADDRESS` once it can be reached."""
 
     def __init__(self, words, **more):
-        super().__init__(words, stdout=subprocess.PIPE, text=True, **more)
-        ready, _, _ = select.select([self.process.stdout], [], [], 120)
-        words_of_line = self.process.stdout.readline().split() if ready else []
-        if len(words_of_line) != 2 or words_of_line[0] != "listening":
+        super().__init__(words, stdout=subprocess.PIPE, **more)
+        self.address = address_of(first_line(self.process.stdout, [], 120))
+        if not self.address:
             self.stop()
             raise Failure(f"{' '.join(words)} did not say where it listens")
-        self.address = words_of_line[1]
 
 
 class Echo(Listening):
@@ -117,14 +127,6 @@ class Ssikvd(Listening):
         self.stop()
         shutil.rmtree(self.folder)
 
-    def resident_bytes(self):
-        """The memory that the process holds."""
-        with open(f"/proc/{self.process.pid}/status") as status:
-            for line in status:
-                if line.startswith("VmRSS:"):
-                    return 1024 * int(line.split()[1])
-        raise Failure("no VmRSS")
-
     def records(self):
         """How many commits stand in the data file. The server must have ended."""
         return count_records(self.program, self.data)
@@ -141,7 +143,7 @@ class Redis(Process):
         words += ["--appendonly", "yes", "--appendfsync", "always", "--auto-aof-rewrite-percentage", "0"] if log_folder else ["--appendonly", "no"]
         super().__init__(words, stdout=subprocess.DEVNULL, **more)
         for _ in range(100):
-            with contextlib.suppress(OSError), socket.create_connection(("127.0.0.1", int(self.address.rsplit(":", 1)[1])), 1):
+            with contextlib.suppress(OSError), connect(self.address, 1):
                 return
             time.sleep(0.1)
         raise Failure("Redis did not come up")
@@ -208,12 +210,6 @@ def postgres_user():
         return pwd.getpwnam("postgres")
     except KeyError:
         raise Failure("PostgreSQL does not run as root, and there is no user postgres") from None
-
-
-def free_port():
-    with socket.socket() as probe:
-        probe.bind(("127.0.0.1", 0))
-        return probe.getsockname()[1]
 
 
 class Postgres(Process):

@@ -5,8 +5,8 @@ It measures nothing. It computes from figures in bench/results, for small commit
 100. Let F be the commits for which a file has room behind its map, K the number of keys, and r the rate of commits a second.
 
 The timer looks each minute, and compacts if more than half of the sectors are used, or if the log would be full within ten minutes at that rate.
-A compaction then verifies the c commits since the last one, and reads them and copies K keys beside the server, for which it takes half of the time that is
-left at most. So a rate is sustained where, with c = 60 r, r (60 + verifying + 2 copying) is at most F. At a lower rate a compaction begins at
+A compaction then verifies the c commits since the last one, and reads them and copies K keys while the server runs, for which it takes half of the time
+that is left at most. So a rate is sustained where, with c = 60 r, r (60 + verifying + 2 copying) is at most F. At a lower rate a compaction begins at
 the first look at which c is more than half of the file without the map, or more than F - 600 r.
 """
 import argparse

@@ -1,11 +1,11 @@
 #!/usr/bin/env python3
 """Compares two built programs of ssikvd, request by request: has one that was fast become slower?
 
-    bench/versus.py OLD NEW                    # processor time, in alternating slices: five minutes
-    bench/versus.py OLD NEW --instructions     # the instructions that each request takes; needs valgrind, and tells the same on a busy machine
+    bench/versus.py OLD NEW                    # CPU time, in alternating slices: five minutes
+    bench/versus.py OLD NEW --instructions     # the instructions that each request takes; needs valgrind, and gives the same on a busy machine
 
-A row is one kind of transaction. Its first form measures the processor time of both servers under the same load, in rounds of one slice each, and
-gives the median of the rounds' ratios with the middle half of them: above 1, the new program takes more. The data files are in memory, so no disk
+A row is one kind of transaction. Its first form measures the CPU time of both servers under the same load, in rounds of one slice each, and
+gives the median of the rounds' ratios with their interquartile range: above 1, the new program takes more. The data files are in memory, so no disk
 is involved. The second runs each server under callgrind, sends 200 transactions over one connection, and counts what 400 more take: in the program's
 own code, and with the C library's. The system's calls are not in it. Valgrind counts a `rep stosb`, with which that library fills long stretches of
 memory, once for each byte.
@@ -21,9 +21,13 @@ import subprocess
 import sys
 import tempfile
 
-from beside import BEGIN, PING, connect, exchange, frame
-from run import Load, counted, quartile
-from servers import HERE, Failure, Listening, Ssikvd, run
+sys.dont_write_bytecode = True
+
+from entry import print_table, run_script    # noqa: E402
+from servers import HERE, Listening, Ssikvd, run    # noqa: E402
+from ssikvd_harness.frames import BEGIN, COMMIT, PING, frame    # noqa: E402
+from stores import Client    # noqa: E402
+from workloads import Load, counted, quartile    # noqa: E402
 
 KINDS = [("PING", "ping", 1, False), ("PING", "ping", 16, False), ("32 pipelined PINGs", "pings", 1, False),
          ("BEGIN, 4 GET, COMMIT", "read", 16, False), ("BEGIN, 4 GET, COMMIT, pipelined", "read", 16, True),
@@ -44,7 +48,7 @@ def processor_us(slice_of):
 
 
 def timed_row(options, kind, old, new):
-    """The processor time of both for a transaction, and the ratios of the rounds."""
+    """The CPU time of both for a transaction, and the ratios of the rounds."""
     what, work, connections, at_once = kind
     load = Load(options, work, connections, at_once)
     times = {old: [], new: []}
@@ -115,51 +119,36 @@ def requests_of(work, number):
         body = [frame(b"GET", key % (number % 16)), frame(b"SET", key % (number % 16), b"v" * VALUE_BYTES)]
     else:
         body = [frame(b"SET", key % (97 * number % KEYS), b"v" * VALUE_BYTES)]
-    return [BEGIN, *body, frame(b"COMMIT")]
+    return [BEGIN, *body, COMMIT]
 
 
-def reply_ends(connection):
-    """Reads one reply."""
-    came = connection.readline()
-    if came[:1] == b"$" and came != b"$-1\r\n":
-        connection.read(int(came[1:]) + 2)
-    elif came[:1] == b"*":
-        for _ in range(int(came[1:])):
-            reply_ends(connection)
-    elif came[:1] not in (b"+", b":", b"$"):
-        raise Failure(f"the reply was {came!r}")
-
-
-def send_all(connection, replies, kind, numbers):
+def send_all(client, kind, numbers):
     _, work, _, at_once = kind
     for number in numbers:
         requests = requests_of(work, number)
         pieces = [b"".join(requests)] if at_once or work == "pings" else requests
         for piece in pieces:
-            connection.sendall(piece)
+            client.socket.sendall(piece)
             for _ in range(len(requests) if len(pieces) == 1 else 1):
-                reply_ends(replies)
+                client.reply()
 
 
-def fill(connection):
+def fill(client):
     keys = [b"k%08d" % number for number in range(KEYS)]
     for start in range(0, KEYS, 50):
         part = keys[start:start + 50]
-        batch = BEGIN + b"".join(frame(b"SET", key, b"v" * VALUE_BYTES) for key in part) + frame(b"COMMIT")
-        number = start // 50 + 1
-        if not exchange(connection, batch, 5 + 5 * len(part) + len(b":%d\r\n" % number)).endswith(b":%d\r\n" % number):
-            raise Failure("a commit of the first keys was refused")
+        client.ask_lines(BEGIN + b"".join(frame(b"SET", key, b"v" * VALUE_BYTES) for key in part) + COMMIT, 2 + len(part))
 
 
 def counted_instructions(program, folder, name, kinds):
     """What a transaction of each kind takes, over one connection."""
-    with Counting(program, folder, name) as server, connect(server.address) as connection, connection.makefile("rb") as replies:
-        connection.settimeout(120)
-        fill(connection)
+    with Counting(program, folder, name) as server:
+        client = Client(server.address)
+        fill(client)
         for kind in kinds:
-            send_all(connection, replies, kind, range(WARM))
+            send_all(client, kind, range(WARM))
             server.instructions()
-            send_all(connection, replies, kind, range(WARM, WARM + COUNTED))
+            send_all(client, kind, range(WARM, WARM + COUNTED))
             yield [count / COUNTED for count in server.instructions()]
 
 
@@ -170,12 +159,6 @@ def instruction_rows(options):
     for (what, *_), old, new in zip(kinds, *both):
         ratios = [f"**{mine / other:.2f}**" for mine, other in zip(new, old)]
         yield [what, f"{old[0]:,.0f}", f"{new[0]:,.0f}", ratios[0], f"{old[1]:,.0f}", f"{new[1]:,.0f}", ratios[1]]
-
-
-def print_table(heads, rows):
-    print("| " + " | ".join(heads) + " |\n|" + "---|" * len(heads), flush=True)
-    for row in rows:
-        print("| " + " | ".join(row) + " |", flush=True)
 
 
 def main():
@@ -195,11 +178,8 @@ def main():
             print_table(["What", "Old: own code", "New: own code", "Ratio", "Old: all", "New: all", "Ratio"], instruction_rows(options))
         else:
             run(["make", "-s", "-C", HERE, "all"])
-            print_table(["What", "Old: us", "New: us", "Ratio", "Middle half"], timed_rows(options))
+            print_table(["What", "Old: us", "New: us", "Ratio", "Interquartile range"], timed_rows(options))
 
 
 if __name__ == "__main__":
-    try:
-        main()
-    except Failure as failure:
-        sys.exit(f"versus.py: {failure}")
+    run_script(main)

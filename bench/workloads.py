@@ -1,34 +1,27 @@
-#!/usr/bin/env python3
-"""Measures ssikvd beside what it can be compared with, in one run, and prints the ratios as a Markdown table.
-
-    bench/run.py [--ssikvd PROGRAM]
-
-It builds a load generator, an echo server and a sync benchmark (bench/*.c; needs make and a C compiler), and starts and stops each server
-itself, PostgreSQL too, over fresh folders under --folder. The durable rows tell about the disk of that folder.
+"""The workloads of ssikvd against what each can be compared with: an echo server, a stand-in in C, the bare device, Redis and PostgreSQL.
 
 Each row is measured in rounds: a slice of one side, a slice of the other, in turn the other way round. The ratio is the median of the
-rounds' ratios, and the middle half of these stands beside it; rates and times are medians of their own. Since a disk stalls now and then,
+rounds' ratios, and the interquartile range of these stands next to it; rates and times are medians of their own. Since a disk stalls now and then,
 whoever syncs, the durable rows have many short slices. More is better for ssikvd. On a machine that does other work the ratios say more than the
-rates; the load beside each row tells of that.
+rates; the load next to each row shows that. The durable rows tell about the disk of --folder.
 """
 
 import argparse
 import contextlib
-import json
 import os
 import shutil
-import signal
 import statistics
-import subprocess
 import sys
 import tempfile
 import time
 
-from beside import BEGIN, PING, busy_figures, connect
-from logs import write_log
-from servers import HERE, POSTGRES_SETTINGS, PROGRAMS, Echo, Failure, Postgres, Redis, Ssikvd, StandIn, count_records, find_postgres, run
+from beside import busy_figures
+from entry import print_table, rounded
+from servers import POSTGRES_SETTINGS, PROGRAMS, Echo, Failure, Postgres, Redis, Ssikvd, StandIn, connect, count_records, find_postgres, run
+from ssikvd_harness.frames import BEGIN, PING
+from ssikvd_harness.log_format import write_log
+from stores import small_commits
 
-DEFAULT_PROGRAM = os.path.join(HERE, "..", "crates", "ssikvd", "out", "ssikvd")
 IDLE_CONNECTIONS = 100
 PARTS = ["ping", "batch", "fair", "busy", "read", "old", "commit", "start", "memory"]
 
@@ -112,17 +105,7 @@ class Row:
         return [self.what, *sides, f"**{self.ratio():.2f}**", middle_half, self.verdict(), f"{self.load:.1f}"]
 
 
-HEADS = ["What", "ssikvd", "Beside", "its rate", "Ratio", "Middle half", "Goal", "Load"]
-
-
-def print_table(rows):
-    print("| " + " | ".join(HEADS) + " |")
-    print("|" + "---|" * len(HEADS))
-    for row in rows:
-        print("| " + " | ".join(row.cells()) + " |")
-    for row in rows:
-        for note in row.notes:
-            print(f"\n{row.what}: {note}")
+HEADS = ["What", "ssikvd", "Against", "its rate", "Ratio", "Interquartile range", "Goal", "Load"]
 
 
 def compare(options, row, load, ours, theirs):
@@ -135,12 +118,12 @@ def compare(options, row, load, ours, theirs):
 
 
 def processor_us(slices):
-    """A server's processor time for each transaction of these slices."""
+    """A server's CPU time for each transaction of these slices."""
     return 1e6 * sum(it["processor_seconds"] for it in slices) / sum(it["committed"] for it in slices)
 
 
 def processor_figures(rows):
-    """What each kind of transaction takes of the server's processor."""
+    """What CPU time of the server each kind of transaction takes."""
     for what, row in {row.what: row for row in reversed(rows) if "processor_seconds" in row.ours[0]}.items():
         took = processor_us(row.ours)
         yield {"what": what, "figure": took, "unit": "us of CPU time", "text": f"{took:.1f} us of the server's CPU time for each"}
@@ -160,7 +143,7 @@ def ping_rows(options, ssikvd):
 
 
 def batch_rows(options, ssikvd, redis):
-    """32 PINGs at a time, beside Redis."""
+    """32 pipelined PINGs, against Redis."""
     for connections in (1, 16):
         row = Row(f"32 pipelined PINGs, {counted(connections)}", "Redis", 1.0)
         yield compare(options, row, Load(options, "pings", connections), ssikvd, redis)
@@ -177,7 +160,7 @@ def fairness_figures(options, ssikvd):
 
 
 class Peer:
-    """What stands beside ssikvd in a row, if it is there."""
+    """What ssikvd is compared with in a row, if it is there."""
 
     def __init__(self, name, server, goals):
         self.name, self.server, self.goals = name, server, goals
@@ -231,7 +214,7 @@ def old_rows(options, ssikvd):
 
 
 class Device:
-    """The writes and syncs of commits on a file beside the data file."""
+    """The writes and syncs of commits on a file next to the data file."""
 
     def __init__(self, folder):
         self.path = os.path.join(folder, "device")
@@ -277,11 +260,11 @@ def start_rows(options):
     with tempfile.TemporaryDirectory(prefix="ssikvd-bench-", dir=options.folder) as folder:
         for commits in (10_000, 100_000):
             path = os.path.join(folder, "log")
-            write_log(path, commits, options.keys, options.value_bytes)
-            if count_records(options.ssikvd, path) != commits:
+            write_log(path, small_commits(commits, options.keys, options.value_bytes))
+            if count_records(options.program, path) != commits:
                 raise Failure("check did not find the commits of a data file that this script wrote")
             row = Row(f"Opening a log of {commits:,} commits, {os.path.getsize(path) / 1e6:.0f} MB", "sha256sum of the file")
-            check = [options.ssikvd, "check", "--data", path]
+            check = [options.program, "check", "--data", path]
             row.measure(options.rounds, lambda: timed(check)[0], lambda: timed(["sha256sum", path])[0])
             row.notes.append(f"{1000 / row.rate(row.ours):.0f} ms.")
             yield row
@@ -321,20 +304,20 @@ def fill(options, ssikvd):
 
 
 def needs_postgres(options):
-    return "read" in options.only or "commit" in options.only
+    return "read" in options.workloads or "commit" in options.workloads
 
 
 def missing_peers(options, postgres, redis):
-    """What is told of rows that are missing."""
+    """What is reported of rows that are missing."""
     if not postgres and needs_postgres(options):
         yield "PostgreSQL was not found: its rows are missing."
-    if not redis and ("batch" in options.only or "read" in options.only):
+    if not redis and ("batch" in options.workloads or "read" in options.workloads):
         yield "Redis was not found: its rows are missing."
 
 
 def started(stack, options, server, parts):
     """A server that some of these parts need, filled where it is asked for reads."""
-    if not set(parts) & set(options.only):
+    if not set(parts) & set(options.workloads):
         return None
     server = stack.enter_context(server())
     if "read" in parts:
@@ -343,9 +326,9 @@ def started(stack, options, server, parts):
 
 
 def measure_all(options, stack, postgres):
-    """The rows of the parts that are wanted, the figures that have no peer, and what else is to be told."""
-    ssikvd = stack.enter_context(Ssikvd(options.ssikvd, options.folder, options.sectors))
-    redis_program, only = shutil.which("redis-server"), options.only
+    """The rows of the parts that are wanted, the figures that have no peer, and what else is reported."""
+    ssikvd = stack.enter_context(Ssikvd(options.program, options.folder, options.sectors))
+    redis_program, only = shutil.which("redis-server"), options.workloads
     redis = redis_program and started(stack, options, lambda: Redis(redis_program), ["batch", "read"])
     stand_in = started(stack, options, StandIn, ["read"])
     rows, figures = [], []
@@ -394,24 +377,6 @@ def percentiles(side, slices):
     return {side + name: quartile([it[name] for it in slices], 2) for name in ("p50_us", "p99_us", "p999_us") if name in slices[0]}
 
 
-def rounded(value):
-    """The value with four significant digits in each number."""
-    if isinstance(value, dict):
-        return {name: rounded(part) for name, part in value.items()}
-    if isinstance(value, list):
-        return [rounded(part) for part in value]
-    return float(f"{value:.4g}") if isinstance(value, float) else value
-
-
-def write_results(options, rows, figures):
-    """The figures as JSON, a row a line, from which tables and pictures are made: see report.py."""
-    head = {"when": time.strftime("%Y-%m-%d %H:%MZ", time.gmtime()), "machine": machine(options.folder), "rounds": options.rounds, "seconds": options.seconds}
-    with open(options.results, "w") as file:
-        file.write(json.dumps(head)[:-1] + ', "rows": [\n')
-        file.write(",\n".join(json.dumps(rounded(result_of(row))) for row in rows))
-        file.write('],\n"figures": [\n' + ",\n".join(json.dumps(rounded(figure)) for figure in figures) + "]}\n")
-
-
 def print_machine(options, postgres):
     print(f"{time.strftime('%Y-%m-%d %H:%MZ', time.gmtime())}. {machine(options.folder)}. Load before: {os.getloadavg()[0]:.1f}.")
     slices = f"{options.rounds} rounds of {options.seconds:g} s (commits: {options.rounds * 8} of {options.seconds / 10:g} s)"
@@ -423,47 +388,18 @@ def print_machine(options, postgres):
     print()
 
 
-def read_options():
-    parser = argparse.ArgumentParser(description=__doc__, formatter_class=argparse.RawDescriptionHelpFormatter)
-    parser.add_argument("--ssikvd", default=os.path.normpath(DEFAULT_PROGRAM), help="the program that was built (%(default)s)")
-    parser.add_argument("--folder", default="/tmp", help="where the data lies while it runs (%(default)s)")
-    parser.add_argument("--postgres", help="the folder of PostgreSQL's programs (else found)")
-    parser.add_argument("--results", help="a file for the figures, as JSON")
-    parser.add_argument("--only", nargs="+", choices=PARTS, default=PARTS, help="parts of the run (all)")
-    parser.add_argument("--rounds", type=int, default=7, help="(%(default)s)")
-    parser.add_argument("--seconds", type=float, default=0.5, help="of a slice (%(default)s)")
-    parser.add_argument("--real-time", action="store_true", help="run above all other work of the machine (needs root)")
-    parser.add_argument("--threads", type=int, default=2, help="of the load generator (%(default)s)")
-    parser.add_argument("--keys", type=int, default=10_000, help="(%(default)s)")
-    parser.add_argument("--value-bytes", type=int, default=100, help="(%(default)s)")
-    parser.add_argument("--sectors", type=int, default=1 << 20, help="of the data file (%(default)s)")
-    return parser.parse_args()
-
-
-def main():
-    options = read_options()
-    signal.signal(signal.SIGTERM, lambda *_: sys.exit("stopped"))
-    try:
-        if not os.access(options.ssikvd, os.X_OK):
-            raise Failure(f"{options.ssikvd} is not there: build it first (cd crates/ssikvd && rt run -- --help), or name it by --ssikvd")
-        subprocess.run(["make", "-s", "-C", HERE], check=True)
+def measure_workloads(options):
+    """Prints and gives all that is reported of the workloads that are asked for."""
+    head = {"when": time.strftime("%Y-%m-%d %H:%MZ", time.gmtime()), "machine": machine(options.folder), "rounds": options.rounds, "seconds": options.seconds}
+    with contextlib.ExitStack() as stack:
         if options.real_time:
             os.sched_setscheduler(0, os.SCHED_FIFO, os.sched_param(1))
-        with contextlib.ExitStack() as stack:
-            programs = find_postgres(options.postgres) if needs_postgres(options) else None
-            postgres = programs and stack.enter_context(Postgres(programs, options.folder, options.keys, options.value_bytes))
-            print_machine(options, postgres)
-            rows, figures, remarks = measure_all(options, stack, postgres)
-        print_table(rows)
-        for figure in figures:
-            print(f"\n{figure['what']}: {figure['text']}.")
-        for remark in remarks:
-            print(f"\n{remark}")
-        if options.results:
-            write_results(options, rows, figures)
-    except Failure as failure:
-        sys.exit(f"run.py: {failure}")
-
-
-if __name__ == "__main__":
-    main()
+            stack.callback(os.sched_setscheduler, 0, os.SCHED_OTHER, os.sched_param(0))
+        programs = find_postgres(options.postgres) if needs_postgres(options) else None
+        postgres = programs and stack.enter_context(Postgres(programs, options.folder, options.keys, options.value_bytes))
+        print_machine(options, postgres)
+        rows, figures, remarks = measure_all(options, stack, postgres)
+    print_table(HEADS, (row.cells() for row in rows))
+    for text in (*(f"{row.what}: {note}" for row in rows for note in row.notes), *(f"{it['what']}: {it['text']}." for it in figures), *remarks):
+        print(f"\n{text}")
+    return {**head, "rows": [rounded(result_of(row)) for row in rows], "figures": rounded(figures)}
