@@ -1,5 +1,5 @@
 #!/usr/bin/env python3
-"""Draws the pictures of the documents: `draw.py` writes them beside itself, `draw.py --check` looks whether they are as they would be drawn.
+"""Draws the pictures of the documents: `draw.py` writes them next to itself, `draw.py --check` looks whether they are as they would be drawn.
 
 The crates come from crates.txt, the examples from the folder examples, by its picture.py, and the figures from bench/results, by bench/page.py. Text stays
 text, and room for it is counted in DejaVu Sans.
@@ -103,7 +103,7 @@ def crates():
     place = {name: level(name) if stands_on[name] else min(users[name]) - 1 for name in stands_on}
     rows, ways = rows_of(direct, place)
     x = laid_out(rows, ways)
-    legend = "An arrow leads to what a crate stands on; what follows from other arrows is left out."
+    legend = "An arrow leads from a crate to one that it uses; what follows from other arrows is left out."
     width = max(math.ceil(max(at + gap_of(node) / 2 for node, at in x.items())) + 20, math.ceil(widest([legend])) + 40)
     picture = Picture("The crates as layers", width, len(rows) * STEP + 44)
     y = {level: picture.height - 48 - (level - min(rows)) * STEP for level in rows}
@@ -126,15 +126,15 @@ def crates():
 
 WAY = [
     ("client", "sends the frame of COMMIT", None),
-    ("event_loop", "the poll tells that the socket is ready", None),
+    ("event_loop", "the poll reports that the socket is ready", None),
     ("stream_driver", "reads the bytes into the session's inbox", None),
-    ("resp", "finds a whole frame; its parts are the command COMMIT", "broken: ERR frame, the session ends"),
+    ("resp", "finds a whole frame; its parts are the command COMMIT", "ERR frame; the session ends"),
     ("engine", "looks for the session's transaction", "ERR none; STORE stopped, which ends it"),
-    ("pivot_check", "gives the verdict over what has committed since its BEGIN", "CONFLICT; the transaction has ended"),
-    ("commit_log", "looks for room, where something was written", "FULL log; the transaction has ended"),
-    ("engine", "takes all memory that the rest needs", "refused: the session is closed"),
+    ("pivot_check", "checks for conflicts with what committed since its BEGIN", "CONFLICT; the transaction has ended"),
+    ("commit_log", "checks that the log has room, if something was written", "FULL log; the transaction has ended"),
+    ("engine", "allocates all memory that the rest needs", "none, where it is refused; the session is closed"),
     ("commit_log", "body, closed gate, sync; open gate, sync", "STORE fault; the store stops"),
-    ("versions", "take in the writes; pivot_check notes the record", None),
+    ("versions", "installs the writes; pivot_check notes the record", None),
     ("resp", "writes the commit number into the session's output", None),
     ("stream_driver", "writes the output to the socket", None),
 ]
@@ -145,7 +145,7 @@ def commit():
     aside = 165 + math.ceil(widest([what for _, what, ends in WAY if ends])) + 60
     picture = Picture("The way of one COMMIT", aside + math.ceil(widest([ends for _, _, ends in WAY if ends])) + 20, len(WAY) * row + 60)
     picture.text(20, 24, "One call after the other, in one thread", weight="bold")
-    picture.text(aside, 24, "answered there instead", fill=RED, weight="bold")
+    picture.text(aside, 24, "or the reply is", fill=RED, weight="bold")
     for number, (crate, what, ends) in enumerate(WAY):
         y = 40 + number * row
         is_disk = "sync" in what
@@ -157,7 +157,7 @@ def commit():
         if ends:
             picture.line(aside - 50, y + 14, aside - 10, y + 14, RED, False, 1, "4 3")
             picture.text(aside, y + 19, ends, fill=RED)
-    legend = "An arrow leads to the next call. The amber box alone calls the device; where nothing was written it is passed by."
+    legend = "An arrow leads to the next call. Only the amber box calls the device; it is skipped if nothing was written."
     picture.text(20, picture.height - 10, legend, fill=SOFT)
     return picture
 
@@ -166,11 +166,11 @@ def commit():
 
 STEPS = [
     ("before the call", ["open", "body", "closed", "?", "?", "?"], [], "the log ends at sector p"),
-    ("write the body", ["open", "body", "closed", "body", "body", "?"], [3, 4], "a crash: the log of before"),
-    ("write a closed gate behind it", ["open", "body", "closed", "body", "body", "closed"], [3, 4, 5], "a crash: the log of before"),
-    ("sync", ["open", "body", "closed", "body", "body", "closed"], [], "a crash: the log of before"),
-    ("write the open gate at p", ["open", "body", "open", "body", "body", "closed"], [2], "a crash: before, or with the record"),
-    ("sync, and the append answers", ["open", "body", "open", "body", "body", "closed"], [], "a crash: with the record"),
+    ("write the body", ["open", "body", "closed", "body", "body", "?"], [3, 4], "a crash: the old log"),
+    ("write a closed gate after it", ["open", "body", "closed", "body", "body", "closed"], [3, 4, 5], "a crash: the old log"),
+    ("sync", ["open", "body", "closed", "body", "body", "closed"], [], "a crash: the old log"),
+    ("write the open gate at p", ["open", "body", "open", "body", "body", "closed"], [2], "a crash: the old log, or the new one"),
+    ("sync, and the append answers", ["open", "body", "open", "body", "body", "closed"], [], "a crash: the new log"),
 ]
 FILLS = {"open": "#cfe8d8", "closed": "#f3d5d0", "body": "#dfeaf4", "?": "white"}
 
@@ -181,15 +181,15 @@ def append():
     picture = Picture("An append, sector by sector", left + 6 * cell + 260, len(STEPS) * row + 80)
     for number, name in enumerate(("gate", "body", "gate p", "p + 1", "p + 2", "p + 3")):
         picture.text(left + cell * (number + 0.5), 26, name, "middle", SOFT)
-    for number, (what, sectors, unsettled, crash) in enumerate(STEPS):
+    for number, (what, sectors, pending, crash) in enumerate(STEPS):
         y = 40 + number * row
         picture.text(20, y + 22, f"{number}. {what}" if number else what)
         for at, content in enumerate(sectors):
-            loose = at in unsettled
+            loose = at in pending
             picture.box(left + cell * at + 3, y, cell - 6, 34, FILLS[content], RED if loose else SOFT, "5 3" if loose else "")
             picture.text(left + cell * (at + 0.5), y + 22, content, "middle")
         picture.text(left + 6 * cell + 14, y + 22, crash, fill=SOFT)
-    picture.text(20, picture.height - 14, "Dashed: unsettled. A crash may leave any bytes there. A reader stops at the first closed gate.", fill=SOFT)
+    picture.text(20, picture.height - 14, "Dashed: not durable yet. A crash may leave any bytes there. A reader stops at the first closed gate.", fill=SOFT)
     return picture
 
 
@@ -331,7 +331,7 @@ def throughput():
                 if points:
                     panel.add(page.SERVERS[server], points, color)
             panel.names()
-    legend = "Both axes are logarithmic; medians. The names stand in the order of the lines at their right ends. To etcd a transaction is one request."
+    legend = "Both axes are logarithmic; medians. The names are in the order of the lines at their right ends. To etcd a transaction is one request."
     picture.text(20, picture.height - 16, legend, fill=SOFT, size=11)
     return picture
 
@@ -340,7 +340,7 @@ def throughput():
 GROWING = (
     ("fill", "us_per_key", 1e-3, "load, for each key"), ("insert", "commit_of_1_us", 1e-3, "COMMIT of one new key"), ("read", "get_us", 1e-3, "GET"),
     ("read", "range_100_us", 1e-3, "RANGE of 100"), ("deleted", "range_1_us", 1e-3, "RANGE of 1 over N deleted keys"),
-    ("old_end", "old_end_ms", 1, "end of one that saw N older versions"), ("start", "start_ms", 1, "opening a log of N keys"))
+    ("old_end", "old_end_ms", 1, "end of a transaction that saw N older versions"), ("start", "start_ms", 1, "opening a log of N keys"))
 
 
 def growth():
@@ -360,7 +360,7 @@ def growth():
     for (name, points), color in zip(found, LINES):
         panel.add(name, points, color)
     panel.names()
-    picture.text(20, picture.height - 16, "Both axes are logarithmic. The names stand in the order of the lines at their right ends.", fill=SOFT, size=11)
+    picture.text(20, picture.height - 16, "Both axes are logarithmic. The names are in the order of the lines at their right ends.", fill=SOFT, size=11)
     return picture
 
 
@@ -390,7 +390,7 @@ def pauses():
             at, length = y + (bar + 2) * place, max(2, round(scale * (math.log10(figures["cpu_longest_ms"]) - low), 1))
             picture.box(left, at, length, bar, (BLUE, AMBER, RED)[sizes.index(size) % 3], "none")
             picture.text(left + length + 6, at + bar - 2, page.shown(figures["cpu_longest_ms"]), size=11)
-    picture.text(20, bottom + 36, "Less is better: for so long nobody else is served. The bars of a scene stand in the order of the legend.", fill=SOFT, size=11)
+    picture.text(20, bottom + 36, "Less is better: nobody else is served for that long. The bars of a scene are in the order of the legend.", fill=SOFT, size=11)
     return picture
 
 
