@@ -229,9 +229,9 @@ ALLOCATORS = (
     ("opened_mb", "started over a log in which each is written once, MB"))
 
 
-def allocators_table(chosen=tuple(name for name, _ in ALLOCATORS)):
+def allocators_table():
     found = read("allocators")["rows"]
-    lines = [[what, *(shown(median(it[name] for it in of)) for of in found.values())] for name, what in ALLOCATORS if name in chosen]
+    lines = [[what, *(shown(median(it[name] for it in of)) for of in found.values())] for name, what in ALLOCATORS]
     yield from table(["100,000 keys", *found], lines)
 
 
@@ -252,7 +252,6 @@ TABLES = {
     "head": head_table, "reads": lambda: throughput_table("read"), "writes": lambda: throughput_table("write"), "rows": rows_table, "figures": figures_table,
     "readers": readers_table, "writers": writers_table, "growth": growth_table, "opening": opening_table, "pauses": pauses_table, "copies": copies_table,
     "compactions": compactions_table, "allocators": allocators_table, "conflicts": conflicts_table, "sizing": sizing_table,
-    "memory_by_allocator": lambda: allocators_table(("again_mb", "later_mb", "opened_again_mb", "opened_mb")),
 }
 
 

@@ -1,12 +1,14 @@
 #!/usr/bin/env python3
 """Draws what happened as one SVG: sessions as lanes, transactions as bars, what each read and wrote, dependencies as arrows, the serial order.
 
-    picture.py play SCRIPT OUTPUT                          a script, and what `ssikvd play` printed for it
-    picture.py history FORM FILE [FIRST [COUNT [TITLE]]]   some transactions of a history that harness/histories.py wrote
+    picture.py play SCRIPT OUTPUT
+    picture.py history list|register FILE [FIRST [COUNT [TITLE]]]
 
-It prints the SVG. A dashed arrow is one of a refused transaction, as it would be had it committed. Of a script the refused one names its conflict,
-and the bars the parts that they play in it: X, P and Y of docs/PROTOCOL.md.
+It prints the SVG. An arrow starts at the transaction that must come first in a serial order; a dashed one is one of a refused transaction, as it
+would be had it committed. Of a script the refused transaction names its conflict, and the bars the parts that they play in it: X, P and Y of
+docs/PROTOCOL.md.
 """
+import argparse
 import json
 import math
 import os
@@ -366,7 +368,7 @@ def spread(bars):
 COLORS = {"ww": AMBER, "wr": GREEN, "rw": RED}
 SAID = {"ww": "ww: wrote what the other overwrote", "wr": "wr: wrote what the other read", "rw": "rw: read what the other overwrote"}
 CELL_COLORS = {"read": BLUE, "write": GREEN, "other": INK, "refused": RED}
-LEFT, TOP, BAR, GAP, LETTER = 96, 64, 42, 62, 6.7
+LEFT, TOP, BAR, GAP, LETTER, LEGEND = 96, 64, 42, 62, 6.7, 18
 
 
 class Stage:
@@ -496,13 +498,15 @@ def draw_below(picture, stage, y):
     if not all(arrow.is_kept() for arrow in scene.arrows):
         picture.text(x, y, "dashed: if the refused one had committed", fill=SOFT, size=11)
         x += 6.2 * 44
+    if scene.arrows:
+        picture.text(20, y + LEGEND, "An arrow starts at the transaction that must come first in a serial order.", fill=SOFT, size=11)
     return max(x, 0)
 
 
 def drawn(scene, stage=None):
     """The picture of a scene."""
     stage = stage or Stage(scene)
-    height = stage.bottom + 44 + 52 + 18 * len(scene.notes) + 20
+    height = stage.bottom + 44 + 52 + 18 * len(scene.notes) + 20 + (LEGEND if scene.arrows else 0)
     picture = Picture(scene.title, stage.width, height)
     picture.text(20, 28, scene.title, weight="bold", size=14)
     for lane in stage.lanes:
@@ -534,23 +538,33 @@ def play_picture(title, script, output):
     return drawn(scene_of_play(title, lines_of(script), lines_of(output)))
 
 
-def history_picture(form, name, first="0", count="6", title="A history"):
+def history_picture(form, name, first, count, title):
     """The picture of some transactions of a history in lines of JSON."""
-    return drawn(scene_of_history(title, form, [json.loads(line) for line in lines_of(name)], int(first), int(count)))
+    return drawn(scene_of_history(title, form, [json.loads(line) for line in lines_of(name)], first, count))
+
+
+def parser():
+    asked = argparse.ArgumentParser(description=__doc__, formatter_class=argparse.RawDescriptionHelpFormatter)
+    kinds = asked.add_subparsers(required=True, metavar="play | history")
+    play = kinds.add_parser("play", help="a script, and what `ssikvd play` printed for it")
+    play.add_argument("script", metavar="SCRIPT")
+    play.add_argument("output", metavar="OUTPUT")
+    play.set_defaults(draw=lambda it: play_picture(
+        os.path.basename(it.script).removesuffix(".play").replace("_", " ").capitalize(), it.script, it.output))
+    history = kinds.add_parser("history", help="some transactions of a history that harness/histories.py wrote")
+    history.add_argument("form", choices=("list", "register"))
+    history.add_argument("file", metavar="FILE")
+    history.add_argument("first", nargs="?", type=int, default=0, metavar="FIRST", help="the number of the first transaction (%(default)s)")
+    history.add_argument("count", nargs="?", type=int, default=6, metavar="COUNT", help="how many are drawn (%(default)s)")
+    history.add_argument("title", nargs="?", default="A history", metavar="TITLE")
+    history.set_defaults(draw=lambda it: history_picture(it.form, it.file, it.first, it.count, it.title))
+    return asked
 
 
 def main():
-    words = sys.argv[1:]
-    if words[:1] == ["play"] and len(words) == 3:
-        picture = play_picture(os.path.basename(words[1]).removesuffix(".play").replace("_", " ").capitalize(), *words[1:])
-    elif words[:1] == ["history"] and len(words) in (3, 4, 5, 6):
-        picture = history_picture(*words[1:])
-    else:
-        print("usage: picture.py play SCRIPT OUTPUT | history list|register FILE [FIRST [COUNT [TITLE]]]", file=sys.stderr)
-        return 1
-    sys.stdout.write(picture.svg())
-    return 0
+    asked = parser().parse_args()
+    sys.stdout.write(asked.draw(asked).svg())
 
 
 if __name__ == "__main__":
-    sys.exit(main())
+    main()

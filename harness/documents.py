@@ -23,6 +23,7 @@ import subprocess
 import sys
 import time
 
+from hostile import memory_bound
 from runner import HARNESSES
 from ssikvd_harness.arguments import is_long, run_harness
 from ssikvd_harness.cases import Harness
@@ -404,6 +405,15 @@ def constants(tally):
             expect(not wrong, f"it is {due}: {'; '.join(wrong)}")
 
 
+def limits(tally):
+    """What docs/OPERATIONS.md says that the limits of all sessions allow is what hostile.py computes, without a map, an idle server and kept commits."""
+    with tally.run("the memory of every session at its limits"):
+        parts = memory_bound(0, 0)
+        allowed = f"{(sum(parts.values()) - parts['the map']) / 1e6:.1f}"
+        found = re.findall(r"at all of their limits may take ([\d.]+) million bytes", " ".join(text_of("docs/OPERATIONS.md").split()))
+        expect(found == [allowed], f"docs/OPERATIONS.md has {found}, and hostile.py computes {allowed}")
+
+
 def has_been(version):
     """Has a commit of the repository this version, by its tag or in the program's code?"""
     def said(*words):
@@ -593,7 +603,7 @@ def log_format(tally):
 class Documents(Harness):
     NAME = "documents"
     NEEDS = (PROGRAM,)
-    PARTS = (run_commands, worked, other_blocks, style, links, pictures, constants, versions, installed, layers, readmes, sealed, tests, names, log_format)
+    PARTS = (run_commands, worked, other_blocks, style, links, pictures, constants, limits, versions, installed, layers, readmes, sealed, tests, names, log_format)
 
 
 if __name__ == "__main__":

@@ -341,12 +341,17 @@ def no_cause(tally):
             expect(why(*words)[0] == 2, f"it took {words}")
 
 
-def unit_line():
-    """The unit's line for a start that failed, as systemd would hand it over."""
+def unit_line(place):
+    """The unit's line for a start that failed, as systemd would run it over this folder."""
     with open(os.path.join(DIST, "ssikvd@.service"), encoding="utf-8") as file:
-        found = re.search(r"^ExecStopPost=-sh -c '(.*)'$", file.read(), re.M)
+        found = re.search(r"^ExecStopPost=-(.*)$", file.read(), re.M)
     expect(found, "the unit has no line")
-    return found[1].replace("$$", "$").replace("%i", "shop")
+    asked = {"%i": "shop", "/var/lib/ssikvd": place, "${SECTORS}": "64", "${LISTEN}": "localhost:1"}
+    line = found[1]
+    for word, meant in asked.items():
+        line = line.replace(word, meant)
+    name, *words = line.split()
+    return [os.path.join(DIST, name), *words]
 
 
 def the_unit(tally):
@@ -354,9 +359,7 @@ def the_unit(tally):
     for result, due in (("exit-code", 1), ("success", 0), ("signal", 0)):
         with store(tally, f"the unit after {result}") as (place, data):
             os.truncate(data, 1_000)
-            script = unit_line().replace("/var/lib/ssikvd", place)
-            ran = subprocess.run(["sh", "-c", script], capture_output=True, text=True, timeout=PATIENCE,
-                                 env={**ENVIRONMENT, "SERVICE_RESULT": result, "LISTEN": "localhost:1", "SECTORS": "64"})
+            ran = subprocess.run(unit_line(place), capture_output=True, text=True, timeout=PATIENCE, env={**ENVIRONMENT, "SERVICE_RESULT": result})
             expect(ran.returncode == due and not ran.stderr and ran.stdout.count("ssikvd-why: ") == 2 * due, f"it answered {ran}")
 
 
