@@ -1,14 +1,14 @@
 """Bytes that change at rest, and tools that run at the same time.
 
-Over a served file one bit is turned over: in a value, in a header, in the gate of an older record. The server goes on; `ssikvd-verify`,
-`ssikvd-used --verify` and `ssikvd-ship` say so, the backup of before stays, `ssikvd-compact` leaves the server running, `ssikvd-before` starts
-nothing over a closed gate; what is exported through the server and loaded into a fresh file is the whole map, and what stands behind the damage is
-read by `ssikvd-salvage`.
+In a served file one bit is flipped: in a value, in a header, in the gate of an older record. The server goes on; `ssikvd-verify`,
+`ssikvd-used --verify` and `ssikvd-ship` report it, the previous backup stays, `ssikvd-compact` leaves the server running, `ssikvd-before` starts
+nothing over a closed gate; what is exported through the server and loaded into a fresh file is the whole map, and what follows the damage is read by
+`ssikvd-salvage`.
 
 What `ssikvd-verify` says of changed and forged images is what `check` says of them, but for a closed gate, of which `check` can't know.
 
-Two runs of `ssikvd-ship` over one copy, with a run begun before each call of the other: one is refused, and the copy is what it was told to be.
-Two of `ssikvd-before`, with one begun before each command of the other: one file is made, and both end with 0.
+Two runs of `ssikvd-ship` over one copy, with a run begun before each call of the other: one is refused, and the copy is what it should be. Two
+of `ssikvd-before`, with one begun before each command of the other: one file is made, and both end with 0.
 """
 import contextlib
 import itertools
@@ -43,7 +43,7 @@ def places_of(image):
 
 
 def turn(data, at, bit=1):
-    """Turns a bit of a file over."""
+    """Flips a bit of a file."""
     with open(data, "r+b") as file:
         file.seek(at)
         byte = file.read(1)[0]
@@ -52,7 +52,7 @@ def turn(data, at, bit=1):
 
 
 def damages(data):
-    """The kinds of damage: the byte that is changed, and what is said of it."""
+    """The kinds of damage: the byte that is changed, and what is reported of it."""
     with open(data, "rb") as file:
         places, _ = places_of(file.read())
     gate = SECTOR * places[OLD]
@@ -102,7 +102,7 @@ def judge_export(place, server, due):
 
 
 def judge_salvage(data, place, said, log):
-    """What stands behind the damage is read, with its numbers."""
+    """What follows the damage is read, with its numbers."""
     out = os.path.join(place, "salvaged")
     found = tool("ssikvd-salvage", data, out, "--from", str(OLD))
     if said == "not a log":
@@ -120,7 +120,7 @@ def judge_salvage(data, place, said, log):
 
 
 def judge_start(data, said):
-    """Nothing is started over a closed gate or what is no log; of a damaged record the server itself says so."""
+    """Nothing is started over a closed gate or what isn't a log; a damaged record the server itself reports."""
     found = tool("ssikvd-before", data, str(SECTORS))
     is_seen = said == "not a log" or "gate" in said
     expect(found[0] == 2 if is_seen else found[0] in (0, 2), f"ssikvd-before answered {found}")
@@ -316,7 +316,7 @@ def judge_befores(data, first, others, is_begun):
 
 
 def play_befores(place, number, script, is_first):
-    """Two runs of this script, one begun before the n-th command of the other. Were there so many commands?"""
+    """Two runs of this script, one begun before the n-th command of the other. Were there this many commands?"""
     befores = Befores(place, number, script)
     if not is_first:
         create(befores.data, 64)

@@ -2,10 +2,10 @@
 
 `audit.py --write` writes the lengths of the definitions into the page, and how many there are.
 
-A promise is a section that begins with lines behind `> `. Behind them stand what carries it (functions with their clauses and files), its definitions
-(`crate/File`, and of each its name, the lines of its declaration without comments, and what it says), the wrong bodies that are refused
-(`crate/name`, whose text to be replaced stands in the file that it names), and what passes. A layer is a row of the last table, with its crates and what
-to look at: functions, types, clauses and definitions of these. Each crate of the program is in one. The promise itself is that of the README.
+A promise is a section that begins with lines after `> `. They are followed by what carries it (functions with their clauses and files), its
+definitions (`crate/File`, and of each its name, the lines of its declaration without comments, and what it says), the wrong bodies that are refused
+(`crate/name`, whose text to be replaced stands in the file that it names), and what passes. A layer is a row of the last table, with its crates and
+what to look at: functions, types, clauses and definitions of these. Each crate of the program is in one. The promise itself is that of the README.
 
 No clause of the crates has more than 140 columns, or more than two lines of them: what is longer has a name.
 """
@@ -185,7 +185,7 @@ def widths(tally):
 # ---- All
 
 def in_an_hour(text):
-    """The last promise that an hour is told of, and the definitions up to it with their lines."""
+    """The last promise that the page says can be read within an hour, and the definitions up to it with their lines."""
     last = re.search(IN_AN_HOUR, words(text))[1]
     found = []
     for head, below in promises(text):
@@ -209,7 +209,7 @@ def options(parser):
 
 
 def instead(asked):
-    """Writes the page where that is asked for."""
+    """Writes the page if asked to."""
     if not asked.write:
         return None
     Path(TOP, PAGE).write_text(written(text_of(PAGE)), encoding="utf-8")

@@ -1,11 +1,11 @@
 #!/usr/bin/env python3
-"""What each public function promises: `clauses.py --write` writes docs/CLAUSES.md, `clauses.py` looks whether it can be written.
+"""What each public function promises: `clauses.py --write` writes docs/CLAUSES.md, `clauses.py` checks that it can be written.
 
-Crate by crate of the program, in the order of crates.txt, the page has each public function, method, type and trait: its name with its file, the first
-sentence of its comment, and its clauses as they stand in the source, each with the files of specs/ whose definitions it is stated with. Public is what
-src/lib.rt hands on, and the methods of that. A type of the crate has its invariants, and what it makes of a trait's definitions and clauses.
+Crate by crate of the program, in the order of crates.txt, the page has each public function, method, type and trait: its name with its file, the
+first sentence of its comment, and its clauses as they stand in the source, each with the files of specs/ whose definitions it is stated with. Public
+is what src/lib.rt passes on, and the methods of that. A type of the crate has its invariants, and what it makes of a trait's definitions and clauses.
 
-It fails where a definition is not where the source has it from, where a public function has no comment, where lib.rt hands on what isn't found, and
+It fails where a definition is not where the source has it from, where a public function has no comment, where lib.rt passes on what isn't found, and
 where a `pub fn` or a clause of a source was not read. Each run also reads a source with one comment left out, which must be missed. The page isn't
 kept. Needs Python 3 alone.
 """
@@ -109,7 +109,7 @@ def comment_above(lines, number):
 
 
 def end_of_head(lines, first):
-    """The line behind a function's head."""
+    """The line after a function's head."""
     margin = lines[first][:len(lines[first]) - len(lines[first].lstrip())]
     for number in range(first, len(lines)):
         if lines[number] in (f"{margin}{{", f"{margin}{{}}"):
@@ -155,7 +155,7 @@ def items_in(path):
 
 
 def modules(crate):
-    """The sources of a crate in the order in which lib.rt names them, with whether each is public, and what lib.rt hands on of them."""
+    """The sources of a crate in the order in which lib.rt names them, with whether each is public, and what lib.rt passes on of them."""
     path = f"crates/{crate}/src/lib.rt"
     if not os.path.exists(os.path.join(TOP, path)):
         return [], {}
@@ -165,7 +165,7 @@ def modules(crate):
 
 
 def public_items(crate):
-    """The public items of a crate, in order, and the names that lib.rt hands on and that aren't found."""
+    """The public items of a crate, in order, and the names that lib.rt passes on and that aren't found."""
     those, handed = modules(crate)
     items = [(item, public) for name, public in those for item in items_in(f"crates/{crate}/src/{name}.rt")]
     known = {item.name for item, public in items if item.kind in ("struct", "enum", "trait") and item.is_public and (public or item.name in handed)}
@@ -222,7 +222,7 @@ def page():
 # ---- The check
 
 def lacks_comment(item):
-    """A public function says what it does, but one that only keeps a trait's promises."""
+    """A public function says what it does, except one that only keeps a trait's promises."""
     return item.kind != "impl" and not item.trait and not item.comment
 
 
@@ -257,7 +257,7 @@ def check(tally):
     for crate in every_crate():
         items, gone = public_items(crate)
         with tally.run(f"the sources of {crate}"):
-            expect(not gone, f"what lib.rt hands on isn't found: {gone}")
+            expect(not gone, f"what lib.rt passes on isn't found: {gone}")
             expect(not list(unread(crate)), f"not every `pub fn` or clause is read: {list(unread(crate))}")
         for item in items:
             with tally.run(f"{item.name} in {item.path}"):
@@ -272,7 +272,7 @@ def options(parser):
 
 
 def instead(asked):
-    """Writes the page where that is asked for."""
+    """Writes the page if asked to."""
     return write_page("clauses", PAGE, page) if asked.write else None
 
 

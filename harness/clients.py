@@ -1,10 +1,10 @@
 """The examples of examples/clients against `serve`, under conflicts, and what other clients meet.
 
-Transfers of many clients at once leave the sum as it was, at every moment that a reader sees. A BEGIN that is refused beside 64 others is tried
-again. A pool lends what is whole, to one at a time. A walk gives all pairs of one snapshot while others write. An addition with a key of its own is
-made once, though a proxy cuts connections before and after its COMMIT, and the server is killed. Copies of the data file that are taken under load
-are each a log with a beginning of the commits, which `check` opens and the exporter reads. At last what redis-py, redis-cli and redis-benchmark meet,
-where they are installed.
+Transfers of many clients at once leave the sum as it was, at every moment that a reader sees. A BEGIN that is refused while 64 others are open is
+tried again. A pool lends what is whole, to one at a time. A walk gives all pairs of one snapshot while others write. An addition with a key of its
+own is made once, though a proxy cuts connections before and after its COMMIT, and the server is killed. Copies of the data file that are taken under
+load are each a log with a beginning of the commits, which `check` opens and the exporter reads. Finally, what redis-py, redis-cli and redis-benchmark
+meet, where they are installed.
 
 `quick` does less of each.
 """
@@ -104,7 +104,7 @@ def transfers(tally, connect, name):
 
 
 def among_others(tally, connect, name):
-    """A transaction whose BEGIN is refused, since 64 are open, begins again until one of them has ended. It stays refused for a while."""
+    """A transaction whose BEGIN is refused, since 64 are open, retries until one of them has ended. It stays refused for a while."""
     with folder() as place, trial(tally, f"64 other transactions, {name}"), Server(fresh(place, 64)) as server:
         others, threads, done = [Connection(server.port) for _ in range(OPEN_MAX)], Threads(), []
         expect(all(other.ask(frame("BEGIN")) == OK for other in others), "64 transactions are too many")
@@ -148,7 +148,7 @@ def pools(tally):
         with lender.lend() as first:
             first.ask("BEGIN")
         with lender.lend() as store:
-            expect(store is first and store.ask("BEGIN") == b"OK", "a transaction was handed on")
+            expect(store is first and store.ask("BEGIN") == b"OK", "a transaction was passed on")
         with contextlib.suppress(KeyError), lender.lend() as store:
             store.socket.sendall(frame("PING"))
             raise KeyError
@@ -166,7 +166,7 @@ def pools(tally):
         threads.end()
         proxy.close()
         found = simple_client.Client(server.port).transact(lambda store: store.ask("GET", b"counter"))
-        expect(len(done) == CLIENTS == int(found or b"0"), f"the counter holds {found}, due is {CLIENTS}")
+        expect(len(done) == CLIENTS == int(found or b"0"), f"the counter holds {found}, expected {CLIENTS}")
 
 
 # Walks
@@ -191,7 +191,7 @@ def walks(tally):
             before = {key: value for key, value in reader.transact(lambda store: list(walk.walk(store)))}
             due = [(key, before[key]) for key in sorted(before) if key.startswith(prefix)]
             found = reader.transact(lambda store: while_others_write(store, prefix))
-            expect(found == due, f"a walk over {prefix!r} found {len(found)} pairs, due are {len(due)}")
+            expect(found == due, f"a walk over {prefix!r} found {len(found)} pairs, expected {len(due)}")
     with folder() as place, trial(tally, "a walk that is too long"), Server(fresh(place)) as server:
         store = simple_client.Client(server.port)
         load.load(store, ((b"%06d" % n, b"") for n in range(32_767)))
@@ -229,7 +229,7 @@ def additions(tally):
         threads.end()
         proxy.close()
         found = simple_client.Client(server.port).transact(lambda store: store.ask("GET", b"counter"))
-        expect(int(found or b"0") == 4 * count, f"the counter holds {found}, due is {4 * count}")
+        expect(int(found or b"0") == 4 * count, f"the counter holds {found}, expected {4 * count}")
         expect(proxy.cuts > count // 2, f"only {proxy.cuts} connections were cut")
     print(f"  once: {4 * count} additions, {proxy.cuts} connections cut at a COMMIT", flush=True)
 
@@ -258,7 +258,7 @@ def additions_over_kills(tally):
             is_done.set()
             threads.end()
             found = simple_client.Client(server.port).transact(lambda store: store.ask("GET", b"counter"))
-        expect(int(found or b"0") == len(made) > 0, f"the counter holds {found}, due is {len(made)}")
+        expect(int(found or b"0") == len(made) > 0, f"the counter holds {found}, expected {len(made)}")
 
 
 # Copies of the data file

@@ -121,12 +121,12 @@ def kind_of(file):
 
 
 def options(parser):
-    parser.add_argument("--write", action="store_true", help="break what can be broken")
-    parser.add_argument("files", nargs="*", metavar="FILE", help="these files alone; quick and long are none, and stand for all of them")
+    parser.add_argument("--write", action="store_true", help="break the lines that can be broken")
+    parser.add_argument("files", nargs="*", metavar="FILE", help="only these files; quick and long name none, and stand for all of them")
 
 
 def lines_too_wide(asked):
-    """How many files there are, and which of their lines are too wide, once those that can be broken were broken where that is asked for."""
+    """How many files there are, and which of their lines are too wide, after breaking those that can be broken if asked to."""
     every = [it for kind in MOST for it in sorted((TOP / "crates").glob(f"*/{kind}/**/*.{'rt' if kind == 'src' else 'antt'}"))]
     files = [Path(name) for name in asked.files if name not in FORMS] or every
     wide = []

@@ -184,7 +184,7 @@ def words_of(line, data):
 def expect_found(found, status, out="", err=""):
     out, err = (text if isinstance(text, bytes) else text.encode() for text in (out, err))
     ends = [(code, first[-300:], second[-300:]) for code, first, second in (found, (status, out, err))]
-    expect(found == (status, out, err), f"it ended with {ends[0]}, due is {ends[1]}")
+    expect(found == (status, out, err), f"it ended with {ends[0]}, expected {ends[1]}")
 
 
 def command_lines(tally):
@@ -456,7 +456,7 @@ def asked(data, lines):
 
 
 def names(tally):
-    """Files that are none, and addresses that are none."""
+    """Names of no file, and texts that aren't addresses."""
     with folder() as place, socket.socket() as other:
         data, missing = os.path.join(place, "data"), os.path.join(place, "missing")
         with open(data, "wb") as file:
@@ -572,7 +572,7 @@ def played(tally, name, script, sectors=4_096, words=()):
         expect(found[0] == 0 and found[2] == b"", f"it ended with {found[0]}, {found[2]!r}")
         lines = found[1].splitlines(keepends=True)
         wrong = next((i for i, (a, b) in enumerate(zip(lines, due)) if a != b), min(len(lines), len(due)))
-        expect(lines == due, f"line {wrong + 1} of {len(due)}: {lines[wrong:wrong + 1]!r:.100}, due is {due[wrong:wrong + 1]!r:.100}")
+        expect(lines == due, f"line {wrong + 1} of {len(due)}: {lines[wrong:wrong + 1]!r:.100}, expected {due[wrong:wrong + 1]!r:.100}")
     return due
 
 
@@ -585,7 +585,7 @@ def largest_pairs(label="1"):
 
 
 def filling(body):
-    """A transaction whose record has so many body sectors."""
+    """A transaction whose record has this many body sectors."""
     count = max(1, min(WRITES_MAX, body // 8))
     lines, left = ["1 BEGIN"], SECTOR * body - 44 - 4 - count * (2 + 2 + 1 + 4)
     for i in range(count):
@@ -680,7 +680,7 @@ def full_log(tally):
                     "1 COMMIT", "1 BEGIN", '1 RANGE a "" 5', "1 COMMIT"):
                 _, parts = request_of(line)
                 due, found = store.request("1", parts), client.ask(frame(*parts))
-                expect(found == due, f"{line} was answered {found!r}, due is {due!r}")
+                expect(found == due, f"{line} was answered {found!r}, expected {due!r}")
         expect(server.line.startswith(b"listening "), f"it printed {server.line!r}")
         with open(data, "rb") as file:
             expect(file.read() == image, "the file was changed")
@@ -695,7 +695,7 @@ def refused_poll(tally, error, text):
             polls, lines = refusals.of(POLL), ("BEGIN", "SET a 1", "COMMIT")
             polls.fail(polls.made + 2, polls.made + 20, errno.EINTR)
             replies = [client.ask(frame(*line.split(" "))) for line in lines]
-            expect(replies == [b"+OK\r\n", b"+OK\r\n", b":1\r\n"], f"beside polls that were cut short it answered {replies}")
+            expect(replies == [b"+OK\r\n", b"+OK\r\n", b":1\r\n"], f"with polls that were cut short it answered {replies}")
             polls.fail_all(error)
             client.send(frame("PING"))
             found = server.status(), server.error_text()

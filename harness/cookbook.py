@@ -34,7 +34,7 @@ RECIPES = "clients/python/examples/recipes.py"
 
 @contextlib.contextmanager
 def trial(tally, what):
-    """One run over a server of its own, in which a refusal that a recipe did not look for is a deviation. Gives the server's port."""
+    """One run over a server of its own, in which a refusal that a recipe did not look for is a deviation. Yields the server's port."""
     with tally.run(what), folder() as place:
         data = os.path.join(place, "data")
         create(data, SECTORS)
@@ -64,7 +64,7 @@ def is_committed(client):
 
 
 def crowd(port, play, count=CLIENTS, kind=Client):
-    """Runs play(client, number) in so many threads, each with a connection. What each gave."""
+    """Runs play(client, number) in this many threads, each with a connection. What each gave."""
     def one(number):
         return play(kind(port), number)
 
@@ -250,7 +250,7 @@ def book_in_crowd(tally, is_right):
         if not is_right:
             return len(overlaps(found)), sent
         expect(not overlaps(found), f"{len(overlaps(found))} double bookings, first {overlaps(found)[:1]}")
-        expect(own == len(found) > CLIENTS, f"{own} were told, {len(found)} are there")
+        expect(own == len(found) > CLIENTS, f"{own} were reported, {len(found)} are there")
         return own, sent
     return 0, 0
 
@@ -347,7 +347,7 @@ def held_seats(tally):
         bought = list(itertools.chain(*crowd(port, play)))
         expect(len(bought) == len(set(bought)) > 0, f"seats were sold twice: {sorted(bought)}")
         sold = {seat.decode() for (seat,), _ in once(port, under("sold"))}
-        expect(sold == set(bought), f"told are {sorted(bought)}, sold are {sorted(sold)}")
+        expect(sold == set(bought), f"reported are {sorted(bought)}, sold are {sorted(sold)}")
 
 
 # Jobs
@@ -436,7 +436,7 @@ def table(tally):
                 sent = sum(crowd(port, lambda client, number: commits_of(client, lambda: work(client, number), count), clients, Counting))
                 seconds = time.monotonic() - begun
                 left = once(port, lambda store: recipes.total(store, "hits")) if not fill else clients * count - len(once(port, under("job")))
-                expect(left == clients * count, f"{left} were done, due are {clients * count}")
+                expect(left == clients * count, f"{left} were done, expected {clients * count}")
                 expect(sent >= left and (name != "a counter spread" or sent == left), f"{sent} COMMITs for {left}")
                 cells.append(f"{sent / left:.2f} ({left / seconds:,.0f}/s)")
         print(f"  COMMITs for each of {name}, 1, 2, 4, 8 clients: {', '.join(cells)}", flush=True)
@@ -469,7 +469,7 @@ def batches(tally):
         expect(once(port, lambda store: recipes.read(store, "prices")) == items_of(8, 300), "the current version was cleared")
         recipes.load(Client(port), "prices", 6, items_of(6, 124))
         expect(once(port, lambda store: recipes.current(store, "prices")) == 8, "an old version became the current one again")
-    with trial(tally, "batches that are broken off") as port:
+    with trial(tally, "batches that are interrupted") as port:
         recipes.load(Client(port), "prices", 1, items_of(1, 300))
         for steps in range(6):
             for _ in range(steps):
@@ -508,7 +508,7 @@ def batches_in_crowd(tally):
 
 
 def batches_over_kills(tally):
-    """The server is killed while a batch is loaded, and the loader begins again."""
+    """The server is killed while a batch is loaded, and the loader starts again."""
     with tally.run("batches over kills"), folder() as place:
         data, chance, kills = os.path.join(place, "data"), random.Random(3), 0
         create(data, SECTORS)
@@ -546,7 +546,7 @@ def options(parser):
 
 
 def instead(asked):
-    """Writes the links where that is asked for."""
+    """Writes the links if asked to."""
     if not asked.links:
         return None
     write_links()

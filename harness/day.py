@@ -1,4 +1,4 @@
-"""A day of full load, with backups, kills and full disks: nothing is lost, and no helper stops the server but for its swaps.
+"""A day of full load, with backups, kills and full disks: nothing is lost, and no helper stops the server except for its swaps.
 
 The timers' services are played one after the other, with the commands of their units, as their user, in a folder of a size that a disk may have;
 only `systemctl` is played. Clients write as fast as they are answered, so that each look of `ssikvd-compact` finds a log that is soon full, and
@@ -8,8 +8,8 @@ figures are written; the server and each helper are killed at moments of their w
 until the log is full, too. Then the helpers say why, the server goes on, and once there is room the next compaction is made.
 
 After each kill, and at the end, the map must be that of the commits that were acknowledged; of each client the one that was under way may be there,
-too. The server never ends by itself, and is stopped by a swap alone: how long, in all and at most, is told. At the end no file is left that isn't
-due. At last days with a planted fault are shown to the same judge.
+too. The server never ends by itself, and is stopped by a swap alone: how long, in all and at most, is reported. At the end no file is left that isn't
+expected. Finally, days with a planted fault are shown to the same judge.
 
 `quick` makes a dozen compactions, `long` 1,440. It needs root and mounts of its own, and says what it lacks.
 """
@@ -119,7 +119,7 @@ class Client(threading.Thread):
         return [*((b"%d.%03d" % (self.number, key), value) for key, value in zip(keys, values)), (self.counter, b"%d" % (self.count + 1))]
 
     def has_done(self, connection):
-        """One transaction, if one is due. False where the connection was lost."""
+        """One transaction, if it is time for one. False where the connection was lost."""
         self.park()
         if self.load.is_over.is_set():
             return False
@@ -180,7 +180,7 @@ class Client(threading.Thread):
         count, due = self.at_snapshot
         with self.lock:
             more, pending = int(found.get(self.counter, b"0")) - count, self.pending
-            expect(0 <= more <= len(self.since) + bool(pending), f"a copy has commit {count + more} of client {self.number}, and {count} is due")
+            expect(0 <= more <= len(self.since) + bool(pending), f"a copy has commit {count + more} of client {self.number}, expected {count}")
             due = dict(due)
             for writes in [*self.since, *([pending] if pending else [])][:more]:
                 apply(due, writes)
@@ -207,7 +207,7 @@ class Load:
             return True
 
     def allow(self, count):
-        """So many transactions more."""
+        """Allows this many more transactions."""
         with self.lock:
             self.allowed = self.begun + count
 
@@ -292,7 +292,7 @@ class Disk:
         os.chmod(at, 0o700)
 
     def fill(self, left=0):
-        """Leaves so many bytes free."""
+        """Leaves this many bytes free."""
         with open(self.ballast, "ab") as file:
             for _ in range(100):
                 now = os.statvfs(self.at)
@@ -346,7 +346,7 @@ class Day:
     # Compactions
 
     def compact(self, kill=()):
-        """A compaction, begun again where there was nothing to do or a helper was killed."""
+        """A compaction, started again where there was nothing to do or a helper was killed."""
         for _ in range(20):
             self.load.allow(self.commits)
             before = self.services.stopped_at
@@ -532,14 +532,14 @@ class Day:
         self.full_backups()
 
     def full_backups(self):
-        """The backups' disk is full: the copy of before stays, and the next run brings it up to date."""
+        """The backups' disk is full: the previous copy stays, and the next run brings it up to date."""
         if not os.path.exists(COPY):
             return
         before = self.verified(COPY)
         self.backups.fill()
         self.play(SHIP, (FAILED,))
         expect("No space left" in self.services.said and "up to date" in self.services.said, f"of a full disk it says {self.services.said}")
-        expect(self.verified(COPY) == before, "the copy of before has changed")
+        expect(self.verified(COPY) == before, "the previous copy has changed")
         self.backups.clear()
         self.backup()
 
@@ -591,7 +591,7 @@ class Day:
         kills = ", ".join(f"{count} of {name}" for name, count in sorted(self.services.killed.items()))
         longest, sum_of = max(self.stops, default=0.0), sum(self.stops)
         looks = sum(client.looks for client in self.load.clients)
-        return (f"{self.finished} compactions, {self.beside} beside the server; {self.load.count()} commits, {self.load.refused()} refused by a "
+        return (f"{self.finished} compactions, {self.beside} while the server ran; {self.load.count()} commits, {self.load.refused()} refused by a "
                 f"full log, {looks} looks at them; {len(self.stops)} stops of {longest:.2f} s at most and {sum_of:.1f} s in all; "
                 f"{self.copies} backups, {self.restored} restored; {self.full} full disks, {self.full_amid} amid a copy; kills: {kills}")
 
@@ -615,7 +615,7 @@ def mounts():
 
 
 def play(plan, seed, sectors, longest, is_on_disk=False, changes=()):
-    """A day to its end: what is told of it."""
+    """A day to its end: what is reported of it."""
     with folder() if is_on_disk else in_memory() as place, mounts():
         day = Day(place, plan, seed, sectors, longest, is_on_disk, changes)
         try:
@@ -650,11 +650,11 @@ def lacks():
 
 
 def options(parser):
-    parser.add_argument("--compactions", type=int, help="how many compactions are made")
-    parser.add_argument("--sectors", type=int, default=16_384, help="of the data file (default 16384)")
-    parser.add_argument("--longest", type=int, default=700, help="how many bytes a value has at most (default 700)")
+    parser.add_argument("--compactions", type=int, help="how many compactions to make")
+    parser.add_argument("--sectors", type=int, default=16_384, help="the size of the data file in sectors (default 16384)")
+    parser.add_argument("--longest", type=int, default=700, help="the most bytes that a value has (default 700)")
     parser.add_argument("--seed", type=int, default=58)
-    parser.add_argument("--on-disk", action="store_true", help="on ext4 over files in the folder for temporary files, and not in memory")
+    parser.add_argument("--on-disk", action="store_true", help="run on ext4 over files in the folder for temporary files, not in memory")
     parser.add_argument("--alone", action="store_true", help=argparse.SUPPRESS)    # no planted faults
 
 

@@ -149,7 +149,7 @@ class Shell:
             self.came += piece
 
     def type(self, command, least=0, seconds=PATIENCE):
-        """What the command prints, and its status. Of one in the background so many lines are waited for."""
+        """What the command prints, and its status. Of one in the background this many lines are waited for."""
         self.turn += 1
         mark = b"--- %d " % self.turn
         self.process.stdin.write(f"{command}\necho \"--- {self.turn} $?\"\n".encode())
@@ -175,7 +175,7 @@ class Shell:
 
 
 def fits(found, due):
-    """Are these the lines that are due, in which `...` stands for any?"""
+    """Are these the lines that are expected, in which `...` stands for any?"""
     if "..." not in due:
         return found == due
     at = due.index("...")
@@ -221,7 +221,7 @@ def run_document(tally, name, crates, left_out):
                     with tally.run(f"{name}: {command}"):
                         due = [line.replace(PORT, port) for line in due]
                         lines, status = shell.type(typed(command).replace(PORT, port), len(due), 300 if command.startswith("rt") else PATIENCE)
-                        expect(fits(lines, due), f"{command} printed {lines}, due is {due}")
+                        expect(fits(lines, due), f"{command} printed {lines}, expected {due}")
                         expect(status == 0, f"{command} ended with {status}")
             finally:
                 shell.end()
@@ -239,7 +239,7 @@ def worked(tally):
                 script = "".join(row[1] + "\n" for row in rows)
                 due = "".join(f"{row[1].split()[0]} {row[2]}\n" for row in rows)
                 found = run(["play"], script.encode())
-                expect(found == (0, due.encode(), b""), f"it printed {found}, due is {due!r}")
+                expect(found == (0, due.encode(), b""), f"it printed {found}, expected {due!r}")
 
 
 # Units and Python
@@ -265,7 +265,7 @@ def other_blocks(tally):
 # How they are written
 
 def paragraphs(text):
-    """The paragraphs, list items and table cells of a document, without its blocks. A cell is told by True."""
+    """The paragraphs, list items and table cells of a document, without its blocks. True marks a cell."""
     found, here = [], []
 
     def close():

@@ -1,12 +1,12 @@
 """Every command over a socket, inside a transaction and outside one, and the largest transactions.
 
-Each reply is that of the model: for each name in several spellings, each number of parts, and keys, bounds, values and limits at and beyond
-their limits. Then transactions of the most and largest writes, of the most and largest marks, and of both are committed, and a sweep over
-the lengths of values and the numbers of writes and marks. Nothing in it is refused memory, and behind it the data file is byte for byte the
-log of what was committed, and `check` counts it.
+Each reply is that of the model: for each name in several spellings, each number of parts, and keys, bounds, values and limits at and beyond their
+limits. Then transactions of the most and largest writes, of the most and largest marks, and of both are committed, and a sweep over the lengths of
+values and the numbers of writes and marks. Nothing in it is refused memory, and after it the data file is byte for byte the log of what was
+committed, and `check` counts it.
 
-At last sessions leave, without a word, with old transactions for whose sake versions and records are kept: then the memory that the process
-holds is again what it was.
+Finally, sessions leave without a word, with old transactions for whose sake versions and records are kept: then the memory that the process holds is
+again what it was.
 """
 import os
 import time
@@ -55,13 +55,13 @@ ENDING = (b"COMMIT", b"ABORT", b"BEGIN")
 
 
 def every_form(tally, server):
-    """Each request outside a transaction; each inside one of its own, behind writes and reads; and all of them in one."""
+    """Each request outside a transaction; each inside one of its own, after writes and reads; and all of them in one."""
     store = Store(SECTORS)
     log = []
 
     def ask(client, session, parts):
         found, due = client.ask(frame(*parts)), store.request(session, parts)
-        expect(found == due, f"{b' '.join(p[:12] for p in parts)!r} was answered {(found or b'closed')[:60]!r}, due is {due[:60]!r}")
+        expect(found == due, f"{b' '.join(p[:12] for p in parts)!r} was answered {(found or b'closed')[:60]!r}, expected {due[:60]!r}")
 
     with Connection(server.port) as client:
         for number, parts in enumerate(requests()):
@@ -93,7 +93,7 @@ def largest_writes():
 
 
 def mark_requests(count, size=KEY_MAX):
-    """Reads of so many ranges, which find nothing, whose bounds have this length."""
+    """Reads of this many ranges, which find nothing, whose bounds have this length."""
     for i in range(count):
         lo = b"~%03d" % i + b"l" * (size - 4)
         yield frame("RANGE", lo, lo[:-1] + b"m" if size > 4 else lo + b"m", "1"), pairs([])
@@ -116,7 +116,7 @@ class Committer:
         self.connection.send(b"".join(request for request, _ in asked))
         for request, due in asked:
             found = self.connection.reply()
-            expect(found == due, f"{request[:40]!r} was answered {(found or b'closed')[:60]!r}, due is {due!r}")
+            expect(found == due, f"{request[:40]!r} was answered {(found or b'closed')[:60]!r}, expected {due!r}")
         if writes:
             self.log.append(sorted(writes))
 
@@ -147,7 +147,7 @@ def one_more(committer):
             (BEGIN, OK), *mark_requests(MARKS_MAX), (frame("GET", "one more"), refusal("FULL marks")), *write_requests(largest_writes()),
             (frame("SET", "one more", "1"), refusal("FULL writes"))):
         found = client.ask(request)
-        expect(found == due, f"{request[:40]!r} was answered {(found or b'closed')[:60]!r}, due is {due!r}")
+        expect(found == due, f"{request[:40]!r} was answered {(found or b'closed')[:60]!r}, expected {due!r}")
     committer.number += 1
     found = client.ask(COMMIT)
     expect(found == b":%d\r\n" % committer.number, f"COMMIT was answered {found!r}")
@@ -176,7 +176,7 @@ def judge_file(tally, data, log):
     with tally.run("the counts of the log"):
         due = (len(log), sum(value is not None for value in contents.values()), sectors_used(log), SECTORS)
         found = check(data)
-        expect(found == due, f"check counts {found}, due is {due}")
+        expect(found == due, f"check counts {found}, expected {due}")
     with tally.run("the data file"), open(data, "rb") as file:
         expect(file.read() == log_image(log, SECTORS), "it is not the log of what was committed")
 
@@ -208,7 +208,7 @@ def old_transactions(server, count):
 
 
 def leave_with_old_ones(tally, place, data):
-    """Rounds of old transactions whose connections are closed: behind each the process holds what it held behind the first."""
+    """Rounds of old transactions whose connections are closed: after each the process holds what it held after the first."""
     refusals, rounds, count = Refusals(place), 6 if is_long() else 3, OPEN_MAX - 1 if is_long() else 20
     with Server(data, refusals.environment()) as server, Connection(server.port) as client:
         levels, kept = [], 0
@@ -219,7 +219,7 @@ def leave_with_old_ones(tally, place, data):
                 for old in olds:
                     old.reset() if number % 2 else old.close()
                 levels.append(held_by(refusals, client))
-                expect(kept - levels[-1] > count * WRITES_MAX * KEPT_VALUE, f"only {kept - levels[-1]:,} bytes of {kept:,} were given back")
+                expect(kept - levels[-1] > count * WRITES_MAX * KEPT_VALUE, f"only {kept - levels[-1]:,} bytes of {kept:,} were freed")
                 expect(abs(levels[-1] - levels[0]) < 16_384, f"{levels[-1] - levels[0]:,} bytes more are held than behind the first round")
         if levels:
             print(f"  memory: {kept:,} bytes held with {count} old transactions, {levels[-1]:,} once they had left")

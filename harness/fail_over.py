@@ -1,12 +1,12 @@
 """Fail-over between two machines, whose data file lies on a device that is replicated synchronously.
 
-The machines are two network namespaces, with a link between them and one to the clients each. The device of the one that serves is a loop device
-over the file of mirror.c, which answers a flush once both sides have what came before; ext4 on it holds the data file and the lock. The other side
-holds what it was sent as a disk with a cache does: what wasn't flushed before the end is there in part, whole writes or torn ones. A life ends
-where the serving machine is killed, or its link to the other is cut and it is killed later or not at all, while clients commit at both addresses.
-Then the other takes over as docs/FAIL_OVER.md says: its disk is mounted, `ssikvd-before` looks at the data file, and a server starts under the
-lock, beside which no second one does. Each commit that was answered must be there, and nothing may be answered by the old machine that the new one
-lacks. The next life is the other way round. At last devices with a planted fault are shown to the same judge.
+The machines are two network namespaces, with a link between them and one to the clients each. The device of the one that serves is a loop device over
+the file of mirror.c, which answers a flush once both sides have what came before; ext4 on it holds the data file and the lock. The other side holds
+what it was sent as a disk with a cache does: what wasn't flushed before the end is there in part, whole writes or torn ones. A run ends where the
+serving machine is killed, or its link to the other is cut and it is killed later or not at all, while clients commit at both addresses. Then the
+other takes over as docs/FAIL_OVER.md says: its disk is mounted, `ssikvd-before` looks at the data file, and a server starts under the lock, which
+keeps a second one from starting. Each commit that was answered must be there, and nothing may be answered by the old machine that the new one lacks.
+The next run is the other way round. Finally, devices with a planted fault are shown to the same judge.
 
 It has no quick form. It needs root, FUSE, loop devices, `mkfs.ext4` and network namespaces, and says what it lacks.
 """
@@ -79,7 +79,7 @@ def take(stream, connection, file, pending):
 
 
 def whole(stream, size):
-    """So many bytes, or None where the stream ends before, or somebody asks for the end."""
+    """This many bytes, or None where the stream ends before, or somebody asks for the end."""
     found = bytearray()
     while len(found) < size:
         if sys.stdin in select.select([sys.stdin, stream], [], [])[0]:
@@ -249,7 +249,7 @@ class Pair:
         command("mkfs.ext4", "-q", "-F", "-b", "4096", "-E", "lazy_itable_init=0,lazy_journal_init=0", image)
 
     def live(self, life, end, chance):
-        """One life: the first machine serves with a copy at the second, ends, and the second takes over. Then they change places."""
+        """One fail-over: the first machine serves with a copy at the second, ends, and the second takes over. Then they change places."""
         first, second = self.machines
         for machine in self.machines:
             machine.boot()
@@ -295,7 +295,7 @@ def judge_kept(acknowledged, found):
 
 
 def play(lives, seed, form=(), tally=None):
-    """So many lives in a row. Gives the pair."""
+    """Plays this many fail-overs in a row. Returns the pair."""
     chance = random.Random(seed)
     with in_memory() as place:
         pair = Pair(place, form)
@@ -310,7 +310,7 @@ WRONG = {"a device that answers before the copy does": "early", "a device that g
 
 
 def is_seen(form):
-    """Is a fault found within some lives?"""
+    """Is a fault found within a few fail-overs?"""
     try:
         play(6, 1, (form,))
     except Deviation as found:
@@ -327,13 +327,13 @@ def lacks():
 
 
 def options(parser):
-    parser.add_argument("--lives", type=int, default=LIVES, help="how many lives are played")
+    parser.add_argument("--lives", type=int, default=LIVES, help="how many fail-overs are played")
     parser.add_argument("--seed", type=int, default=58)
     parser.add_argument(REPLICA, nargs=3, metavar=("ADDRESS", "IMAGE", "SEED"), help=argparse.SUPPRESS)    # the other side of a device
 
 
 def instead(asked):
-    """Serves a copy where that is asked for."""
+    """Serves a copy if asked to."""
     if not asked.replica:
         return None
     serve_copy(*asked.replica)

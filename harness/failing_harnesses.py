@@ -1,8 +1,9 @@
 """Harnesses that fail, over which runner.py must not say that all held, and one that holds.
 
 Each is a script that is written into a folder: one whose run deviates, one with a deviation outside of its runs, one that ends in a traceback within
-a run, outside of one or as it is read, one whose program is missing, one that gives up, one that ends amid its tests with the status of success, one that
-is killed, one without tests, and one that leaves a test out without a word. The failures must be counted, and the lines be told by the words that they have.
+a run, outside of one or as it is read, one whose program is missing, one that gives up, one that ends amid its tests with the status of success, one
+that is killed, one without tests, and one that leaves a test out without a word. The failures must be counted, and be recognized by the words of
+their lines.
 """
 import contextlib
 import io
@@ -69,7 +70,7 @@ def write(place, name, body="pass", above="", needs="", last="pass", members="")
 
 
 def played(place, name):
-    """The result of a script that the runner plays, what is told of what failed, and what the runner shows."""
+    """The result of a script that the runner plays, what is reported of what failed, and what the runner shows."""
     sys.path.insert(0, place)
     try:
         process, result = Process(name, "quick", place), unittest.TestResult()
@@ -83,7 +84,7 @@ def played(place, name):
 
 
 def judge(result, text, failures, errors, told):
-    """So many failures and errors, and these words."""
+    """This many failures and errors, and these words."""
     expect(not result.wasSuccessful(), "it is said that all held")
     expect(len(result.failures) == failures and len(result.errors) == errors, f"{len(result.failures)} failures and {len(result.errors)} errors: {text}")
     expect(told in text, f"it says {text}, and not {told}")

@@ -1,10 +1,10 @@
-"""Compaction beside a running server: a copy that follows its data file, `ssikvd-follow`, and how long `ssikvd-compact` stops a server.
+"""Compaction while the server runs: a copy that follows its data file, `ssikvd-follow`, and how long `ssikvd-compact` stops a server.
 
-Writes and deletions come between any two steps: before the place is noted, while the map is copied, and between each two runs of the tool. The
-copy then has the map of the data file, and the program reads it. A copy or a data file that isn't the noted one, a damaged record and a full copy
-are refused, and nothing is changed. Each image that a crash within a run may leave is a log of so many records. A tool that is killed is run
-again. Clients write while `ssikvd-compact` runs, none of their commits is lost, and how long each of them wasn't served is printed. At last the
-judges are shown tools with a planted fault.
+Writes and deletions come between any two steps: before the place is noted, while the map is copied, and between each two runs of the tool. The copy
+then has the map of the data file, and the program reads it. A copy or a data file that isn't the noted one, a damaged record and a full copy are
+refused, and nothing is changed. Each image that a crash within a run may leave is a log of so many records. A tool that is killed is run again.
+Clients write while `ssikvd-compact` runs, none of their commits is lost, and how long each of them wasn't served is printed. Finally, the judges are
+shown tools with a planted fault.
 """
 import contextlib
 import json
@@ -37,7 +37,7 @@ class Pair:
         create(self.data, SECTORS)
 
     def commit(self, port, count):
-        """So many transactions that write and delete some of 40 keys."""
+        """This many transactions that write and delete some of 40 keys."""
         store = simple_client.Client(port)
         for _ in range(count):
             keys = sorted(self.chance.sample(range(40), self.chance.randint(1, 6)))
@@ -54,7 +54,7 @@ class Pair:
         return tool(script, "--state", self.state, *words)
 
     def copy(self, port, before, between=0, behind=0, script="ssikvd-follow"):
-        """Notes a place and makes a copy, with so many commits before, between and behind these."""
+        """Notes a place and makes a copy, with this many commits before, between and after these."""
         self.commit(port, before)
         expect(self.follow(self.data, script=script)[0] == 0, "no place could be noted")
         self.commit(port, between)
@@ -83,7 +83,7 @@ def judge_copy(pair, found):
 
 
 def follow_through(pair, port, script="ssikvd-follow", most=12):
-    """Commits between any two steps. Gives what the last run of the tool answered."""
+    """Commits between any two steps. Returns what the last run of the tool answered."""
     counts = [pair.chance.choice((0, 1, pair.chance.randint(2, most))) for _ in range(5)]
     pair.copy(port, *counts[:3], script)
     found = pair.follow(pair.data, pair.new, script=script)
@@ -179,7 +179,7 @@ def _reads(name):
 # Crashes and kills
 
 def crashes(tally):
-    """Each image that a crash within a run may leave has the records of before, or those of after."""
+    """Each image that a crash within a run may leave has the records from before the run, or those from after it."""
     tool_module, chance = loaded("ssikvd-follow"), random.Random(3)
     with folder() as place, tally.run("crashes of a run"):
         pair = Pair(place, chance)
@@ -216,7 +216,7 @@ def judge_crashes(tool_module, pair, chance):
         tool_module.follow(pair.data, pair.new, pair.state)
     finally:
         tool_module.os.pwrite, tool_module.os.fsync = own
-    expect(not recorder.unsettled, "what it wrote last is not settled")
+    expect(not recorder.unsettled, "what it wrote last is not durable")
     return images
 
 
@@ -312,7 +312,7 @@ class Watcher(Returning):
 
 def beside_a_load(tally, script="ssikvd-compact"):
     """Clients write while the file is compacted: nothing is lost, and the copy is used."""
-    with tally.run("ssikvd-compact beside clients that write"), in_memory() as place:
+    with tally.run("ssikvd-compact while clients write"), in_memory() as place:
         print(f"  not served for {judge_load(place, script):.2f} s at most", flush=True)
 
 
@@ -346,7 +346,7 @@ def count_of(load):
 
 
 def fill(port, keys):
-    """So many keys, 64 in a transaction."""
+    """This many keys, 64 in a transaction."""
     store = simple_client.Client(port)
     for first in range(0, keys, 64):
         requests = [frame("BEGIN"), *(frame("SET", b"%09d" % key, b"v" * 100) for key in range(first, min(first + 64, keys))), frame("COMMIT")]

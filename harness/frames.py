@@ -79,7 +79,7 @@ def agree(port, data, said):
     found = by_model(data)
     expect(found == due, f"{data!r} is {found}, PROTOCOL.md says {said}")
     found = by_program(port, data)
-    expect(found == (due if due in ("broken", "a proper prefix of a request") else "a request"), f"{data!r} was taken as {found}, due is {due}")
+    expect(found == (due if due in ("broken", "a proper prefix of a request") else "a request"), f"{data!r} was taken as {found}, expected {due}")
 
 
 def is_refused(port, data, said):

@@ -57,7 +57,7 @@ def code_of(path):
 
 
 class Crate:
-    """The functions of a crate, and who of them holds a handle."""
+    """The functions of a crate, and which of them hold a handle."""
 
     def __init__(self, name):
         folder = os.path.join(TOP, "crates", name, "src")

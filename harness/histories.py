@@ -259,7 +259,7 @@ class Driver(threading.Thread):
 
 
 def serve_history(place, form, seconds, clients=CLIENTS, kills=1, seed=1):
-    """The events of a history of so many clients over so long, amid which the server is killed so many times."""
+    """The events of a history of this many clients over this long, amid which the server is killed this many times."""
     data = os.path.join(place, f"data {seed}")
     create(data, SECTORS["quick" if seconds < 5 else "long"])
     service, events, chance = Service(data), Events(), random.Random(seed)
@@ -384,7 +384,7 @@ PLANTED = {
 
 
 def model_history(store, form, seed, count, clients=6):
-    """The events of so many transactions over the model. A seeded chance chooses whose request is next."""
+    """The events of this many transactions over the model. A seeded chance chooses whose request is next."""
     chance, ticks, begun = random.Random(seed), iter(range(10 ** 9)), []
     events, keys, sessions = Events(lambda: next(ticks)), Keys(random.Random(seed + 1)), iter(range(10 ** 9))
 
@@ -575,7 +575,7 @@ def planted(tally):
     for name, (form, due, *lines) in BY_HAND.items():
         with tally.run(name):
             found = names_of(form, small(*lines))
-            expect(found == due, f"{name}: found are {found}, due is {due}")
+            expect(found == due, f"{name}: found {found}, expected {due}")
     for seed in range(10 if is_long() else 1):
         for form in FORMS:
             with tally.run(f"the model, {form}, {seed}"):
@@ -583,11 +583,11 @@ def planted(tally):
             for store, due in PLANTED.items():
                 with tally.run(f"{store.__name__}, {form}, {seed}"):
                     found = names_of(form, model_history(store(), form, seed, MODEL_COUNT))
-                    expect(due & set(found), f"{store.__name__}, {form}, {seed}: found are {found}, due is one of {due}")
+                    expect(due & set(found), f"{store.__name__}, {form}, {seed}: found {found}, expected one of {due}")
 
 
 def false_orders(tally):
-    """Orders that are none: turned round, with one missing, and with a reader in front of what it read or real time turned round."""
+    """False orders: reversed, with one missing, and with a reader in front of what it read or real time reversed."""
     for form in FORMS:
         history = History(form, model_history(RecentStore(), form, 1, MODEL_COUNT))
         order = history.serial_order()

@@ -1,10 +1,9 @@
 """Clients that don't behave, against `serve`, while a good client is served.
 
-Half frames and silence, urgent bytes, broken frames with much before and behind them, floods of pipelined requests, peers that acknowledge
-late or don't read, as many connections as there are and more, also all at once, resets within a reply, random bytes, and every session at
-its limits at once.
-The good client's slowest reply stays under a bound, the server doesn't end, what may be answered is the model's, and the memory of the
-process stays under the bound that its limits give.
+Half frames and silence, urgent bytes, broken frames with much before and after them, floods of pipelined requests, peers that acknowledge late or
+don't read, as many connections as there are and more, also all at once, resets within a reply, random bytes, and every session at its limits at once.
+The good client's slowest reply stays under a bound, the server doesn't end, what may be answered is the model's, and the memory of the process stays
+under the bound that its limits give.
 
 `quick` does each once and small.
 """
@@ -124,7 +123,7 @@ BROKEN = (b"*0", b"*5", b"*11", b"*1\n", b"PING\r\n", b"*1\r\n$%d" % (VALUE_MAX 
 
 
 def broken_frames(siege):
-    """Bytes that begin no request, whole and one by one, in a transaction: one reply, and the end of the session, which is told at once."""
+    """Bytes that begin no request, whole and one by one, in a transaction: one reply, and the end of the session, which is reported at once."""
     for data in (*BROKEN, *(PING + data for data in BROKEN)):
         due = OK + PONG * data.startswith(PING) + BROKEN_FRAME
         for size in (len(data), 1):
@@ -169,11 +168,11 @@ def exchange(siege, data, waits_for_end, receive_buffer=None):
 
 
 def expect_all(came, due):
-    expect(came == due, f"{len(came):,} bytes came, ending in {came[-20:]!r}, due are {len(due):,}, ending in {due[-20:]!r}")
+    expect(came == due, f"received {len(came):,} bytes, ending in {came[-20:]!r}, expected {len(due):,}, ending in {due[-20:]!r}")
 
 
 def broken_frame_behind_much(siege):
-    """Megabytes of requests, a broken frame, and much behind it: every reply comes, then the refusal, and the end, which is no reset."""
+    """Megabytes of requests, a broken frame, and much after it: every reply comes, then the refusal, and the end, which is no reset."""
     write, replies = frame("SET", "much", VALUE), pairs([(key, VALUE) for key in KEYS])
     for megabytes, ranges, behind, receive_buffer in (
             (siege.times(10, 25), 10, 100_000, 4_096), (1, 3, 0, 4_096), (1, 3, 10, 4_096), (1, 3, 5_000, 4_096), (1, 3, 100_000, None),
@@ -209,7 +208,7 @@ def are_reset(clients):
 
 
 def held_behind_broken_frames(siege):
-    """Peers that hold on behind their broken frame: they take no place, and few descriptors. The oldest are closed, and the others when they
+    """Peers that hold on after their broken frame: they take no place, and few descriptors. The oldest are closed, and the others when they
     end."""
     time.sleep(0.2)    # those that left have been taken out
     before = siege.server.descriptors()
@@ -234,7 +233,7 @@ LINGERING_BYTES, IN_BUFFERS = 1 << 26, 1 << 24    # how many bytes are dropped b
 
 
 def without_end_behind_a_broken_frame(siege):
-    """A peer that sends without end behind its broken frame is cut off once so many bytes were dropped, and not before."""
+    """A peer that sends without end after its broken frame is cut off once this many bytes were dropped, and not before."""
     with siege.join() as client:
         client.send(b"*0")
         came, sent, piece = client.rest(), 0, b"x" * (1 << 16)
@@ -321,7 +320,7 @@ def flood_of_commits(siege):
 # Peers that don't read, and peers that reset
 
 def never_reads(siege):
-    """As many peers as may have transactions, beside the good client's, ask for the largest ranges and read nothing."""
+    """As many peers as may have transactions, apart from the good client's, ask for the largest ranges and read nothing."""
     clients = [siege.join(receive_buffer=4_096) for _ in range(OPEN_MAX - 1)]
     for client in clients:
         client.send(BEGIN + LARGEST_RANGE * 50)
@@ -356,7 +355,7 @@ def resets(siege):
 
 
 def take_every_place(siege):
-    """127 connections that are served, beside the good client's. Those that left before are waited for."""
+    """127 connections that are served, apart from the good client's. Those that left before are waited for."""
     return [siege.join() for _ in range(SESSIONS_MAX - 1)]
 
 
@@ -492,7 +491,7 @@ def expect_answered(siege, stream, cut, due, goes_on):
         if goes_on and not client.is_closed:
             client.socket.shutdown(socket.SHUT_WR)
         came = client.rest()
-    expect(came == due, f"{stream[:200]!r}: {came[-200:]!r}, due is {due[-200:]!r}")
+    expect(came == due, f"{stream[:200]!r}: {came[-200:]!r}, expected {due[-200:]!r}")
 
 
 def play_stream(siege, octets, cut=None):
@@ -505,7 +504,7 @@ def play_stream(siege, octets, cut=None):
 
 
 def pieces_of(stream):
-    """The whole requests of a stream, and what stands behind them."""
+    """The whole requests of a stream, and what follows them."""
     pieces = []
     with contextlib.suppress(Broken):
         while found := decode(stream):
@@ -515,7 +514,7 @@ def pieces_of(stream):
 
 
 def shrunk_stream(siege, stream):
-    """The few requests of a stream that is answered otherwise, and of these the few bytes; None where it is answered as is due now."""
+    """The few requests of a stream that is answered otherwise, and of these the few bytes; None where it is answered correctly now."""
     few = shrunk(pieces_of(stream), lambda some: play_stream(siege, b"".join(some)), SHRINKING_SECONDS)
     return few and bytes(shrunk(b"".join(few), lambda some: play_stream(siege, some), SHRINKING_SECONDS) or b"".join(few))
 
@@ -568,7 +567,7 @@ def memory_bound(idle, commits):
         f"keys and values of {OPEN_MAX} transactions": OPEN_MAX * (WRITES_MAX * pair + MARKS_MAX * 2 * KEY_MAX),
         "the map": len(KEYS) * pair,
         f"{entries} entries": entries * ENTRY,
-        f"records of {commits} commits beside open transactions": commits * RECORD,
+        f"records of {commits} commits kept for open transactions": commits * RECORD,
     }
 
 

@@ -144,7 +144,7 @@ def other_manuals(tally):
         rows = [re.split(r" {2,}", line) for line in literal_lines(manual_section(MANUALS[2], "EXAMPLES")) if line[0].isdigit()]
         found = run(["play"], "".join(request + "\n" for request, _ in rows).encode())
         due = "".join(f"{request.split()[0]} {reply}\n" for request, reply in rows)
-        expect(rows and found == (0, due.encode(), b""), f"`play` printed {found}, due is {due!r}")
+        expect(rows and found == (0, due.encode(), b""), f"`play` printed {found}, expected {due!r}")
     with tally.run("the example of ssikvd(5)"):
         due = set(re.findall(r"`([0-9a-f]{8,})`", text_of("docs/LOG_FORMAT.md").partition("## An example")[2]))
         found = set(re.findall(r"\b[0-9a-f]{8,}\b", manual_section(MANUALS[1], "EXAMPLES")))
@@ -284,7 +284,7 @@ def completions(tally):
             with tally.run(f"the options of {command} that {shell} offers"):
                 due = {option for option in options if option.startswith("--")}
                 found = {word for word in ask(command, "--") if len(word) > 2 and word.startswith("--")}
-                expect(found == due or command == "help", f"it offers {sorted(found)}, due are {sorted(due)}")
+                expect(found == due or command == "help", f"it offers {sorted(found)}, expected {sorted(due)}")
     if zsh:
         zsh.end()
     if not left_out("shellcheck of the completion for bash", "shellcheck"):
@@ -434,7 +434,7 @@ def without_program(tally, copy):
 
 
 def built_package(copy):
-    """Builds the package in a copy of the repository: its file, which lies beside the copy."""
+    """Builds the package in a copy of the repository: its file, which lies next to the copy."""
     os.makedirs(os.path.join(copy, "crates/ssikvd/out"), exist_ok=True)
     shutil.copy(BINARY, os.path.join(copy, "crates/ssikvd/out/ssikvd"))
     done(["dpkg-buildpackage", "-us", "-uc", "-b"], 600, cwd=copy, env=DEBIAN_PATH)

@@ -116,14 +116,14 @@ def judge(found, writers):
 
 
 class Store:
-    """A data file that lives through many kills."""
+    """A data file that survives many kills."""
 
     def __init__(self, place, name):
         self.data, self.last, self.is_full = os.path.join(place, name), [0] * WRITERS, False
         create(self.data, SECTORS)
 
     def kill_once(self, life):
-        """Serves and writes for so long, kills, checks and reads. How many sets were acknowledged, and how many more were found?"""
+        """Serves and writes for this long, kills, checks and reads. How many sets were acknowledged, and how many more were found?"""
         with Server(self.data) as server:
             expect(server.is_listening(), f"no server: {server.error_text()!r}")
             writers = [Writer(server.port, i, number) for i, number in enumerate(self.last)]
@@ -149,14 +149,14 @@ class Store:
 
 
 def compact_and_kill(place, life):
-    """`compact` of a log of format 1 killed after so long, or not where none is given. What it left: nothing, no log, or a whole one."""
+    """`compact` of a log of format 1 killed after this long, or not where none is given. What it left: nothing, no log, or a whole one."""
     data, new = os.path.join(place, "old"), os.path.join(place, "new")
     process = subprocess.Popen([PROGRAM, "compact", "--from", data, "--to", new], stdout=subprocess.DEVNULL, stderr=subprocess.PIPE)
     if life is not None:
         time.sleep(life)
         process.kill()
     error = process.communicate()[1]
-    expect(error == b"", f"it told {error!r}")
+    expect(error == b"", f"it reported {error!r}")
     with open(data, "rb") as file:
         expect(file.read() == log_image(OLD, OLD_SECTORS, OLD_HEAD), "the old file was changed")
     if not os.path.exists(new):

@@ -44,7 +44,7 @@ class Language:
         return shell(PROBES[self.name], HARNESS)[0] == 0
 
     def start(self, place, port, times):
-        """The client as a process, which adds so many times with each worker."""
+        """The client as a process, which adds this many times with each worker."""
         command = self.run.removesuffix(AS_TYPED) + f"{port} visits {WORKERS} {times}"
         return subprocess.Popen(["bash", "-c", "exec env " + command], cwd=place, env=ENVIRONMENT, stdout=subprocess.PIPE,
                                 stderr=subprocess.PIPE, text=True, start_new_session=True)

@@ -29,7 +29,7 @@ CLIENTS, AT_ONCE = 4, 16
 
 class Load:
     """Clients of which each counts in a key of its own, some transactions at once, and comes again where its connection is lost. Together they
-    begin no more transactions than they are allowed, or than so many a second; who had to wait doesn't catch up."""
+    begin no more transactions than they are allowed, or than this many a second; one that had to wait doesn't catch up."""
 
     def __init__(self, port, rate=0):
         self.rate, self.since = rate, time.monotonic()
@@ -39,7 +39,7 @@ class Load:
         self.threads = [threading.Thread(target=self._work, args=(number,), daemon=True) for number in range(CLIENTS)]
 
     def allow(self, count):
-        """So many transactions more."""
+        """Allows this many more transactions."""
         self.allowed = self.begun + count
 
     def wait(self):
@@ -126,7 +126,7 @@ SLOW, FAST = (10, 10, 10, 10, 60), (80,)    # of 100 sectors, what is filled in 
 
 
 def run_looks(minutes, has_rate):
-    """A look in each minute, beside the clients: the load, and the fill at each compaction, in sectors."""
+    """A look in each minute, while the clients write: the load, and the fill at each compaction, in sectors."""
     with looks_at(SECTORS) as looks:
         fills, before = [], time.monotonic()
         looks.look(within=0)
@@ -164,7 +164,7 @@ HIGHEST, LARGE, PACE = 14_400, 262_144, 2.4
 
 
 def highest_rate():
-    """Looks beside clients that write at the highest rate over a disk, at the pace at which a minute's looks come where the largest file is served:
+    """Looks while clients write at the highest rate over a disk, at the pace at which a minute's looks come where the largest file is served:
     the load, the seconds between two looks, and what the compactions said."""
     with looks_at(LARGE) as looks, Load(looks.trial.port, HIGHEST) as load:
         looks.look(within=0)
@@ -199,7 +199,7 @@ def keeps_up_at_once(tally):
         load, interval, said = highest_rate()
         count = sum(": compaction\n" in out for out in said)
         beside = sum("copied while the server ran" in out for out in said)
-        print(f"  {sum(load.acknowledged)} commits, {count} compactions, {beside} beside the server, a look each {interval:.1f} s", flush=True)
+        print(f"  {sum(load.acknowledged)} commits, {count} compactions, {beside} while the server ran, a look each {interval:.1f} s", flush=True)
         expect(load.full == 0, f"{load.full} commits met a full log: {said}")
         expect(count > 10, f"it was compacted {count} times")
 
@@ -229,7 +229,7 @@ def rule(tally):
         with tally.run("more than half is used"):
             while check(looks.trial.data)[2] <= 512:
                 looks.trial.commit(20)
-            expect(due(0, 0), "it isn't due")
+            expect(due(0, 0), "it isn't compacted")
 
 
 class LooksOfTheTimer(Harness):

@@ -1,24 +1,24 @@
 """`ssikvd` over a file system that loses what wasn't synced.
 
-The file system is lossy.c, which FUSE mounts. A crash kills the program in a call, and leaves each sector that no sync had settled old, new,
-torn or with noise, and names that no sync of the folder had settled undone. After each crash the file is read by a reader of the format, in
-plain Python, by `check` and by RANGE: it must hold every commit that was answered, whole, in order, and nothing but whole transactions
-that were asked for.
+The file system is lossy.c, which FUSE mounts. A crash kills the program in a call, and leaves each sector that no sync had made durable old, new,
+torn or with noise, and undoes names that no sync of the folder had made durable. After each crash the file is read by a reader of the format, in
+plain Python, by `check` and by RANGE: it must hold every commit that was answered, whole, in order, and nothing but whole transactions that were
+asked for.
 
-    serve      crashes of `serve` under eight clients, of its opening, and kills; what one life left the next one opens
+    serve      crashes of `serve` under eight clients, of its opening, and kills; what one run left the next one opens
     create     crashes of `create`: the file is absent, refused, or a whole empty log. `create faults`: calls of it fail
     compact    crashes of `compact`: the old file is as it was, the new one absent, refused, or a whole copy. `compact faults`: calls fail
     faults     calls on the data file that fail, move less or are interrupted, under `serve` and in its opening
-    stopped    the sync of a gate fails and drops its page; the file is opened in place, or behind `dd iflag=nocache`, or compacted; later
+    stopped    the sync of a gate fails and drops its page; the file is opened in place, or after `dd iflag=nocache`, or compacted; later
                commits outlive a crash
     before     the same, and `ssikvd-before` is asked: where the system drops pages it lets the store be started; where it doesn't, and the
                device has something else, or that can't be read, it refuses until the log was compacted or the machine restarted
     swap       a compacted file takes the old one's name; commits over it outlive a crash
     sight      syncs are left out, one kind at a time, or pages can't be dropped: each must be seen within a hundred runs
 
-`lossy.py quick` plays some of each, `long` many, and with modes behind it those alone. Two are played only by name: `stopped without copies`,
-where the advice to drop pages has no effect and commits are lost, and `swap synced`, in which the operator settles the names before the file
-is served. All is left out where FUSE isn't there.
+`lossy.py quick` plays some of each, `long` many, and followed by modes those alone. Two are played only by name: `stopped without copies`, where the
+advice to drop pages has no effect and commits are lost, and `swap synced`, in which the operator makes the names durable before the file is served.
+All is left out where FUSE isn't there.
 """
 import contextlib
 import errno
@@ -53,7 +53,7 @@ class NoFuse(Exception):
 
 
 class Disk:
-    """The mounted folder, and what it is told."""
+    """The mounted folder, and the commands that it is given."""
 
     def __init__(self, place):
         self.place = os.path.join(place, "disk")
@@ -63,7 +63,7 @@ class Disk:
             raise NoFuse("; ".join(self.process.communicate()[1].split("\n")).strip("; "))
 
     def tell(self, *words):
-        """A command. Answers how often it crashed, how many sectors the last crash found unsettled, and whether the plan was met."""
+        """A command. Answers how often it crashed, how many sectors the last crash found not yet durable, and whether the plan was met."""
         print(*words, file=self.process.stdin, flush=True)
         done, *numbers = self.process.stdout.readline().split()
         expect(done == "done", f"the file system refused {words}")
@@ -89,7 +89,7 @@ class Disk:
             return file.read()
 
     def write(self, name, content):
-        """A new file, settled with its name."""
+        """A new file, durable with its name."""
         with open(self.path(name), "xb") as file:
             file.write(content)
         self.tell("settle")
@@ -116,7 +116,7 @@ class Machine:
 
     def note_crash(self):
         self.count("crashes")
-        self.count("crashes with something unsettled", by=self.disk.tell("state")[1] > 0)
+        self.count("crashes with something not yet durable", by=self.disk.tell("state")[1] > 0)
 
     def text(self):
         return ", ".join(f"{count:,} {name}" for name, count in self.counts.items())
@@ -139,14 +139,14 @@ class History:
         self.begin(log)
 
     def begin(self, log):
-        """A life begins over this log."""
+        """A run begins over this log."""
         self.log, self.answered, self.unknown = list(log), {}, []
 
     def judge(self, content):
         """The log in these bytes. It has all that was answered, at its number; between stands only what was asked for and not answered."""
         log = log_of(content)
         new = log[len(self.log):]
-        expect(log[:len(self.log)] == self.log, "not all commits of earlier lives are there")
+        expect(log[:len(self.log)] == self.log, "not all commits of earlier runs are there")
         last, left = max(self.answered, default=0), list(self.unknown)
         expect(len(new) >= last, f"{last - len(new)} of {last} acknowledged commits are lost")
         for number, writes in enumerate(new, 1):
@@ -189,7 +189,7 @@ class Asked:
         self.pieces = [content[i * size:(i + 1) * size] for i in range(pieces)]
 
     def outcome(self):
-        """The reply to COMMIT; None where the connection was closed. The others must be the ones due."""
+        """The reply to COMMIT; None where the connection was closed. The others must be the expected ones."""
         replies = []
         try:
             for _ in self.requests:
@@ -202,7 +202,7 @@ class Asked:
             expect(set(replies[1:]) == {NONE_OPEN}, f"behind a refused BEGIN came {replies[1:]}")
             return STORE_STOPPED
         due = [OK, bulk(self.counter)] + [OK] * len(self.writes)
-        expect(all(found in (wanted, None) for found, wanted in zip(replies, due)), f"{replies} came, {due} was due")
+        expect(all(found in (wanted, None) for found, wanted in zip(replies, due)), f"received {replies}, expected {due}")
         return replies[-1]
 
 
@@ -283,7 +283,7 @@ def tail(chance, count):
 
 
 class Store:
-    """A data file that is served through many lives."""
+    """A data file that is served in many runs."""
 
     def __init__(self, machine, has_copies=None):
         self.machine, self.disk, self.name, self.serial = machine, machine.disk, "F", 0
@@ -299,7 +299,7 @@ class Store:
 
     @contextlib.contextmanager
     def served(self, opening=None):
-        """A server over the file, and its clients, once the map that it found is the one due; None where it didn't come to listen."""
+        """A server over the file, and its clients, once the map that it found is the expected one; None where it never listened."""
         if opening:
             self.disk.tell("plan", *opening)
         with Server(self.path) as server:
@@ -318,7 +318,7 @@ class Store:
                 yield None
 
     def look(self):
-        """Behind a crash: the file holds what it should, and `check` counts it."""
+        """After a crash: the file holds what it should, and `check` counts it."""
         expect(self.disk.is_there(self.name), f"{self.name} isn't there")
         log = self.history.judge(self.disk.read(self.name))
         found = check(self.path)
@@ -332,7 +332,7 @@ class Store:
         return sectors_used(self.history.log) > SECTORS - ROOM_LEFT
 
     def crash_in_opening(self):
-        """A life that ends while it opens the file. Did it? Else it is killed once it listens."""
+        """A run that ends while it opens the file. Did it? Else it is killed once it listens."""
         chance, before = self.machine.chance, self.disk.crashes()
         kind, last = chance.choice((("open", 1), ("read", 6), ("sync", 1), ("folder", 1)))
         plan = (kind, chance.randint(1, last), chance.choice(("before", "after")))
@@ -347,7 +347,7 @@ class Store:
         return True
 
     def load(self, plan, rounds):
-        """A life under load, up to its end in a call, or so many rounds, behind which it is killed. Did it end in a call?"""
+        """A run under load, up to its end in a call, or this many rounds, after which it is killed. Did it end in a call?"""
         with self.served() as clients:
             expect(clients, f"it doesn't open the file: {self.ended}")
             if plan:
@@ -360,7 +360,7 @@ class Store:
         return not is_alive
 
     def crash_under_load(self):
-        """A life under load, which a crash ends in a call, or else at any time; or a kill alone. Was it a crash?"""
+        """A run under load, which a crash ends in a call, or else at any time; or a kill alone. Was it a crash?"""
         chance = self.machine.chance
         plan = chance.choice((None, ("write", "before"), *[("write", "after")] * 3, *[("sync", "before")] * 3, ("sync", "after")))
         if self.load(plan and (plan[0], chance.randint(1, 16), plan[1]), chance.randint(1, 8)):
@@ -374,7 +374,7 @@ class Store:
         return True
 
     def crash_behind_opening(self):
-        """A life that is killed in a commit, and one that opens what this left unsettled. What it found outlives a crash at once."""
+        """A run that is killed in a commit, and one that opens what this left not yet durable. What it found outlives a crash at once."""
         self.load(("sync", self.machine.chance.randint(1, 8), "kill"), 8)
         self.machine.count("killed in a call")
         self.load(None, 0)
@@ -383,13 +383,13 @@ class Store:
         return True
 
     def live(self):
-        """A life. Did the machine crash?"""
+        """A run of the server. Did the machine crash?"""
         lives = [self.crash_in_opening] + [self.crash_behind_opening] * 2 + [self.crash_under_load] * 7
         return self.machine.chance.choice(lives)()
 
 
 def crashes_of_serve(machine):
-    """Crashes, one behind the other, over one file after another. Each is yielded once it was judged."""
+    """Crashes, one after the other, over one file after another. Each is yielded once it was judged."""
     while True:
         store = Store(machine)
         machine.count("files")
@@ -409,7 +409,7 @@ class Maker:
         self.machine, self.disk, self.words, self.made, self.log, self.before = machine, machine.disk, words, made, log, before
 
     def left(self):
-        """What is left of the file by its bytes: nothing, no log, or a whole one. No call of it settles anything."""
+        """What is left of the file by its bytes: nothing, no log, or a whole one. None of its calls makes anything durable."""
         if not self.disk.is_there(self.made):
             return "absent"
         content = self.disk.read(self.made)
@@ -419,7 +419,7 @@ class Maker:
         return "whole"
 
     def look(self):
-        """Behind a crash `check` says the same as the bytes."""
+        """After a crash `check` says the same as the bytes."""
         found = self.left()
         status, _, text = run(["check", "--data", self.disk.path(self.made)])
         expect((status == 0) == (found == "whole"), f"a file that is {found} is checked with {status} {text!r}")
@@ -443,17 +443,17 @@ class Maker:
             self.look_at_end(status, text, is_met)
             self.machine.crash_at_once()
         found = self.look()
-        expect(found == "whole" or status, f"it ended with 0; behind a crash its file is {found}")
+        expect(found == "whole" or status, f"it ended with 0; after a crash its file is {found}")
         expect(not self.before or self.disk.read("F") == self.before, "the old file was changed")
         self.machine.count(found)
 
     def look_at_end(self, status, text, is_met):
-        """It ended by itself: what did it tell, and what has it left?"""
+        """It ended by itself: what did it report, and what has it left?"""
         expect((status, text) in ((0, b""), (3, FILE_FAULT), (3, DEVICE_FAULT)), f"{status} {text!r}")
         expect(status == 0 or is_met, f"it failed by itself: {status} {text!r}")
         found = self.left()
         expect(found == "whole" or status, f"it ended with 0, and its file is {found}")
-        expect(found == "absent" or text != FILE_FAULT, f"it told a file fault, and left a file that is {found}")
+        expect(found == "absent" or text != FILE_FAULT, f"it reported a file fault, and left a file that is {found}")
 
 
 def crash_plan(chance, calls):
@@ -499,7 +499,7 @@ def is_soft(plan):
 
 
 class Faulty(Store):
-    """A data file of which a call fails in some lives."""
+    """A data file of which a call fails in some runs."""
 
     def fail_in_opening(self):
         calls = (("sync", 1), ("folder", 1)) if self.has_copies else (("sync", 1), ("folder", 1), ("read", 6))
@@ -537,7 +537,7 @@ class Faulty(Store):
 
     @staticmethod
     def look_at_stopped(clients, is_hard):
-        """A hard fault is one STORE fault, then STORE stopped, told once; at any other nothing is."""
+        """A hard fault is one STORE fault, then STORE stopped, reported once; at any other nothing is."""
         faults = [at for at, replies in enumerate(clients.rounds) for reply in replies if reply == STORE_FAULT]
         expect(len(faults) == is_hard, f"{len(faults)} STORE faults were answered")
         behind = {reply for replies in clients.rounds[faults[0] + 1 if is_hard else 0:] for reply in replies}
@@ -546,14 +546,14 @@ class Faulty(Store):
         expect(told == (STOPPED_LINE if is_hard else b""), f"it wrote {told!r}")
 
     def finish(self, plan):
-        """The machine crashes, or the next life opens what is there. This must drop pages, where the kernel has copies of them."""
+        """The machine crashes, or the next run opens what is there. This must drop pages, where the kernel has copies of them."""
         if self.machine.chance.random() < 0.5 or plan[2] == "keep" and not self.has_copies:
             self.machine.crash_at_once()
             self.look()
 
 
 def faults_of_serve(machine):
-    """Lives with faults and lives without, over one file after another. Each fault is yielded once it was judged."""
+    """Runs with faults and runs without, over one file after another. Each fault is yielded once it was judged."""
     while True:
         store = Faulty(machine)
         for _ in range(LIVES):
@@ -583,7 +583,7 @@ def commit_some(store, clients, count):
 
 
 def commits_and_crash(store):
-    """A life with acknowledged commits, which a crash ends: are all of them there?"""
+    """A run with acknowledged commits, which a crash ends: are all of them there?"""
     chance = store.machine.chance
     with store.served() as clients:
         expect(clients, f"it doesn't open the file: {store.ended}")
@@ -664,7 +664,7 @@ def before_a_start(machine, kind):
 
 
 def make_sound(store):
-    """What an operator does behind a refusal: a copy by `compact` in the file's place, or the machine restarts."""
+    """What an operator does after a refusal: a copy by `compact` in the file's place, or the machine restarts."""
     if store.machine.chance.random() < 0.5:
         swap_in_compacted(store)
         store.disk.tell("settle")
@@ -694,7 +694,7 @@ def starts(machine):
 
 
 def look_between(store, log):
-    """Behind a crash between the renames and the opening: of the three names one at least is there, and each is the old file or the copy."""
+    """After a crash between the renames and the opening: of the three names at least one is there, and each is the old file or the copy."""
     disk, wanted = store.disk, map_of(log)
     left = sorted(name for name in ("F", "F.old", "G") if disk.is_there(name))
     maps = [map_of(log_of(disk.read(name))) for name in left]
@@ -703,8 +703,8 @@ def look_between(store, log):
 
 
 def after_a_swap(machine, way):
-    """Commits over a file that took another's name outlive a crash; at times it comes before the copy is served. The names are settled by
-    the operator (`synced`), or by the opening, or by neither (`ignored`)."""
+    """Commits over a file that took another's name outlive a crash; at times it comes before the copy is served. The names are made durable by the
+    operator (`synced`), or by the opening, or by neither (`ignored`)."""
     store = Store(machine)
     with store.served() as clients:
         expect(clients, "it doesn't open a new file")
@@ -775,7 +775,7 @@ SIGHT = (
 
 
 def play(tally, disk, name, runs_of, count, seed):
-    """So many runs of a mode."""
+    """This many runs of a mode."""
     machine = Machine(disk, seed)
     runs = runs_of(machine)
     for number in range(count):
@@ -805,7 +805,7 @@ def seen_at(disk, ignored, runs_of, seed):
 
 
 def sight(tally, disk, seed):
-    """Is each thing seen that is left out?"""
+    """Is each thing that is left out seen?"""
     lines = []
     for what, ignored, runs_of in SIGHT:
         with tally.run(what):
@@ -816,10 +816,10 @@ def sight(tally, disk, seed):
 
 
 def options(parser):
-    parser.add_argument("modes", nargs="*", metavar="mode", help="these alone: " + "; ".join([*MODES, "sight"]))
+    parser.add_argument("modes", nargs="*", metavar="mode", help="only these: " + "; ".join([*MODES, "sight"]))
     parser.add_argument("--program", default=settings.PROGRAM)
     parser.add_argument("--seed", type=int, default=7)
-    parser.add_argument("--runs", type=int, help="so many of each mode")
+    parser.add_argument("--runs", type=int, help="how many runs of each mode")
 
 
 class Lossy(Harness):

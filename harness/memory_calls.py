@@ -3,10 +3,10 @@
 `test_refused_memory` answers line by line, over an engine or over a hub. It is asked the worked examples, with its n-th allocation refused,
 n = 1, 2, 3 .. until a run meets no refusal. Each reply must be the model's.
 
-- At the engine the call that is refused answers `memory`, and the same call made again gives the reply that was due.
+- At the engine the call that is refused answers `memory`, and the same call made again gives the expected reply.
 - At the hub a session that is refused when it joins is absent. One that is refused at a request is `Refused`; the model lets it leave.
   The replies of other sessions between BEGIN and COMMIT are the example's wherever the BEGIN found the example's map.
-- Each run is made again and ends behind the refusal. At the engine the transactions are open that were before, and the device is byte
+- Each run is made again and ends after the refusal. At the engine the transactions are open that were before, and the device is byte
   for byte the log of the commits that were answered; at the hub that of the refused session isn't open, and all others are.
 
 Then reads that need no new mark are made while every allocation is refused, at the hub also some whose replies have 536 bytes, for which a session keeps
@@ -67,7 +67,7 @@ class Program:
         return line.decode()
 
     def _judge_end(self):
-        """It ended by itself, which only a want of its own memory explains."""
+        """It ended by itself, which only its own lack of memory explains."""
         found = (self.process.wait(PATIENCE), self.came, self.process.stderr.read())
         expect(found == (3, b"", OUT_OF_MEMORY) and self.has_met(), f"it ended with {found}")
         raise OutOfOwnMemory
@@ -107,7 +107,7 @@ class Program:
 def expect_end(program, store):
     """The model's transactions are open, and the device is the log of the model's commits."""
     sessions, image = program.end()
-    expect(sessions == set(store.open), f"open are {sorted(sessions)}, due are {sorted(store.open)}")
+    expect(sessions == set(store.open), f"open are {sorted(sessions)}, expected {sorted(store.open)}")
     expect(image == log_image(store.log, SECTORS), "the device is not the log of what was committed")
 
 
@@ -127,7 +127,7 @@ def reply_of(store, line):
 
 
 def engine_run(program, row, stops, counts):
-    """An example at the engine. Where `stops`, it ends behind the call that is refused."""
+    """An example at the engine. Where `stops`, it ends after the call that is refused."""
     store = Store(SECTORS)
     open_store(program, "engine", counts)
     for line, reply in row:
@@ -140,12 +140,12 @@ def engine_run(program, row, stops, counts):
                 break
             answer = program.ask(line)
         due = reply_of(store, line)
-        expect(answer == due == f"{label} {reply}", f"{line}: {answer!r}, due is {due!r}")
+        expect(answer == due == f"{label} {reply}", f"{line}: {answer!r}, expected {due!r}")
     expect_end(program, store)
 
 
 class Sessions:
-    """The sessions of an example at the hub, beside the model, and beside the model of the example with no refusal."""
+    """The sessions of an example at the hub, next to the model, and next to the model of the example with no refusal."""
 
     def __init__(self, program, counts):
         self.program, self.counts = program, counts
@@ -154,7 +154,7 @@ class Sessions:
 
     def ask(self, line, due):
         answer = self.program.ask(line)
-        expect(answer == due, f"{line}: {answer!r}, due is {due!r}")
+        expect(answer == due, f"{line}: {answer!r}, expected {due!r}")
 
     def _refuse(self, label, what, status):
         """Memory was refused to a session."""
@@ -181,7 +181,7 @@ class Sessions:
             return
         is_between = label in self.store.open and name != "COMMIT"
         due = reply_of(self.store, line)
-        expect(answer == due, f"{line}: {answer!r}, due is {due!r}")
+        expect(answer == due, f"{line}: {answer!r}, expected {due!r}")
         expect(not is_between or not self.finds_map[label] or answer == row_due, f"{line}: {answer!r}, in the example {row_due!r}")
 
     def play(self, line):
@@ -199,7 +199,7 @@ class Sessions:
         return [label for label, status in self.status.items() if status != OPEN]
 
     def probe(self):
-        """With memory again who was refused leaves, who is absent is unknown, and a new session finds the model's map."""
+        """With memory again a refused session leaves, an absent one is unknown, and a new session finds the model's map."""
         self.program.allocations.pass_on()
         for label in self.refused():
             self.ask(f"{label} leaves", f"{label} {'Done' if self.status[label] == REFUSED else 'Unknown'} Absent")
@@ -215,7 +215,7 @@ def numbered(row):
 
 
 def hub_run(program, row, stops, counts):
-    """An example at the hub. Where `stops`, it ends behind the event that is refused."""
+    """An example at the hub. Where `stops`, it ends after the event that is refused."""
     open_store(program, "hub", counts)
     sessions = Sessions(program, counts)
     for line in numbered(row):
@@ -281,7 +281,7 @@ def refuse_to_engine(program):
 
 
 def refuse_to_hub(program, store):
-    """One who needs memory is refused, and one who comes is absent."""
+    """A session that needs memory is refused, and a new one is absent."""
     for line, due in ((WANTING[0], "1 Memory Refused"), (WANTING[1], "1 Idle Refused"), ("3 joins", "3 Memory Absent")):
         answer = program.ask(line)
         expect(answer == due, f"{line}: {answer!r} without memory")
@@ -294,7 +294,7 @@ def reads(tally, level):
 
         def ask(line):
             answer, due = program.ask(line), reply_of(store, line)
-            expect(answer == due, f"{line}: {answer!r}, due is {due!r}")
+            expect(answer == due, f"{line}: {answer!r}, expected {due!r}")
 
         with tally.run(f"{level}, before the reads"):
             open_store(program, level, Counter())
@@ -340,7 +340,7 @@ def replies_around_the_room(tally):
                 # The range is marked before memory is refused, by a read of the same keys.
                 for it in ("1 BEGIN", "1 SET a v", "1 SET b v", line, f"1 SET a {'v' * sizes[0]}", f"1 SET b {'v' * sizes[1]}"):
                     answer, due = program.ask(it), reply_of(store, it)
-                    expect(answer == due, f"{it}: {answer!r}, due is {due!r}")
+                    expect(answer == due, f"{it}: {answer!r}, expected {due!r}")
                 program.allocations.fail_all()
                 answer = program.ask(line)
                 expect(answer == ("1 Memory Refused" if more else reply_of(store, line)), f"{line}: {answer!r} without memory")

@@ -23,13 +23,13 @@ class Counts:
         self.ended, self.went_on = 0, 0
 
     def judge(self, found, due):
-        """Did the command end for want of memory, after a beginning of what is due? It may also have gone on."""
+        """Did the command run out of memory, after a beginning of the expected output? It may also have gone on."""
         status, out, err = found
         if (status, out, err) == (0, due, b""):
             self.went_on += 1
             return False
         expect((status, err) == (3, OUT_OF_MEMORY), f"status {status}, error output {err!r}")
-        expect(due.startswith(out), f"wrote {out[-60:]!r}, which is no beginning of what is due")
+        expect(due.startswith(out), f"wrote {out[-60:]!r}, which is no beginning of what is expected")
         self.ended += 1
         return True
 

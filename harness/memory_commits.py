@@ -1,11 +1,11 @@
 """What commits leave: a client writes keys again and again without a pause, so that no turn waits.
 
-Each COMMIT replaces a version, which nobody sees. The memory of the process must not grow with how many came, also while they come: a server that gives such
-versions back only at the end of its turns falls behind. Beside an old transaction a version of each key is kept. A preloaded library must count these,
-and that they are given back after its end, also while further commits come.
+Each COMMIT replaces a version, which nobody sees. The memory of the process must not grow with how many came, not even while they come: a server that
+frees such versions only at the end of its turns falls behind. During an old transaction a version of each key is kept. A preloaded library must count
+these, and that they are freed after its end, also while further commits come.
 
-Beside an old transaction, what commits have read is merged in steps. How often memory is asked for is counted too: a merge that gave back room with each of its
-moves, and not with its last, would ask for it more than twice as often.
+During an old transaction, what commits have read is merged in steps. How often memory is allocated is counted too: a merge that freed room with each
+of its moves, and not with its last, would allocate more than twice as often.
 """
 
 from ssikvd_harness.arguments import run_harness
@@ -41,7 +41,7 @@ def read_piece(client):
 
 
 def write_again(client, count, pieces):
-    """The most that was counted while so many pieces were written, from when the first replies came."""
+    """The most that was counted while this many pieces were written, from when the first replies came."""
     most = 0
     for number in range(pieces):
         client.send(piece(number))
@@ -63,16 +63,16 @@ def commits_leave_nothing(tally, server):
 
 
 def an_old_one_is_counted(tally, port, held):
-    """While an old transaction is open a version of each key is kept, and those that come after its end give these back faster than they add any."""
+    """While an old transaction is open a version of each key is kept, and commits after its end free these faster than they add any."""
     pieces = KEYS // TRANSACTIONS
-    with Connection(port) as client, Connection(port) as old, tally.run("beside an old transaction"):
+    with Connection(port) as client, Connection(port) as old, tally.run("during an old transaction"):
         expect(client.ask(PING) == old.ask(PING) == b"+PONG\r\n", "a PING was not answered")
         # Both are sessions by now, each with the memory for its inbox.
         first = held()
         expect(old.ask(BEGIN) == OK, "BEGIN was refused")
         kept = write_again(client, held, pieces) - first
-        print(f"  memory: {kept:,} bytes more are held beside an old transaction, of at least {BOUND:,}")
-        expect(kept > BOUND, f"only {kept:,} bytes more are held beside it")
+        print(f"  memory: {kept:,} bytes more are held during an old transaction, of at least {BOUND:,}")
+        expect(kept > BOUND, f"only {kept:,} bytes more are held during it")
         expect(old.ask(ABORT) == OK, "ABORT was refused")
         # A COMMIT looks at what two of them replaced, and adds what it replaces itself.
         write_again(client, held, 2 * pieces)
@@ -83,7 +83,7 @@ def an_old_one_is_counted(tally, port, held):
 
 def readings_ask_rarely(tally, port, allocations):
     """The keys fall, so that the earlier of two runs is the first of which nothing is left."""
-    with Connection(port) as client, Connection(port) as old, tally.run("reads beside an old transaction"):
+    with Connection(port) as client, Connection(port) as old, tally.run("reads during an old transaction"):
         expect(old.ask(BEGIN) == OK and old.ask(frame("GET", b"k")) == b"$-1\r\n", "the old transaction was refused")
         first = allocations.made
         for start in range(READERS * READS, 0, -READS):
@@ -91,8 +91,8 @@ def readings_ask_rarely(tally, port, allocations):
             replies = [client.reply() for _ in range(READS + 2)]
             expect(replies[0] == OK and replies[-1][:1] == b":", f"a transaction was answered {replies}")
         calls = (allocations.made - first) // READERS
-        print(f"  memory: asked for {calls} times by each transaction of {READS} reads beside an old one, of {CALLS}")
-        expect(calls <= CALLS, f"memory is asked for {calls} times by each transaction")
+        print(f"  memory: {calls} allocations by each transaction of {READS} reads during an old one, of {CALLS}")
+        expect(calls <= CALLS, f"each transaction makes {calls} allocations")
 
 
 class MemoryCommits(Harness):

@@ -1,9 +1,10 @@
 """What making the map of a log holds at most, counted by a preloaded library over `check`, which does that and nothing else.
 
-The writes of a log are collected, and then put into the map by rising key. Each time no more than half of their room is used it is given back, so at most
-the room of all writes is held beside half of the map, or half of it beside the map. A reader that gave it back at the end would hold both whole. In these logs
-the keys rise, so sorting takes no memory; keys are short and values empty, so neither takes memory of its own; the number of the writes is a power of two,
-so no room is spare; and they are fewer than what is swept while it is collected. The judge is shown to fail by the figure of such a reader.
+The writes of a log are collected, and then put into the map in key order. Each time no more than half of their room is used, the rest is freed, so at
+most the room of all writes is held with half of the map, or half of it with the map. A reader that freed it at the end would hold both whole. In
+these logs the keys rise, so sorting takes no memory; keys are short and values empty, so neither takes memory of its own; the number of the writes is
+a power of two, so no room is spare; and they are fewer than what is swept while it is collected. The judge is shown to fail by the figure of such a
+reader.
 """
 import os
 
@@ -22,7 +23,7 @@ REST = 32_768
 
 
 def most_held(place, writes):
-    """How many bytes `check` held at most over a log of so many writes."""
+    """How many bytes `check` held at most over a log of this many writes."""
     data, refusals = os.path.join(place, "data"), Refusals(place)
     numbers = range(0, writes, COMMIT_WRITES)
     write_log(data, ([(b"%016x" % number, b"") for number in range(start, start + COMMIT_WRITES)] for start in numbers))
@@ -47,7 +48,7 @@ class MemoryOpening(Harness):
                 with self.tally.run(f"{writes:,} writes"):
                     most = most_held(place, writes)
                     print(f"  memory: {most:,} bytes are held at most while the map of {writes:,} writes is made, of {judge(most, writes):,}")
-                    expect(is_refused(judge, (ENTRY_BYTES + PAIR_BYTES) * writes, writes), "room that is given back at the end is taken")
+                    expect(is_refused(judge, (ENTRY_BYTES + PAIR_BYTES) * writes, writes), "room that is freed at the end is accepted")
                     expect(most > ENTRY_BYTES * writes, "not even the writes are counted")
 
 

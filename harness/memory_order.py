@@ -1,10 +1,11 @@
-"""When memory is asked for: never between the first write of an append and the reply to its COMMIT, nor where bytes come in, where a
-reply has left, or where a session leaves.
+"""When memory is allocated: never between the first write of an append and the reply to its COMMIT, nor where bytes come in, where a reply has left,
+or where a session leaves.
 
-A preloaded library writes down, in their order, the calls on the data file, what is received and sent, and each call that asks for memory. So
-a COMMIT that is appended can't meet a want of memory any more, and a request that is answered has taken what it takes before its first byte leaves.
+A preloaded library writes down, in their order, the calls on the data file, what is received and sent, and each call that allocates. So a COMMIT that
+is appended can't run out of memory any more, and a request that is answered has taken what it takes before its first byte leaves.
 
-Commits stand beside an old transaction, so that what they wrote and read is merged; replies are short and long, and come whole and in pieces.
+Commits are made while an old transaction is open, so that what they wrote and read is merged; replies are short and long, and come whole and in
+pieces.
 """
 
 from ssikvd_harness.arguments import run_harness
@@ -23,29 +24,29 @@ OK = b"+OK\r\n"
 
 
 def judge_appends(calls):
-    """The appends of which a reply left, none of which asked for memory before that."""
+    """The appends of which a reply left, none of which allocated before that."""
     appends, is_open = 0, False
     for call in calls:
         is_open = is_open or call.kind == WRITE_AT
-        expect(not is_open or call.kind != MEMORY, f"{call.result} bytes of memory are asked for behind the first write of an append")
+        expect(not is_open or call.kind != MEMORY, f"{call.result} bytes of memory are allocated after the first write of an append")
         if is_open and call.kind == SEND:
             appends, is_open = appends + 1, False
     return appends
 
 
 def judge_replies(calls):
-    """The replies, behind whose first byte nothing asked for memory until more was received."""
+    """The replies, after whose first byte nothing was allocated until more was received."""
     replies, is_leaving = 0, False
     for call in calls:
         replies += call.kind == SEND and not is_leaving
         is_leaving = call.kind == SEND or is_leaving and call.kind != RECEIVE
-        expect(not is_leaving or call.kind != MEMORY, f"{call.result} bytes of memory are asked for once a reply has left")
+        expect(not is_leaving or call.kind != MEMORY, f"{call.result} bytes of memory are allocated once a reply has left")
     return replies
 
 
 def judge_pieces(calls):
-    """What was received, where no request is whole: nothing asked for memory."""
-    expect(not any(call.kind == MEMORY for call in calls), "memory is asked for where bytes come in, or where a session leaves")
+    """What was received, where no request is whole: nothing was allocated."""
+    expect(not any(call.kind == MEMORY for call in calls), "memory is allocated where bytes come in, or where a session leaves")
     return sum(call.kind == RECEIVE and call.result > 0 for call in calls)
 
 
@@ -86,14 +87,14 @@ def come_in_pieces(client):
 
 
 class Pieces(Connection):
-    """A connection beside a client that is answered, from which one knows that what was sent before has come in."""
+    """A connection, with another client whose replies show that what was sent before has come in."""
 
     def __init__(self, port):
         super().__init__(port)
         self.beside = Connection(port)
 
     def ask_nothing(self):
-        """Has what was sent come in, and no reply? The other client's request is served in a later turn, or in this one behind it."""
+        """Has what was sent come in, and no reply? The other client's request is served in a later turn, or in this one after it."""
         return self.beside.ask(PING) == self.beside.ask(PING) == b"+PONG\r\n" and not self.came
 
     def close(self):
@@ -102,7 +103,7 @@ class Pieces(Connection):
 
 
 def show_that_they_fail(tally, calls):
-    """Each judge sees one call for memory more."""
+    """Each judge sees one more allocation."""
     memory = Call(MEMORY, -1, 0, 536, b"")
     for judge, kind in ((judge_appends, WRITE_AT), (judge_replies, SEND), (judge_pieces, RECEIVE)):
         with tally.run(f"{judge.__name__} with a call more"):

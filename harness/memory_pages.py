@@ -1,7 +1,7 @@
 """A COMMIT that splits pages, with its n-th allocation refused, for each n.
 
 The versions' keys stand in pages of some hundred keys. Eight commits of 64 keys fill one, and the ninth splits it. Where memory is refused in it, its
-connection is closed and a new one finds the map as it was; it commits the same writes then. After that all keys are there, by rising key.
+connection is closed and a new one finds the map as it was; it commits the same writes then. After that all keys are there, in order.
 """
 
 from ssikvd_harness.arguments import run_harness
@@ -54,7 +54,7 @@ def commit_refused(server, store, allocations, n):
         again.ask([b"COMMIT"])
     else:
         due = store.request("last", [b"COMMIT"])
-        expect(reply == due, f"COMMIT: {reply[:60]!r}, due is {due[:60]!r}")
+        expect(reply == due, f"COMMIT: {reply[:60]!r}, expected {due[:60]!r}")
     return was_refused
 
 

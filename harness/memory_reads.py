@@ -1,8 +1,8 @@
 """Reads while every request for memory is refused.
 
-A session reads keys and ranges, which marks them and makes its output large enough. Then all allocations are refused, and it reads them
-again: each reply is the model's, and none has asked for memory. What does need memory closes its connection, and no other; a reply beyond
-the bytes that an output keeps needs it each time, since the room was given back.
+A session reads keys and ranges, which marks them and makes its output large enough. Then all allocations are refused, and it reads them again: each
+reply is the model's, and none has allocated. What does need memory closes its connection, and no other; a reply beyond the bytes that an output keeps
+needs it each time, since the room was freed.
 """
 
 from ssikvd_harness.arguments import run_harness
@@ -76,7 +76,7 @@ def fill(server, store):
 
 
 def read_largest(server, store):
-    """A session whose mark of the largest range is there, and whose output gave back what that reply took."""
+    """A session whose mark of the largest range is there, and whose output freed what that reply took."""
     session = Session(server, store, "largest")
     session.ask([b"BEGIN"])
     reply = session.ask(LARGE_RANGE)
@@ -96,7 +96,7 @@ def starve(server, allocations, store, tally):
     with tally.run("a SET that needs memory"):
         expect(starved.connection.ask(frame("SET", "new", "2")) is None, "it was answered")
         store.leave("starved")
-    with tally.run("the largest reply, whose room was given back"):
+    with tally.run("the largest reply, whose room was freed"):
         expect(largest.connection.ask(frame(*LARGE_RANGE)) is None, "it was answered")
         store.leave("largest")
     with tally.run("a connection that needs memory"), Connection(server.port) as refused:

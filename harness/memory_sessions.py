@@ -46,7 +46,7 @@ def held(refusals, client, turns=3):
 
 
 def bound(count):
-    """What so many sessions may keep that have nothing pending."""
+    """What this many sessions may keep that have nothing pending."""
     return count * (INBOX_MAX + BUFFERED_MAX + OUTPUT_ROOM + OUTPUT_KEPT + REST)
 
 
@@ -91,7 +91,7 @@ def unread_reply_is_counted(tally, server, refusals):
 
 
 def sending_asks_for_none(tally, server, refusals):
-    """From when the last reply waits until all of it was sent, no memory is asked for, and its buffer is given back."""
+    """From when the last reply waits until all of it was sent, no memory is allocated, and its buffer is freed."""
     allocations = refusals.of(MEMORY)
     with Connection(server.port) as client, Connection(server.port, receive_buffer=4_096) as late, tally.run("a reply that is read late"):
         late.send(BEGIN)

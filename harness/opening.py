@@ -1,4 +1,4 @@
-"""What opening a log costs as it grows: the processor time of `serve` until it listens, over a log of so many writes and over one of 16 times as many.
+"""What opening a log costs as it grows: the CPU time of `serve` until it listens, over a small log and over one with 16 times as many writes.
 
 The larger may take at most two and a half times as much for each write. There are logs of keys in random order, of keys that rise, and of few keys. Each
 is opened several times, and the least counts, since other work of the machine can only add. The judge is shown to fail by figures that grow as the
@@ -25,7 +25,7 @@ LOGS = {
 
 
 def opening_seconds(data):
-    """The least processor time until the log was open."""
+    """The least CPU time until the log was open."""
     least = None
     for _ in range(TRIES):
         with Server(data) as server:
@@ -44,7 +44,7 @@ def judge(small, large):
 
 
 def records(key_of, writes):
-    """The records of a log of so many writes."""
+    """The records of a log of this many writes."""
     for start in range(0, writes, COMMIT_WRITES):
         yield sorted((key_of(number), VALUE) for number in range(start, start + COMMIT_WRITES))
 

@@ -1,10 +1,10 @@
 """What stands in dist/: the probe, the fill of a log, backups, compaction in one command, units and alert rules.
 
-Each tool runs as docs/OPERATIONS.md tells. The probe sees a stopped store, too many transactions and too many connections. The fill of a
-log is what `check` counts. A backup that is brought up to date under load is a prefix of the commits, and so is each image that a crash
-within the run may leave. `ssikvd-compact` is killed at each of its steps, before it and after it: then a server is started, or it is run
-again, and all that was acknowledged is there. Of its commands in their order, all names that a loss of power may leave are found. Units
-are read by `systemd-analyze`, not started. At last the judges are shown scripts and backups with planted faults, and must report them.
+Each tool runs as docs/OPERATIONS.md describes. The probe sees a stopped store, too many transactions and too many connections. The fill of a log is
+what `check` counts. A backup that is brought up to date under load is a prefix of the commits, and so is each image that a crash within the run may
+leave. `ssikvd-compact` is killed at each of its steps, before it and after it: then a server is started, or it is run again, and all that was
+acknowledged is there. Of its commands in their order, all names that a loss of power may leave are found. Units are read by `systemd-analyze`, not
+started. Finally, the judges are shown scripts and backups with planted faults, and must report them.
 
 `quick` kills at few of the steps.
 """
@@ -50,7 +50,7 @@ def expect_probe(found, status, text):
 
 @contextlib.contextmanager
 def held(port, count, *requests):
-    """So many connections, each of which has sent these requests and read the replies."""
+    """This many connections, each of which has sent these requests and read the replies."""
     held = []
     try:
         for _ in range(count):
@@ -71,9 +71,9 @@ def probes(tally):
             with tally.run("the probe of a server"):
                 expect_probe(probe(server.port), 0, "transactions begin | time=")
                 expect_probe(probe(server.port, "--warning", "0"), 1, "transactions begin | time=")
-            with tally.run("the probe beside 64 transactions"), held(server.port, 64, "BEGIN"):
+            with tally.run("the probe with 64 transactions open"), held(server.port, 64, "BEGIN"):
                 expect_probe(probe(server.port), 1, "64 transactions are open")
-            with tally.run("the probe beside 128 connections"), held(server.port, 128, "PING"):
+            with tally.run("the probe with 128 connections open"), held(server.port, 128, "PING"):
                 expect(probe(server.port)[0] == 2, "the probe does not see that no connection is taken")
         port = free_port()
         with tally.run("the probe of no server"):
@@ -134,7 +134,7 @@ def fills(tally):
                     line = f"{data}: records {records} sectors {sectors} of {count}\n"
                     for words in (["ssikvd-used", data], ["ssikvd-used", "--state", state, data]):
                         found = tool(*words)
-                        expect(found == (0, line, ""), f"it printed {found}, due is {line!r}")
+                        expect(found == (0, line, ""), f"it printed {found}, expected {line!r}")
                 for _ in range(number):
                     commit(server.port, number)
         with tally.run("the rate"):
@@ -151,7 +151,7 @@ def fills(tally):
             os.replace(data + "2", data)
             due = "{0}: records {1} sectors {3} of {4}\n".format(data, *check(data))
             found = tool("ssikvd-used", "--state", state, data)
-            expect(found == (0, due, ""), f"it printed {found}, due is {due!r}")
+            expect(found == (0, due, ""), f"it printed {found}, expected {due!r}")
         with tally.run("metrics"):
             expect(tool("ssikvd-used", "--metrics", text, "--state", state, data) == (0, "", ""), "it failed")
             metrics = open(text, encoding="utf-8").read()
@@ -242,7 +242,7 @@ def backups(tally):
             found = tool("ssikvd-ship", data, copy)
             expect(found[0] == 0 and found[1].endswith(", a new copy\n"), f"it answered {found}")
             expect(log_of(copy) == log_of(data) and map_of(log_of(copy)) == map_of(log), "it is another log")
-            expect(len(log_of(copy + ".old")) > 0, "the copy of before is gone")
+            expect(len(log_of(copy + ".old")) > 0, "the previous copy is gone")
         with tally.run("the records before a damaged one"):
             shutil.copyfile(copy + ".half", copy + ".damaged")
             with loaded("ssikvd-used").Log(copy + ".damaged") as found:
@@ -262,7 +262,7 @@ def backups(tally):
 
 
 def judge_ship(ship, data, copy, is_new):
-    """Each image of a crash within a run over this copy is a log: that of before, or that of the data file. How many were looked at?"""
+    """Each image of a crash within a run over this copy is a log: the previous one, or that of the data file. How many were looked at?"""
     chance, log, images = random.Random(8), log_of(data), 0
     before, place = (None, 0) if is_new else (log_of(copy), ship.copy_of(copy).place)
     recorder = Recorder(b"", os.path.getsize(data), -1) if is_new else Recorder(open(copy, "rb").read(), os.path.getsize(data), place)
@@ -297,7 +297,7 @@ def judge_ship(ship, data, copy, is_new):
         ship.os.pwrite, ship.os.fsync = own
         with contextlib.suppress(FileNotFoundError):
             os.remove(copy + ".judged")
-    expect(not recorder.unsettled, "what it wrote last is not settled")
+    expect(not recorder.unsettled, "what it wrote last is not durable")
     expect(bytes(recorder.settled[:SECTOR * 2]) == open(data, "rb").read(2 * SECTOR), "it did not copy the log")
     return images
 
@@ -319,7 +319,7 @@ def crashes_of_backups(tally):
 
 
 def planted(ship, data, copy):
-    """A body of `ship` that copies the gate with what stands behind it."""
+    """A body of `ship` that copies the gate with what follows it."""
     own = ship.ship
 
     def wrong(log, target, place):
@@ -407,7 +407,7 @@ def judge_failure(script, step):
 
 class Names:
     """The names of a folder, each with the file that it leads to, as commands leave them. A loss of power undoes any of the changes since
-    the folder was synced, each for itself. `is_settled` has the files whose content, mode and owner are settled."""
+    the folder was synced, each independently. `is_settled` has the files whose content, mode and owner are durable."""
 
     def __init__(self):
         self.settled, self.changes, self.is_settled = {"data": "old"}, [], {"old"}
@@ -480,7 +480,7 @@ def compactions(tally):
 
 
 def whole(trial):
-    """Runs to the end, and ones that end at once since there is nothing to do or too little room. Gives the steps of the first."""
+    """Runs to the end, and ones that end at once since there is nothing to do or too little room. Returns the steps of the first."""
     status, out, err, lines = trial.run()
     expect(status == 0 and not err and "sectors are used; copied in" in out, f"it ended with {status}: {out}{err}")
     judge_whole(trial, OWNER)
@@ -496,7 +496,7 @@ def whole(trial):
 
 
 def lock(trial):
-    """The lock is held by the server, so no second one starts, and a server that isn't stopped isn't compacted. A kill gives it back."""
+    """The lock is held by the server, so no second one starts, and a server that isn't stopped isn't compacted. A kill releases it."""
     takes = "flock", "-n", "-F", "-E", "75", trial.data + ".lock", "true"
     expect(tool(*takes)[0] == 75, "a second server would start")
     found = trial.run(words=["--stop", "true", "--wait", "0.1"])

@@ -90,7 +90,7 @@ class Count(Run):
     def result(self):
         found = re.fullmatch(r"counter (\d+) tries (\d+)\n", ended(self.process))
         expect(found, "it printed something else")
-        expect(int(found[1]) == self.due, f"the counter holds {found[1]}, due is {self.due}")
+        expect(int(found[1]) == self.due, f"the counter holds {found[1]}, expected {self.due}")
         expect(self.proxy.firsts <= {b"BEGIN", b"PING"}, f"connections begin with {self.proxy.firsts}")
         return int(found[2])
 
@@ -213,7 +213,7 @@ def readme(package):
         with open(os.path.join(here, name), "w", encoding="utf-8") as file:
             file.write(code.replace("7777", str(server.port)))
         status, out, errors = shell(package.first, here)
-        expect(status == 0 and out == due, f"{name} ended with {status}, {out!r} {errors[-400:]!r}, due is {due!r}")
+        expect(status == 0 and out == due, f"{name} ended with {status}, {out!r} {errors[-400:]!r}, expected {due!r}")
 
 
 def in_pieces(reply):
@@ -260,9 +260,9 @@ SCRIPTS = [
 
 
 def judge_script(out, asked, due, counts):
-    expect(out == due + "\n", f"it printed {out!r}, due is {due}")
+    expect(out == due + "\n", f"it printed {out!r}, expected {due}")
     wrong = {name: asked[name] for name, count in counts.items() if asked[name] != count}
-    expect(not wrong, f"it asked {wrong}, due is {counts}")
+    expect(not wrong, f"it asked {wrong}, expected {counts}")
 
 
 def scripted(package, what, words, answers, due, counts):
@@ -276,7 +276,7 @@ def scripted(package, what, words, answers, due, counts):
 
 
 def scripts(package):
-    """All scripts, some at a time. The first that fails is told."""
+    """All scripts, some at a time. The first that fails is reported."""
     with concurrent.futures.ThreadPoolExecutor(SCRIPTS_AT_ONCE) as threads:
         list(threads.map(lambda script: scripted(package, *script), SCRIPTS))
 

@@ -1,12 +1,12 @@
-"""For how long `serve` looks at nobody else: the longest processor time between two polls, in the scenes of bench/pauses.py, each below its bound.
-In one of them also the most syncs between two polls, for which all others wait. `long` has the crowds, over a larger store.
+"""For how long `serve` looks at nobody else: the longest CPU time between two polls, in the scenes of bench/pauses.py, each below its bound. In one
+of them also the most syncs between two polls, for which all others wait. `long` has the crowds, over a larger store.
 
-The processor time is that of the server's thread alone, so other work of the machine is hardly in it. `polls.c` takes it. A virtual machine counts as
-processor time what its host took away meanwhile, once 29 ms in a turn of under one, and that can only add: so a scene that is above a bound runs
-again, and each part is judged by the least of up to three runs. The bounds are more than six times the longest of three runs over 10,000 keys on a
-busy machine, and more than twice in the scenes of one key written again, of ranges within each other and of many COMMITs in one turn, each of
-which is there for a wrong body that only costs. Those of `long` are three times what was measured. The judge is shown to fail: by a figure above each
-bound, and by a server that wastes more in one turn than any bound allows.
+The CPU time is that of the server's thread alone, so other work of the machine is hardly in it. `polls.c` measures it. A virtual machine counts as
+CPU time what its host took away meanwhile, once 29 ms in a turn of under one, and that can only add: so a scene that is above a bound runs again, and
+each part is judged by the least of up to three runs. The bounds are more than six times the longest of three runs over 10,000 keys on a busy machine,
+and more than twice in the scenes of one key written again, of ranges within each other and of many COMMITs in one turn, each of which is there for a
+wrong body that only costs. Those of `long` are three times what was measured. The judge is shown to fail: by a figure above each bound, and by a
+server that wastes more in one turn than any bound allows.
 """
 import argparse
 import os
@@ -69,12 +69,12 @@ def options(wasted_ms=0):
 
 def judge(what, took_ms, syncs=0):
     _, bounds_ms = scenes_and_bounds()
-    expect(took_ms <= bounds_ms[what], f"{what}: {took_ms} ms of the processor between two polls, the bound is {bounds_ms[what]}")
+    expect(took_ms <= bounds_ms[what], f"{what}: {took_ms} ms of CPU time between two polls, the bound is {bounds_ms[what]}")
     expect(what not in SYNCS or syncs <= SYNCS[what], f"{what}: {syncs} syncs between two polls, the bound is {SYNCS.get(what)}")
 
 
 def parts(scene, wasted_ms=0):
-    """What the scene is made of, each with the longest processor time and the most syncs between two polls."""
+    """What the scene is made of, each with the longest CPU time and the most syncs between two polls."""
     try:
         return [(what, (it["cpu_longest_ms"], it["most_syncs"])) for what, it in pause_scenes.measured(options(wasted_ms), scene)]
     except pause_scenes.Failure as failure:

@@ -1,10 +1,10 @@
 """Links that the service's user plants, and the tools of dist/ that root runs over that user's folder.
 
-`ssikvd-used` writes its state and its metrics, `ssikvd-compact` its lock, its new file and the old one in folders that the service's user owns.
-That user, or who has taken over the server, makes each of these names a link to a file of root's, to a name that isn't there, to another folder
-or to a pipe, or a second name of a file of root's, and does so again and again while the tool runs. Whatever the tool says, nothing outside is
-written, made, removed or given another owner or mode. Links of root's own, as an operator makes them, are followed as before. Tools with a
-planted fault must be reported.
+`ssikvd-used` writes its state and its metrics, `ssikvd-compact` its lock, its new file and the old one in folders that the service's user owns. That
+user, or whoever has taken over the server, makes each of these names a link to a file of root's, to a name that isn't there, to another folder or to
+a pipe, or a second name of a file of root's, and does so again and again while the tool runs. Whatever the tool says, nothing outside is written,
+made, removed or given another owner or mode. Links of root's own, as an operator makes them, are followed as before. Tools with a planted fault must
+be reported.
 
 It has to be run as root.
 """
@@ -123,7 +123,7 @@ class Place:
         return tool("ssikvd-compact", "--wait", "0.1", "--stop", "true", "--start", "true", data or self.data, environment=self.environment)
 
     def judge(self, found):
-        """Nothing outside has changed, and what went wrong was told."""
+        """Nothing outside has changed, and what went wrong was reported."""
         self.judge_outside(found)
         expect((found[0] == 0) == (not found[2]), f"it ended with {found}")
 
@@ -195,7 +195,7 @@ def used(tally):
             os.rename(name, name + ".real")
             os.symlink(os.path.basename(name) + ".real", name)
         expect(place.used() == (0, "", "") and os.path.isfile(place.metrics), "it refused links of root's")
-    with tally.run("ssikvd-used beside a user who plants links"), place_of() as place:
+    with tally.run("ssikvd-used against a user who plants links"), place_of() as place:
         for name in (place.state, place.state + ".tmp"):
             with planter(place, name):
                 for _ in range(60 if is_long() else 4):
@@ -262,7 +262,7 @@ def compact(tally):
         found = place.compact()
         expect(found[0] == 0 and sorted(os.listdir(place.service + "/real")) == ["shop.data", "shop.data.old"], f"it answered {found}")
         expect(os.path.islink(place.data) and os.lstat(place.service + "/real/shop.data").st_uid == USER, "it left another file")
-    with tally.run("ssikvd-compact beside a user who plants links"), place_of() as place:
+    with tally.run("ssikvd-compact against a user who plants links"), place_of() as place:
         for name in (".new", ".new.state", ".new.state.tmp", ".lock", ".old"):
             with planter(place, place.data + name):
                 for _ in range(30 if is_long() else 2):

@@ -1,19 +1,19 @@
 """Losses of power on ext4, xfs and btrfs, as Linux mounts them, over a disk that loses what wasn't flushed.
 
-The disk is a loop device over the file of recorder.c, which writes down each write and each flush that the file system sends. Over it a life is
-played: `create`, openings, commits, kills, `compact`, a swap of names, `ssikvd-ship`, `ssikvd-restore`. Then the power is cut at any of these
-writes and flushes: what came before the last flush is there, and of the writes behind it any are, in any order, whole or torn by sector. The
-file system is mounted as it was left, and the files on it are read by a reader of the log in plain Python, and some by `check`: each has every
-commit that was answered, in order, and nothing else than what was asked for. What one cut left the next life goes on with.
+The disk is a loop device over the file of recorder.c, which writes down each write and each flush that the file system sends. Over it a run is
+played: `create`, openings, commits, kills, `compact`, a swap of names, `ssikvd-ship`, `ssikvd-restore`. Then the power is cut at any of these writes
+and flushes: what came before the last flush is there, and of the writes after it any are, in any order, whole or torn by sector. The file system is
+mounted as it was left, and the files on it are read by a reader of the log in plain Python, and some by `check`: each has every commit that was
+answered, in order, and nothing other than what was asked for. What one cut left, the next run goes on with.
 
     power_cuts.py quick             20 cuts of each file system
     power_cuts.py long              2,600 cuts of each
     power_cuts.py --cuts N --only ext4 --seed N
-    power_cuts.py --sight           syncs are left out, of the gate, of a record, of the folder behind a swap, and a disk leaves noise in the
+    power_cuts.py --sight           syncs are left out, of the gate, of a record, of the folder after a swap, and a disk leaves noise in the
                                     physical sector that it was writing: each must be seen
 
-By btrfs what one sync settles is there whole or not at all: it writes to free places, and its superblock behind a flush. So there the sync of a
-record before its gate isn't missed. It is mounted once more with `nodatacow`, as `chattr +C` has it for one folder, which writes in place.
+With btrfs what one sync makes durable is there whole or not at all: it writes to free places, and its superblock after a flush. So there the sync of
+a record before its gate isn't missed. It is mounted once more with `nodatacow`, as `chattr +C` has it for one folder, which writes in place.
 
 It needs root, FUSE, loop devices, and for each file system the tool that makes it; what isn't there is left out. It mounts in a namespace of its
 own, in memory.
@@ -63,7 +63,7 @@ SIGHT_MAX = 2_000    # cuts within which a sync that is left out must be seen
 # The disk
 
 class Disk:
-    """An image of a file system, the writes and flushes of the life that is played on it, and where it is mounted."""
+    """An image of a file system, the writes and flushes of the run that is played on it, and where it is mounted."""
 
     def __init__(self, place, kind):
         self.counts = collections.Counter()    # of what was done
@@ -150,7 +150,7 @@ def torn(chance, write):
 
 
 def survivors(chance, writes):
-    """The writes behind the last flush that a loss of power leaves made, in the order in which they were."""
+    """The writes after the last flush that a loss of power leaves made, in the order in which they were."""
     how = chance.choice(("none", "all", "beginning", "some", "some", "reordered", "torn", "torn"))
     if how == "none":
         return []
@@ -193,11 +193,11 @@ class Due:
             return
         holds = any(least <= len(found) <= len(log) and found == log[:len(found)] for log, least in self.logs)
         wanted = [f"{least} to {len(log)}" for log, least in self.logs]
-        expect(holds, f"{name} has {len(found)} records, or others; due are {' or '.join(wanted)}")
+        expect(holds, f"{name} has {len(found)} records, or others; expected {' or '.join(wanted)}")
 
 
 class Timeline:
-    """What is due of each name, from which place of the record on."""
+    """What is expected of each name, from which place of the record on."""
 
     def __init__(self, logs):
         self.events = [(0, name, Due((log, len(log)))) for name, log in logs.items()]
@@ -213,13 +213,13 @@ class Timeline:
         return found
 
 
-# A life
+# A run
 
 DATA, OLD, COPIED, BACKUP, BEFORE = "F", "F.old", "G", "B", "F.before-restore"
 
 
 class Life:
-    """What is done to the files of a disk, and what is due of them meanwhile."""
+    """What is done to the files of a disk, and what is expected of them meanwhile."""
 
     def __init__(self, disk, chance, logs, environment=None):
         self.disk, self.chance, self.environment = disk, chance, environment
@@ -243,7 +243,7 @@ class Life:
         self.disk.counts["created"] += 1
 
     def commits(self, count):
-        """A server over the file, which is killed behind so many commits."""
+        """A server over the file, which is killed after this many commits."""
         with Server(self.path(DATA), self.environment) as server:
             expect(server.is_listening(), f"no server: {server.error_text()!r}")
             self.whole(DATA, self.logs[DATA])    # also where it took this name before
@@ -285,7 +285,7 @@ class Life:
         self.disk.counts["swaps"] += 1
 
     def forget(self, name):
-        """Nothing is due of a name any more, and it goes."""
+        """Nothing is expected of a name any more, and it goes."""
         self.timeline.note(self.disk.position(), name, None)
         self.logs.pop(name, None)
         with contextlib.suppress(FileNotFoundError):
@@ -344,7 +344,7 @@ def some_writes(chance):
 # Cuts
 
 class Cuts:
-    """Losses of power of what a life left recorded, on a disk that keeps these of the writes behind the last flush."""
+    """Losses of power of what a run left recorded, on a disk that keeps these of the writes after the last flush."""
 
     def __init__(self, disk, life, chance, tally, kept_of=survivors):
         self.disk, self.life, self.chance, self.tally, self.kept_of, self.operations = disk, life, chance, tally, kept_of, disk.operations()
@@ -352,7 +352,7 @@ class Cuts:
         self.settled = 0    # of the operations so many are in the durable image
 
     def play(self, count):
-        """So many cuts at rising places. Answers what the last of them left of each file."""
+        """This many cuts at ascending places. Returns what the last of them left of each file."""
         left = {}
         for at in sorted(self.chance.randrange(len(self.operations) + 1) for _ in range(count)):
             with self.tally.run(f"{self.disk.kind}, cut behind {at} of {len(self.operations)} operations"):
@@ -398,11 +398,11 @@ class Cuts:
 
 
 def play(disk, chance, tally, cuts, environment=None, played=Life.play, kept_of=survivors):
-    """Lives and cuts of a file system, until there were so many or the first deviation. What the last cut of a life left is the next one's
-    disk. How many cuts there were."""
+    """Runs and cuts of a file system, until there were this many or the first deviation. What the last cut of a run left is the next one's disk. How
+    many cuts there were."""
     logs, done, lives = {}, 0, 0
     while done < cuts and not tally.deviations:
-        with tally.run(f"{disk.kind}, life {lives + 1}"):
+        with tally.run(f"{disk.kind}, run {lives + 1}"):
             with disk.recorded():
                 life = Life(disk, chance, logs, environment)
                 played(life)
@@ -428,7 +428,7 @@ def start_anew(disk):
 
 # What must be seen
 
-# What is played where a sync is left out, and on which file systems. With xfs and btrfs the sync of a file that was renamed settles its name too.
+# What is played where a sync is left out, and on which file systems. With xfs and btrfs the sync of a renamed file makes its name durable too.
 SIGHTS = {
     "gate": (Life.play, tuple(MAKERS)),
     "record": (Life.play, ("ext4", "xfs", "btrfs-nodatacow")),
@@ -437,7 +437,7 @@ SIGHTS = {
 
 
 def sight(tally, place, kind, seed):
-    """A server that leaves a sync out is seen within so many cuts, and so is a disk that doesn't write physical sectors whole or not at all."""
+    """A server that leaves out a sync is seen within this many cuts, and so is a disk that doesn't write physical sectors whole or not at all."""
     for which, (played, kinds) in SIGHTS.items():
         if kind in kinds:
             environment = {**os.environ, "LD_PRELOAD": SKIPS, "SKIPPED_SYNC": which}
@@ -446,7 +446,7 @@ def sight(tally, place, kind, seed):
 
 
 def expect_seen(tally, place, kind, seed, what, *played, **more):
-    """Lives and cuts that must deviate."""
+    """Runs and cuts that must deviate."""
     own, begun = Tally(what), time.monotonic()
     with folder_in(place) as here:
         done, _ = play(Disk(here, kind), random.Random(seed), own, SIGHT_MAX, *played, **more)
@@ -489,7 +489,7 @@ def inside(tally, asked):
                 disk = Disk(place, kind)
                 done, lives = play(disk, random.Random(f"{asked.seed} {kind}"), tally, cuts)
                 counts = ", ".join(f"{count:,} {name}" for name, count in disk.counts.items())
-                more += f"; {kind}: {done:,} cuts of {lives} lives ({counts}), {time.monotonic() - begun:.0f} s"
+                more += f"; {kind}: {done:,} cuts of {lives} runs ({counts}), {time.monotonic() - begun:.0f} s"
                 if tally.count() > own:
                     break
         finally:
@@ -511,10 +511,10 @@ def why_left_out():
 
 
 def options(parser):
-    parser.add_argument("--cuts", type=int, help="so many of each file system")
-    parser.add_argument("--only", action="append", choices=tuple(MAKERS), help="this file system alone; may be given again")
+    parser.add_argument("--cuts", type=int, help="how many cuts of each file system")
+    parser.add_argument("--only", action="append", choices=tuple(MAKERS), help="only this file system; may be given more than once")
     parser.add_argument("--seed", type=int, default=2_009)
-    parser.add_argument("--sight", action="store_true", help="shows that a sync that is left out is seen")
+    parser.add_argument("--sight", action="store_true", help="show that a sync that is left out is seen")
     parser.add_argument(INSIDE, action="store_true", help=argparse.SUPPRESS)    # with mounts of its own
 
 

@@ -55,7 +55,7 @@ def are_there(what, *names):
 
 @contextlib.contextmanager
 def trial(tally, what):
-    """One run over a server of its own, in which a refusal that isn't looked for is a deviation. Gives a folder and the server."""
+    """One run over a server of its own, in which a refusal that isn't looked for is a deviation. Yields a folder and the server."""
     with tally.run(what), folder() as place:
         data = os.path.join(place, "data")
         create(data, 1_024)
@@ -206,7 +206,7 @@ def typed(tally):
                     command, due = command.replace(port, new), [line.replace(port, new) for line in due]
                 with tally.run(f"{DOCUMENT}: {command}"):
                     found = shell.type(command, len(due))
-                    expect(found == (due, 0), f"{command} printed {found}, due is {due}")
+                    expect(found == (due, 0), f"{command} printed {found}, expected {due}")
         finally:
             shell.end()
 
@@ -336,7 +336,7 @@ def limits(tally):
             leave(late)
             leave(clients[0])
             expect(next_one.replies.readline() == b"+OK\r\n", "who waited was not served when one left")
-            expect(client(server.port).ask("PING") == b"PONG", "a client beside the proxy is not served")
+            expect(client(server.port).ask("PING") == b"PONG", "a client that bypasses the proxy is not served")
             expect(len(clients) == 60 and server.descriptors() < 60 + 20, f"the server has {server.descriptors()} descriptors")
             server.process.kill()
             wait_for(lambda: state(place)[0] == "DOWN", f"with the server gone the check says {state(place)}")
@@ -373,7 +373,7 @@ def ended(process):
 
 
 def drained(tally):
-    """Who is in a transaction ends it, who comes meanwhile is turned away, and who stays longer is cut."""
+    """A client in a transaction ends it, one that comes meanwhile is turned away, and one that stays longer is cut."""
     if not are_there("haproxy that is drained", "haproxy"):
         return
     with trial(tally, "haproxy that is drained") as (place, server), haproxy(place, server) as port:
@@ -388,7 +388,7 @@ def drained(tally):
         leave(store)
         expect(ended(process) == (0, "drained, 0 cut\n", ""), "it wasn't drained")
         expect(ended(drain(place, "ready")) == (0, "", "") and is_served(lambda: client(port)), "it wasn't put back")
-    with trial(tally, "haproxy that is drained beside who stays") as (place, server), haproxy(place, server) as port:
+    with trial(tally, "haproxy that is drained while clients stay") as (place, server), haproxy(place, server) as port:
         store = client(port)
         store.ask("BEGIN")
         expect(ended(drain(place, "drain", "--seconds", "0.5")) == (0, "drained, 1 cut\n", ""), "it wasn't cut")

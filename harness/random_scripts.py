@@ -96,7 +96,7 @@ def by_program(words, lines):
 
 
 def expect_alike(lines, due, printed):
-    """Each line is answered as is due."""
+    """Each line is answered as expected."""
     if len(printed) != len(due):
         raise Deviation(f"{len(printed)} answers to {len(due)} lines")
     for place, (line, wanted, got) in enumerate(zip(lines, due, printed), 1):
@@ -118,7 +118,7 @@ def play(lines, answers):
 
 
 def expect_due(lines, due, answers, seconds):
-    """The lines are answered as is due. Of a script that deviates the few lines are told with which it still does, looked for at most so long."""
+    """The lines are answered as expected. Of a script that deviates the few lines that still do are reported, searched for at most this long."""
     try:
         expect_alike(lines, due, answers(lines))
     except Deviation as found:

@@ -1,10 +1,11 @@
 #!/usr/bin/env python3
-"""All that the promises of docs/PROOFS.md are said with: `reading.py --write` writes docs/DEFINITIONS.md, `reading.py` looks whether it can be written.
+"""All that the promises of docs/PROOFS.md are stated with: `reading.py --write` writes docs/DEFINITIONS.md, `reading.py` checks that it can be
+written.
 
-It takes the clauses that PROOFS.md names out of the sources, follows every name in them through the definitions of the crates
-(crates/NAME/specs) down to the library's, and prints these in reading order: each after those that it needs, with its text. A name that a file
-hands on by `pub use` is followed to where it is defined. It fails where a clause or a definition is not there, or where a name of a file of specs/
-is neither defined, handed on, a constructor nor a field there. The page isn't kept. Needs Python 3 alone.
+It takes the clauses that PROOFS.md names out of the sources, follows every name in them through the definitions of the crates (crates/NAME/specs)
+down to the library's, and prints these in reading order: each after those that it needs, with its text. A name that a file passes on by `pub use` is
+followed to where it is defined. It fails where a clause or a definition is not there, or where a name of a file of specs/ is neither defined, passed
+on, a constructor nor a field there. The page isn't kept. Needs Python 3 alone.
 """
 import functools
 import os
@@ -92,7 +93,7 @@ def definitions(path):
 
 @functools.cache
 def handed_on(path):
-    """The names that a file of specs/ hands on: each with its module and its name there."""
+    """The names that a file of specs/ passes on: each with its module and its name there."""
     return imports("\n".join(line.removeprefix("pub ") for line in read(path).split("\n") if line.startswith("pub use ")))
 
 
@@ -119,7 +120,7 @@ def place_of(module, name):
 
 
 def defined_at(path, name):
-    """Where a name of a file of specs/ is defined: there, or where it is handed on from; a constructor or a field by its definition."""
+    """Where a name of a file of specs/ is defined: there, or where it is passed on from; a constructor or a field by its definition."""
     if name in definitions(path):
         return "definition", path, name
     if name in handed_on(path):
@@ -204,7 +205,7 @@ def anchor(path, name):
 
 
 def needed(path, name, shown):
-    """The definitions of the page that this one is said with."""
+    """The definitions of the page that this one is stated with."""
     own, names = definitions(path), imports(read(path))
     for word in dict.fromkeys(words("\n".join(own[name]))):
         found = (path, word) if word in own else (place_of(*names[word]) or (None,))[1:] if word in names else None
@@ -235,7 +236,7 @@ def section(reading, head, begun, intro=""):
     """What was read since, under its head."""
     further = reading.order[begun:]
     if not further:
-        return [f"## {head}", "", "All that this is said with stands above.", ""]
+        return [f"## {head}", "", "All that this is stated with stands above.", ""]
     out = [f"## {head}", "", f"{counted(further)}.{intro}", ""]
     shown = {(path, name) for path, name, _ in reading.order}
     for path, name, _ in further:
@@ -244,7 +245,7 @@ def section(reading, head, begun, intro=""):
 
 
 def follow_promise(reading, head, clauses, named):
-    """All that a promise's clauses are said with."""
+    """All that a promise's clauses are stated with."""
     for function, clause, path in clauses:
         text, names = clause_of(path, function, clause)
         reading.follow(text, names)
@@ -254,7 +255,7 @@ def follow_promise(reading, head, clauses, named):
 
 
 def follow_unknown(reading):
-    """What the relation is said with that may be unknown."""
+    """What the relation that may be unknown is stated with."""
     reading.seen.discard(UNKNOWN)
     reading.add("definition", *UNKNOWN)
 
@@ -269,8 +270,8 @@ BEHIND_INTRO = (
 HEAD = """# Definitions
 
 [PROOFS.md](PROOFS.md) names for each promise the clauses that carry it, and what to read first. Here is the rest: every definition that these clauses are
-said with, down to the words of the library (numbers, lists, options), with its text. Each stands after those that it needs, where it is needed first.
-Lines are counted without comments. `harness/reading.py --write` finds the definitions by their names and writes this page.
+stated with, down to the words of the library (numbers, lists, options), with its text. Each stands after those that it needs, where it is first
+needed. Lines are counted without comments. `harness/reading.py --write` finds the definitions by their names and writes this page.
 
 Whoever has read them knows what is claimed; the proofs need not be read. The clauses also speak of types of the code:
 """
@@ -295,7 +296,7 @@ def page():
         by_file.setdefault(path, []).append(f"`{name}`")
     types = [f"- {', '.join(names)} in [{path.removeprefix('crates/')}](../{path})" for path, names in by_file.items()]
     rows = [f"| [{head}](#{anchor_of(head)}) | {number} | {lines} |" for head, number, lines in table]
-    heads = ["| What is said with them | Definitions | Lines |", "|---|---|---|"]
+    heads = ["| What is stated with them | Definitions | Lines |", "|---|---|---|"]
     return "\n".join([HEAD, *types, "", f"In all {counted(reading.order)}:", "", *heads, *rows, "", *parts]).rstrip() + "\n"
 
 
@@ -317,7 +318,7 @@ def write_page(who, name, made):
 
 
 def instead(asked):
-    """Writes the page where that is asked for."""
+    """Writes the page if asked to."""
     return write_page("reading", PAGE, page) if asked.write else None
 
 

@@ -93,7 +93,7 @@ class Library:
             return ran.stdout.splitlines(), proxy.names[b"COMMIT"], commits
 
     def sends_again(self, mode):
-        """Does it send a request again, or a batch? And does it connect anew for the next request?"""
+        """Does it send a request again, or a batch? And does it reconnect for the next request?"""
         each, requests, commits = self.tell(mode, "each", LAST_REPLY, WHOLE + "GET a\n")
         expect(commits == 1, f"COMMIT was sent {requests} times and made {commits} commits")
         _, batches, made = self.tell(mode, "whole", ALL_REPLIES, WHOLE)
@@ -104,7 +104,7 @@ class Library:
         """How a refusal of its own and one of another's doing arrive."""
         lone, _, _ = self.tell("as-is", "each", None, "GET a\n")
         conflict, _, commits = self.tell("as-is", "each", CONFLICT, WHOLE)
-        expect(commits == 0, f"{commits} commits were made beside another")
+        expect(commits == 0, f"{commits} commits were made despite a conflict")
         return arrival(lone[-1]), arrival(conflict[-1])
 
 
@@ -129,7 +129,7 @@ def compare(tally, library, row):
 
     with tally.run(f"{library.name}, as it is by default"):
         again, anew = library.sends_again("as-is")
-        expect([yes(again), yes(anew)] == row[:2], f"it sends again: {yes(again)}, connects anew: {yes(anew)}; docs/CLIENTS.md has {row[:2]}")
+        expect([yes(again), yes(anew)] == row[:2], f"it sends again: {yes(again)}, reconnects: {yes(anew)}; docs/CLIENTS.md has {row[:2]}")
     with tally.run(f"{library.name}, switched off"):
         again, _ = library.sends_again("off")
         expect(not again, "it sends again though that is switched off")

@@ -1,11 +1,11 @@
 """`ssikvd-restore`: what it refuses before anything is stopped, what it leaves, and what a kill or a loss of power leaves at each step. And the
-copies of before that `ssikvd-ship` keeps, with its kills, its metrics, the links that it refuses, and its unit's command.
+previous copies that `ssikvd-ship` keeps, with its kills, its metrics, the links that it refuses, and its unit's command.
 
-A sparse copy is put in the place of a served file: each sector of the new one has its place, owner and mode are as before, the file of before
-is kept, and the server serves the copy's map. Then the tool is killed before and after each of its calls: the data file is the old or the new one, byte by
+A sparse copy is put in the place of a served file: each sector of the new one has its place, owner and mode are as before, the previous file is kept,
+and the server serves the copy's map. Then the tool is killed before and after each of its calls: the data file is the old or the new one, byte by
 byte, `check` reads it, a server starts over it, and the tool that is run again goes on to its end. Of its calls in their order, all names that a loss
 of power may leave are found. It is refused, with the server left running, where the copy is damaged or of format 1, where there is no room, where a
-file of an earlier restore would be lost, and where another user planted links; none of these is followed. At last tools with a planted fault, which
+file of an earlier restore would be lost, and where another user planted links; none of these is followed. Finally, tools with a planted fault, which
 must be reported.
 """
 import contextlib
@@ -33,7 +33,7 @@ CALLS = ("open", "posix_fallocate", "pwrite", "fchown", "fchmod", "fsync", "link
 
 
 class Case:
-    """A folder with a data file that has other commits than a copy beside it, and the commands that stop and start a server."""
+    """A folder with a data file that has other commits than a copy next to it, and the commands that stop and start a server."""
 
     def __init__(self, place):
         self.place, self.copy, self.data = place, os.path.join(place, "backup"), os.path.join(place, "data")
@@ -51,7 +51,7 @@ def names(case):
 
 
 class Files:
-    """The bytes of a data file and of a copy, made once. The new file is the copy without what stands behind its last closed gate."""
+    """The bytes of a data file and of a copy, made once. The new file is the copy without what follows its last closed gate."""
 
     def __init__(self, place):
         old, source, copy = (os.path.join(place, name) for name in ("old", "source", "copy"))
@@ -85,7 +85,7 @@ def judge_restored(case, files):
     """After a run to its end: the names, the bytes, each sector in its place, owner and mode."""
     expect(names(case) == FILES, f"it left {sorted(names(case))}")
     expect(bytes_of(case.data) == files.new, "the data file is not the copy")
-    expect(bytes_of(case.data + ".before-restore") == files.old, "the file of before was not kept")
+    expect(bytes_of(case.data + ".before-restore") == files.old, "the previous file was not kept")
     now = os.stat(case.data)
     expect((stat.S_IMODE(now.st_mode), now.st_uid, now.st_gid) == OWNER, f"mode and owner are {oct(now.st_mode), now.st_uid, now.st_gid}")
     expect(512 * now.st_blocks >= len(files.new), f"of {len(files.new)} bytes {512 * now.st_blocks} are on the disk")
@@ -150,9 +150,9 @@ def judge_kill(files, script, number, is_after, serves):
         now = bytes_of(case.data)
         expect(now in (files.old, files.new), "a kill leaves a data file that is neither")
         if "data.before-restore" in found:
-            expect(bytes_of(case.data + ".before-restore") == files.old, "a kill leaves another file of before")
+            expect(bytes_of(case.data + ".before-restore") == files.old, "a kill leaves another previous file")
         else:
-            expect(now == files.old, "a kill leaves no file of before")
+            expect(now == files.old, "a kill leaves no previous file")
         expect(check(case.data)[0] == (12 if now == files.old else 7), "check counts other records")
         if serves:
             shutil.copy(case.data, case.place + "/served")
@@ -186,7 +186,7 @@ def kills(tally, files):
 
 class Power(Calls):
     """The calls as they are made, and the names that a loss of power may leave after each: any of the changes since the folder was synced is undone,
-    each for itself. A file counts once its bytes, mode and owner are settled."""
+    each independently. A file counts once its bytes, mode and owner are durable."""
 
     def __init__(self):
         super().__init__()
@@ -242,7 +242,7 @@ class Power(Calls):
                 self.cases += 1
                 expect(found.get("data") in self.settled, f"after {self.made[-1:]} a loss of power leaves {found}")
                 expect(not is_start or found["data"] == "new", f"the server is started, and a loss of power leaves {found}")
-                expect("old" in found.values(), f"a loss of power leaves nothing of the file of before: {found}")
+                expect("old" in found.values(), f"a loss of power leaves nothing of the previous file: {found}")
 
 
 def judge_power(files, script):
@@ -343,7 +343,7 @@ def locks(tally, files):
 
 
 def two_at_once(case, files):
-    """Each of two at once ends with the copy in its place and the file of before kept, or is refused."""
+    """Each of two at once ends with the copy in its place and the previous file kept, or is refused."""
     answers = []
     threads = [threading.Thread(target=lambda: answers.append(restore(case, *case.words[:4], "--wait", "10", *case.words[6:]))) for _ in range(2)]
     for thread in threads:
@@ -361,7 +361,7 @@ def links(tally, files):
         os.symlink("real", case.data)
         found = restore(case)
         expect(found[0] == 0 and os.path.islink(case.data) and bytes_of(case.place + "/real") == files.new, f"it answered {found}")
-        expect(bytes_of(case.place + "/real.before-restore") == files.old, "the file of before was not kept")
+        expect(bytes_of(case.place + "/real.before-restore") == files.old, "the previous file was not kept")
     for name in ("data.lock", "data.before-restore"):
         with tally.run(f"{name} is a link"), files.case() as case, folder() as elsewhere:
             target = os.path.join(elsewhere, "target")
@@ -456,7 +456,7 @@ class Copies:
 
     @contextlib.contextmanager
     def shipped(self, count, keep):
-        """A copy of the first so many, one after another."""
+        """A copy of the first `count` data files, one after another."""
         with folder() as place:
             copy = os.path.join(place, "copy")
             for name in self.data[:count]:
@@ -465,7 +465,7 @@ class Copies:
             yield copy
 
     def kept(self, copy):
-        """Which of the data files the copy and those of before are, by their names."""
+        """Which of the data files the copy and the previous ones are, by their names."""
         return {name: self.bytes.index(bytes_of(os.path.join(os.path.dirname(copy), name)))
                 for name in os.listdir(os.path.dirname(copy)) if name != "copy.lock"}
 
@@ -492,13 +492,13 @@ def keeping(tally, copies):
 
 
 def judge_killed_ship(copies, number, is_after):
-    """A run that begins a new copy is killed: the copy stands whole, and of those of before the last alone may go. Run again, it goes on."""
+    """A run that begins a new copy is killed: the copy stands whole, and of the previous ones the last alone may go. Run again, it goes on."""
     with copies.shipped(3, 2) as copy:
         words = ["--keep", "2", copies.data[3], copy]
         expect(killed("ssikvd-ship", words, number, is_after) == signal.SIGKILL, "it was not killed")
         found = {name: bytes_of(os.path.join(os.path.dirname(copy), name)) for name in os.listdir(os.path.dirname(copy)) if name != "copy.new"}
-        expect(found["copy"] in copies.bytes[2:4], "the copy is neither that of before nor the new one")
-        expect(all(content in found.values() for content in copies.bytes[1:3]), f"one of before is gone: {sorted(found)}")
+        expect(found["copy"] in copies.bytes[2:4], "the copy is neither the previous one nor the new one")
+        expect(all(content in found.values() for content in copies.bytes[1:3]), f"a previous one is gone: {sorted(found)}")
         found = tool("ssikvd-ship", *words)
         expect(found[0] == 0, f"run again it answered {found}")
         expect(copies.kept(copy) == {"copy": 3, "copy.old": 2, "copy.old.2": 1}, f"run again it keeps {copies.kept(copy)}")
@@ -525,7 +525,7 @@ def links_of_ships(tally, copies):
     for name in ("copy.lock", "copy.new", "copy.old", "copy", "text", "text.tmp"):
         if os.getuid() != 0 and name in ("copy", "text"):
             continue
-        with tally.run(f"ssikvd-ship beside a link {name}"), copies.shipped(1, 1) as copy, folder() as elsewhere:
+        with tally.run(f"ssikvd-ship next to a link {name}"), copies.shipped(1, 1) as copy, folder() as elsewhere:
             target, link = os.path.join(elsewhere, "target"), os.path.join(os.path.dirname(copy), name)
             with open(target, "wb") as file:
                 file.write(copies.bytes[1] if name == "copy" else b"of root")
@@ -568,14 +568,14 @@ def unit(tally, copies):
 
 WRONG = {
     "a swap that keeps nothing": ("        data.keep(BEFORE)\n", "        pass\n"),
-    "a swap that is not settled": ("    data.take(more)\n    data.settle()\n", "    data.take(more)\n"),
-    "a file of before that is not settled": ("    data.settle()\n    data.take(more)\n", "    data.take(more)\n"),
-    "a new file that is not settled": ("        os.fsync(file)\n        look_again", "        look_again"),
+    "a swap that is not durable": ("    data.take(more)\n    data.settle()\n", "    data.take(more)\n"),
+    "a previous file that is not durable": ("    data.settle()\n    data.take(more)\n", "    data.take(more)\n"),
+    "a new file that is not durable": ("        os.fsync(file)\n        look_again", "        look_again"),
     "a file with holes": ("        os.posix_fallocate(file, 0, size)",
                           "        os.ftruncate(file, size); return write_all(file, read_all(copy.file, SECTOR * copy.place, 0), 0)"),
     "a file that is written in place": ("    file = data.open(os.O_RDWR | os.O_CREAT | os.O_EXCL, more)", "    file = data.open(os.O_RDWR); data.keep(more)"),
     "an owner that isn't kept": ("        give_owner(file, data)\n", ""),
-    "a rename of the file of before": ("        data.keep(BEFORE)\n", "        os.rename(data.path, data.path + BEFORE)\n"),
+    "a rename of the previous file": ("        data.keep(BEFORE)\n", "        os.rename(data.path, data.path + BEFORE)\n"),
 }
 
 

@@ -173,7 +173,7 @@ class Process(unittest.TestSuite):
 
 
 class Several(unittest.TestSuite):
-    """Harnesses that run at the same time, so many of them."""
+    """Harnesses that run at the same time, this many of them."""
 
     def __init__(self, processes: list[Process], jobs: int) -> None:
         self.jobs = jobs
@@ -201,7 +201,7 @@ def suite_of(form: str, chosen: dict[str, tuple[str, ...]], jobs: int, is_to_sto
 def options(parser: argparse.ArgumentParser) -> None:
     parser.add_argument("words", nargs="*", metavar="quick | long | NAME", help="the form, and the harnesses; both forms of all where none is named")
     add_unittest(parser)
-    parser.add_argument("--jobs", type=int, default=int(os.environ.get("JOBS") or 4), metavar="N", help="so many at a time; $JOBS, or 4")
+    parser.add_argument("--jobs", type=int, default=int(os.environ.get("JOBS") or 4), metavar="N", help="how many at a time (default $JOBS, or 4)")
     parser.add_argument("--list", action="store_true", help="print their names with their forms, and run nothing; with -v those of their tests")
 
 

@@ -84,7 +84,7 @@ class Counts:
 
 
 class Clients:
-    """The connections of an example, by label, beside the model of what they are answered."""
+    """The connections of an example, by label, with the model of what they are answered."""
 
     def __init__(self, server, failure, calls):
         self.server, self.failure, self.calls, self.store = server, failure, calls, Store(SECTORS)
@@ -109,7 +109,7 @@ class Clients:
         if reply is None:
             self._was_closed(label)
         else:
-            expect(reply == due, f"{label} {b' '.join(parts)!r}: {reply!r}, due is {due!r}")
+            expect(reply == due, f"{label} {b' '.join(parts)!r}: {reply!r}, expected {due!r}")
         if reply is None or self.failure.kind != RECEIVE:  # a read may also have failed behind the reply
             self.failed_before = self.calls.failed
 

@@ -4,10 +4,10 @@
     soak.py --again SEED ROUND           a round of this seed again
     soak.py --sight                      shows that each kind of round sees a program that is wrong on purpose
 
-    scripts      random scripts by `play`, and by the plain engine where it is built; each line beside the model
+    scripts      random scripts by `play`, and by the plain engine where it is built; each line against the model
     wire         random scripts over sockets: frames cut in two, connections lost within a request, SIGKILL between two; the file at the end
     streams      streams of random bytes, cut frames and changed frames, answered as the model does to the byte
-    scenes       floods, crowds, resets and broken frames beside a good client
+    scenes       floods, crowds, resets and broken frames next to a good client
     closed       commands with standard streams closed
     kills        SIGKILL amid commits: each acknowledged one is found
     compactions  SIGKILL amid `compact`: the old file as it was, the new one refused or whole
@@ -23,9 +23,9 @@ file only grows.
 A seed gives the same operations again. How threads and processes meet isn't the seed's, so a round of kills, histories, scenes or lossy may
 fail only now and then.
 
-SIGINT, SIGTERM or SIGHUP ends it behind the round that is played, which takes seconds, on a loaded machine one of `compactions` minutes, and where
-it failed a minute more. It takes one processor or two, and some megabytes in the folder for temporary files. The status is 0 where all held, 1
-where a round failed, and 2 where the command line is refused or a program is missing. With --sight it is 1 where something wasn't seen.
+SIGINT, SIGTERM or SIGHUP ends it after the round that is played, which takes seconds, on a loaded machine one of `compactions` minutes, and where it
+failed a minute more. It takes one CPU or two, and some megabytes in the folder for temporary files. The status is 0 where all held, 1 where a round
+failed, and 2 where the command line is refused or a program is missing. With --sight it is 1 where something wasn't seen.
 """
 import argparse
 import contextlib
@@ -72,7 +72,7 @@ class LeftOut(Exception):
 
 
 def judge(tally):
-    """The first deviation of what was counted is told."""
+    """The first deviation of what was counted is reported."""
     expect(not tally.deviations, "; ".join(f"{places[0]}: {text}" for text, places in tally.deviations.items()))
 
 
@@ -115,7 +115,7 @@ class Wire:
         connection.send(request[:cut])
         connection.send(request[cut:])
         found, due = connection.reply(), self.store.request(label, parts)
-        expect(found == due, f"{line}: {found!r}, due is {due!r}")
+        expect(found == due, f"{line}: {found!r}, expected {due!r}")
 
     def lose(self, line, cut):
         """A connection is closed within a request, which isn't executed, and its transaction is aborted."""
@@ -137,7 +137,7 @@ class Wire:
 
 
 def wire_operations(chance):
-    """A random script with where each request is cut, lost connections, and kills, behind which sessions begin again."""
+    """A random script with where each request is cut, lost connections, and kills, after which sessions start again."""
     labels, ended = set(), set()
     for line in random_scripts.script_of(chance.randrange(1 << 48)):
         label, size, kind = line.split(" ")[0], len(frame(*request_of(line)[1])), chance.random()
@@ -247,7 +247,7 @@ def closed_streams(seed):
 # Kills, histories, crashes
 
 def play_kills(lives):
-    """How many commits were acknowledged, and how many more were found, over lives of so many seconds."""
+    """How many commits were acknowledged, and how many more were found, over runs of this many seconds each."""
     acknowledged, more, store = 0, 0, None
     with folder() as place:
         for number, life in enumerate(lives):
@@ -489,12 +489,12 @@ def sight(names):
 def arguments():
     parser = argparse.ArgumentParser(prog="soak.py", description=__doc__, formatter_class=argparse.RawDescriptionHelpFormatter)
     way = parser.add_mutually_exclusive_group(required=True)
-    way.add_argument("--hours", type=float, metavar="N", help="rounds for so many hours")
-    way.add_argument("--minutes", type=float, metavar="N", help="rounds for so many minutes")
-    way.add_argument("--again", nargs=2, metavar=("SEED", "ROUND"), help="the round of this seed")
-    way.add_argument("--sight", action="store_true", help="each kind of round over a program that is wrong on purpose")
-    parser.add_argument("--rounds", metavar="NAME,..", default=",".join(ROUNDS), help="these kinds of rounds alone")
-    parser.add_argument("--log", metavar="FILE", default=LOG, help="where the lines go; harness/out/soak.jsonl")
+    way.add_argument("--hours", type=float, metavar="N", help="play rounds for this many hours")
+    way.add_argument("--minutes", type=float, metavar="N", help="play rounds for this many minutes")
+    way.add_argument("--again", nargs=2, metavar=("SEED", "ROUND"), help="play the round of this seed again")
+    way.add_argument("--sight", action="store_true", help="play each kind of round over a program that is wrong on purpose")
+    parser.add_argument("--rounds", metavar="NAME,..", default=",".join(ROUNDS), help="only these kinds of rounds")
+    parser.add_argument("--log", metavar="FILE", default=LOG, help="where the lines go (default harness/out/soak.jsonl)")
     asked = parser.parse_args()
     asked.rounds = asked.rounds.split(",")
     unknown = {*asked.rounds, *(asked.again[1:] if asked.again else ())} - {*ROUNDS}

@@ -2,13 +2,13 @@
 
 Each language has three programs, whose routes, words, keys and output the Python ones describe, and one judge looks at all of them.
 
-    seats ADDRESS PORT    a web application; prints `listening 127.0.0.1:PORT`. It meets a server that refuses, falls silent and breaks off, and must
-                          answer each with its status. Then clients ask for seats, two with each key: no seat is reserved twice, who asks again
-                          gets the same answer, and what was answered is what is stored
+    seats ADDRESS PORT    a web application; prints `listening 127.0.0.1:PORT`. It meets a server that refuses, falls silent and closes, and must
+                          answer each with its status. Then clients ask for seats, two with each key: no seat is reserved twice, asking again gets
+                          the same answer, and what was answered is what is stored
     worker ADDRESS ..     producers put the same jobs at once. A worker is killed amid a job, and one is stopped until another has its job:
                           each job has one result, and each result is counted once
     ledger ADDRESS ..     clients make the same transfers at once: each is made once, no account but `outside` is ever below zero, balances add up to
-                          zero beside them, and each account is the sum of its entries, of which each transfer has two
+                          zero meanwhile, and each account is the sum of its entries, of which each transfer has two
 
 In each of them connections are cut at a COMMIT, before it is passed on and after, and the server is killed. Programs of all languages also work on
 one store together. `long` does more of each, and tries wrong forms of the programs, which must be found. A language that isn't installed is left
@@ -156,11 +156,11 @@ class Store:
         self.address = f"127.0.0.1:{self.proxy.own_port}"
 
     def wait_for(self, name, due):
-        """Waits until so many requests of this name came."""
+        """Waits until this many requests of this name came."""
         wait_for(lambda: self.proxy.names[name] >= due, f"not {due} {name} came", 3 * PATIENCE, 0.002)
 
     def kill(self, commits):
-        """Kills the server after so many more COMMITs, and starts it again."""
+        """Kills the server after this many more COMMITs, and starts it again."""
         self.wait_for(b"COMMIT", self.proxy.names[b"COMMIT"] + commits)
         self.server.kill()
         time.sleep(0.05)
@@ -240,7 +240,7 @@ ANSWERS = [
 
 
 def judge_answer(what, due, status, headers):
-    expect(status == due and (due != 503 or is_later(status, headers)), f"{what} was answered {status} {dict(headers)}, due is {due}")
+    expect(status == due and (due != 503 or is_later(status, headers)), f"{what} was answered {status} {dict(headers)}, expected {due}")
 
 
 def seats_of(port):
@@ -287,7 +287,7 @@ def begin_seats(stack, language, address):
 
 
 def reservations(language):
-    """Clients ask two applications for seats, each key by two clients, and at last once more."""
+    """Clients ask two applications for seats, each key by two clients, and finally once more."""
     chance, said, threads = random.Random(11), collections.defaultdict(list), Threads()
     seats = [f"{row}{place}" for row in range(1, 7 if is_long() else 5) for place in "ABCDEF"]
     turns = range(40 if is_long() else 15)
@@ -405,7 +405,7 @@ def transfers_of(chance, number, count):
 
 
 def ledger(language):
-    """Clients make transfers at once, of which they share half, until all are settled. Another looks at the balances meanwhile."""
+    """Clients make transfers at once, of which they share half, until each has its outcome. Another looks at the balances meanwhile."""
     count, clients = (60, 4) if is_long() else (24, 3)
     shared = transfers_of(random.Random(5), "", count)[:count // 2]
     files = [shared + transfers_of(random.Random(number), number, count)[count // 2:] for number in range(clients)]
@@ -420,7 +420,7 @@ def ledger(language):
                 found, status = program.ended()
                 expect(status == 1 or status == 0 and len(found) == len(lines), f"it ended with {status}: {program.error_text()}")
             rounds += 1
-            expect(rounds < 20, f"transfers aren't settled: {found[-3:]}")
+            expect(rounds < 20, f"transfers without an outcome: {found[-3:]}")
             for line, answer in zip(lines, found):
                 expect(answer.split()[0] == line.split()[0], f"{line} was answered {answer}")
                 if answer.split()[1] not in ("later", "unknown"):
@@ -498,7 +498,7 @@ def judge_words(language, store, entries, line):
     """A statement, and lines that are no transfers."""
     due = [f"{number} {entries[f'a:{number:010}']}" for number in (2, 3)]
     found = said_by(language, store, "statement", "a", 2, 2)
-    expect(found == due, f"the statement is {found}, due is {due}")
+    expect(found == due, f"the statement is {found}, expected {due}")
     transfer, source, target, amount = line.split()
     wrong = [f"{transfer} {source} {target} {int(amount) + 1}", "n-1 a a 5", "n-2 a b 0", "n-3 a b -5", "n-4 a: b 5", "n-5 a b 1000000000000",
              "n-6 a b", "n-7 a b 5 6", "", "n-8 a b 99999999"]

@@ -1,11 +1,11 @@
 """Why a start fails, and what a server does, from outside: `ssikvd-why` and `ssikvd-stat`.
 
-Each cause for which a start fails is provoked: in the folder, the file, its format, room, the locks and the address. What a start needs then
-refuses, and `ssikvd-why` names this cause alone, in one line with its cure, and leaves all as it was. Where there is no cause it finds none,
-also over files that look odd and aren't wrong. The unit's line runs it where a start failed, and not else.
+Each cause for which a start fails is provoked: in the folder, the file, its format, room, the locks and the address. What a start needs then refuses,
+and `ssikvd-why` names this cause alone, in one line with its cure, and leaves all as it was. Where there is no cause it finds none, also over files
+that look odd and aren't wrong. The unit's line runs it where a start failed, and not otherwise.
 
-`ssikvd-stat` tells of a server what was done to it: commits and keys, connections and their silence, memory, the ages of a backup and of a
-compaction; also without `ss`. The probe tells a full log. Each figure of the alert rules is one that a tool writes.
+`ssikvd-stat` reports what was done to a server: commits and keys, connections and their silence, memory, the ages of a backup and of a compaction;
+also without `ss`. The probe reports a full log. Each figure of the alert rules is one that a tool writes.
 """
 import contextlib
 import errno
@@ -52,9 +52,9 @@ def expect_causes(found, *due):
     """These causes, each in a line with a cure, and no other."""
     status, out, err = found
     lines = out.splitlines()
-    expect(status == 1 and not err and len(lines) == len(due), f"it answered {found}, due are {due}")
+    expect(status == 1 and not err and len(lines) == len(due), f"it answered {found}, expected {due}")
     for line, cause in zip(lines, due):
-        expect(line.startswith("ssikvd-why: ") and cause in line and "; cure: " in line, f"it says {line!r}, due is {cause!r}")
+        expect(line.startswith("ssikvd-why: ") and cause in line and "; cure: " in line, f"it says {line!r}, expected {cause!r}")
 
 
 def expect_none(found, data):
@@ -355,7 +355,7 @@ def unit_line(place):
 
 
 def the_unit(tally):
-    """A start that failed is told of in the journal; an end that was asked for, or by a signal, isn't."""
+    """A start that failed is reported in the journal; an end that was asked for, or by a signal, isn't."""
     for result, due in (("exit-code", 1), ("success", 0), ("signal", 0)):
         with store(tally, f"the unit after {result}") as (place, data):
             os.truncate(data, 1_000)
@@ -368,11 +368,11 @@ def the_unit(tally):
 def expect_probe(found, status, *texts):
     """One line with this status and these texts."""
     expect(found[0] == status and found[1].count("\n") == 1 and not found[2], f"the probe answered {found}")
-    expect(all(text in found[1] for text in texts), f"the probe says {found[1]!r}, due is {texts}")
+    expect(all(text in found[1] for text in texts), f"the probe says {found[1]!r}, expected {texts}")
 
 
 def probes(tally):
-    """The probe tells the fill of a log, and why the connection beyond 128 is closed."""
+    """The probe reports the fill of a log, and why the connection beyond 128 is closed."""
     with folder() as place:
         data, state = os.path.join(place, "data"), os.path.join(place, "state")
         create(data, 64)
@@ -394,7 +394,7 @@ def probes(tally):
                 expect_probe(tool(words[0], words[-1]), 0)
             with tally.run("the probe of a file that is gone"):
                 expect_probe(tool(*words[:3], "--data", data + "x", words[-1]), 2, "No such file or directory; transactions begin")
-            with tally.run("the probe beside 128 connections"), connected(server.port, 128):
+            with tally.run("the probe with 128 connections open"), connected(server.port, 128):
                 expect_probe(tool("ssikvd-probe", words[-1]), 2, "perhaps since 128 are open")
 
 
@@ -433,7 +433,7 @@ def locked_server(data):
 
 
 def judge_process(found, process):
-    """What is said of the process is what /proc says."""
+    """What is reported of the process is what /proc says."""
     with open(f"/proc/{process}/status", encoding="ascii") as file:
         resident = 1_024 * int(re.search(r"VmRSS:\s+(\d+)", file.read())[1])
     expect(abs(found["resident_memory_bytes"] - resident) <= 4 << 20, f"{found['resident_memory_bytes']} bytes in place of {resident}")
@@ -526,7 +526,7 @@ def stats(tally):
 
 
 def age_state(state, seconds):
-    """Makes the look before older by so many seconds: when it was, now."""
+    """Makes the previous look older by this many seconds: when it was, now."""
     with open(state, encoding="utf-8") as file:
         found = json.load(file)
     found["log"]["time"] -= seconds
@@ -562,7 +562,7 @@ def alerts(tally):
 
 
 def put(port, count):
-    """So many commits of one small key."""
+    """Makes this many commits of one small key."""
     store = simple_client.Client(port)
     for number in range(count):
         store.transact(lambda store, number=number: store.ask("SET", "a", number))
@@ -571,7 +571,7 @@ def put(port, count):
 
 @contextlib.contextmanager
 def connected(port, count):
-    """So many connections that the server has taken."""
+    """This many connections that the server has taken."""
     with contextlib.ExitStack() as held:
         for _ in range(count):
             client = simple_client.Client(port)

@@ -1,9 +1,9 @@
 """Each command with each of its standard streams closed, each pair of them, and all three.
 
-A file that is opened then may get the descriptor of a closed stream, and what the program prints may land in it. So behind each run the data
-file must be byte for byte what it should be. A command does what it does with all streams open, of which a closed one shows nothing: what it
-writes there goes nowhere, and is no fault. A server serves a commit, which is there once it was killed. The faults of the commands, and a
-store that stops, are played as well, since their texts could land in the file too.
+A file that is opened then may get the descriptor of a closed stream, and what the program prints may land in it. So after each run the data file must
+be byte for byte what it should be. A command does what it does with all streams open, of which a closed one shows nothing: what it writes there goes
+nowhere, and is no fault. A server serves a commit, which is there once it was killed. The faults of the commands, and a store that stops, are played
+as well, since their texts could land in the file too.
 
 `long` plays each five times.
 """
@@ -41,7 +41,7 @@ def shown(closed):
 def expect_end(found, closed, status, out, err):
     """It ended with this status and these texts, as far as the streams are open."""
     due = (status, b"" if 1 in closed else out, b"" if 2 in closed else err)
-    expect(found == due, f"it ended with {found}, due is {due}")
+    expect(found == due, f"it ended with {found}, expected {due}")
 
 
 def expect_file(data, image):
@@ -49,7 +49,7 @@ def expect_file(data, image):
     with open(data, "rb") as file:
         found = file.read()
     at = next((i for i, (a, b) in enumerate(zip(found, image)) if a != b), min(len(found), len(image)))
-    expect(found == image, f"from byte {at} on the data file holds {found[at:at + 40]!r}, due is {image[at:at + 40]!r}")
+    expect(found == image, f"from byte {at} on the data file holds {found[at:at + 40]!r}, expected {image[at:at + 40]!r}")
 
 
 def with_file(image):
@@ -114,11 +114,11 @@ def commit(server, due):
     with Connection(server.port) as client:
         for request, reply in ((frame("BEGIN"), OK), (frame("SET", *MORE[0]), OK), (frame("COMMIT"), due)):
             found = client.ask(request)
-            expect(found == reply, f"{request!r} was answered {found!r}, due is {reply!r}")
+            expect(found == reply, f"{request!r} was answered {found!r}, expected {reply!r}")
 
 
 def serve(place, closed):
-    """A server that is killed behind its commit."""
+    """A server that is killed after its commit."""
     data = os.path.join(place, "data")
     with server_over(data, closed) as server:
         expect_served(server)
@@ -148,7 +148,7 @@ def stop(first):
 
 
 def commit_after(server):
-    """The turn behind the one in which the store stopped, and one more."""
+    """The turn after the one in which the store stopped, and one more."""
     with Connection(server.port) as client:
         for _ in range(2):
             found = client.ask(frame("BEGIN"))

@@ -3,16 +3,16 @@
 With few descriptors, connections beyond them wait, and each is served soon after a descriptor is free, though no other client sends anything;
 the server doesn't end and doesn't spin.
 
-While a transaction is open, what the transactions that commit beside it have read is kept, and nothing bounds how many they are: this is
-outside the memory bound of the other harness. The address space is bounded here, so that memory is refused: the connection that met it
-is closed, sessions that need none are served, and soon after the old transaction has ended there is memory again.
+While a transaction is open, what the transactions that commit meanwhile have read is kept, and nothing bounds how many they are: this is outside the
+memory bound of the other harness. The address space is bounded here, so that memory is refused: the connection that met it is closed, sessions that
+need none are served, and soon after the old transaction has ended there is memory again.
 
 Under a limit on the size of files SIGXFSZ ends the server at the commit that would pass it, and `create` on the way; where the signal is ignored,
 the store stops, or `create` says so. Each commit that was answered is in the file, which is served again without the limit.
 
-Of a pipe that is full and that nobody reads, each line waits that `serve` writes to it: until the pipe is read nobody is served, a server that
-would end doesn't, and no commit that was answered is lost. A pipe with room takes both lines though nobody reads it. Where the pipe is set not
-to block, a refused first line ends the server, and `store stopped` is lost.
+With a pipe that is full and that nobody reads, each line that `serve` writes to it waits: until the pipe is read nobody is served, a server that
+would end doesn't, and no commit that was answered is lost. A pipe with room takes both lines though nobody reads it. Where the pipe is set not to
+block, a refused first line ends the server, and `store stopped` is lost.
 """
 import contextlib
 import errno
@@ -63,7 +63,7 @@ def asking(server):
 
 
 def spent_while_waiting(server):
-    """The processor time that the server takes for a second in which nothing comes."""
+    """The CPU time that the server takes for a second in which nothing comes."""
     before = server.processor_seconds()
     time.sleep(1.0)
     spent = server.processor_seconds() - before
@@ -105,7 +105,7 @@ def few_descriptors(server):
     for client in clients:
         client.close()
     _, fresh = soon_served([asking(server)])
-    return (f"{len(first)} of {CONNECTIONS} served at once, {spent:.2f} seconds of processor time in a second in which nothing came; "
+    return (f"{len(first)} of {CONNECTIONS} served at once, {spent:.2f} seconds of CPU time in a second in which nothing came; "
             f"each time one had closed, one more was served within {longest:.3f} seconds; after all had closed, a new one within {fresh:.3f}")
 
 
@@ -156,7 +156,7 @@ def old_transaction(server):
             expect(commits(fresh, again), "memory is refused again after the old transaction has ended")
     for client in (old, other, reader):
         client.close()
-    return f"{number} commits beside it, {each:,} bytes each, until memory was refused; after its end a commit again within {seconds:.3f} seconds"
+    return f"{number} commits meanwhile, {each:,} bytes each, until memory was refused; after its end a commit again within {seconds:.3f} seconds"
 
 
 def scene(tally, place, name, play, limit):
@@ -340,7 +340,7 @@ def full_errors_of_an_end(place):
 
 
 def pipe_with_room(place):
-    """Nobody reads, and all are served, also behind a stopped store."""
+    """Nobody reads, and all are served, also after the store has stopped."""
     for stream, line in (("stdout", b"listening 127.0.0.1:%d\n"), ("stderr", STORE_STOPPED)):
         with folder() as own, Piped(own, stream, is_full=False) as server, server.connected() as client:
             server.stop_the_store(client)

@@ -5,9 +5,9 @@ zeros, sync file and directory, and format; an opening syncs the directory and t
 and writes nothing, all before `listening` is printed; a COMMIT that writes makes the calls of docs/LOG_FORMAT.md and no other, and its reply
 is sent after them; all other requests make none.
 
-From the calls the file is built up again. Behind each call a crash may leave each sector that was written since the last sync, and no
-other, with any bytes. Of these images are taken: all written, none, each one alone, all but one, and one with zeros or ones. A reader of
-the log's format, in plain Python, must find in each a beginning of the commits with every one that was answered.
+From the calls the file is built up again. After each call a crash may leave each sector that was written since the last sync, and no other, with any
+bytes. Of these images are taken: all written, none, each one alone, all but one, and one with zeros or ones. A reader of the log's format, in plain
+Python, must find in each a beginning of the commits with every one that was answered.
 
 That the two can fail is shown each time: with a library that answers for syncs that it doesn't make, and by calls that are dropped or moved
 in what was written down. `long` plays more and larger transactions.
@@ -72,12 +72,12 @@ class Answered:
         count = len(self.store.log)
         due = self.store.request(label, parts)
         found = connections[label].ask(frame(*parts))
-        expect(found == due, f"{label} {parts[:2]!r} was answered {found!r}, due is {due!r}")
+        expect(found == due, f"{label} {parts[:2]!r} was answered {found!r}, expected {due!r}")
         self.replies.append((due, self.store.log[-1] if len(self.store.log) > count else None))
 
 
 def serve(data, trace, log, sectors, steps, named=None):
-    """Serves these requests, one behind the other, and kills the server. The file may be named in another way."""
+    """Serves these requests, one after the other, and kills the server. The file may be named in another way."""
     answered = Answered(log, sectors)
     with Server(named or data, trace.environment()) as server:
         expect(server.is_listening(), f"no server: {server.error_text()!r}")
@@ -99,7 +99,7 @@ WHOLE_FILE = struct.pack("=2q", 0, 0)    # the place and the length of an advice
 
 
 def own_calls(calls, data):
-    """The calls on the file, those on its directory behind its opening, and what is sent."""
+    """The calls on the file, those on its directory after its opening, and what is sent."""
     files, found = {}, []
     for call in calls:
         if call.kind == OPEN and call.result >= 0:
@@ -140,11 +140,11 @@ def shown(steps):
 
 
 def expect_steps(found, due, what):
-    expect(found == due, f"{what}: it does {shown(found)[:200]}, due is {shown(due)[:200]}")
+    expect(found == due, f"{what}: it does {shown(found)[:200]}, expected {shown(due)[:200]}")
 
 
 def due_steps(log, writes):
-    """The steps of a COMMIT of these writes behind this log."""
+    """The steps of a COMMIT of these writes after this log."""
     image = log_image([*log, writes], place_behind([*log, writes]) + 1)
     at, end = place_behind(log), place_behind([*log, writes])
     body = [(i, image[SECTOR * i:SECTOR * (i + 1)]) for i in range(at + 1, end)]
@@ -204,7 +204,7 @@ def judge_order(calls, data, answered):
             log, since = log + [writes] * bool(writes), []
         expect(not since, "calls between the pieces of a reply")
         sent += call.data
-        expect(replies[0][0].startswith(sent), f"{sent[:20]!r} is sent, due is {replies[0][0][:20]!r}")
+        expect(replies[0][0].startswith(sent), f"{sent[:20]!r} is sent, expected {replies[0][0][:20]!r}")
         if sent == replies[0][0]:
             sent = b""
             replies.pop(0)
@@ -231,14 +231,14 @@ class Crashes:
             expect(call.kind in (OPEN, READ_AT, CLOSE, ADVISE, SYNC_NAMES), f"a call that no log needs: {call}")
 
     def _learn(self):
-        """What is settled of the log is not read again."""
+        """What is durable of the log is not read again."""
         try:
             self.known = read_log(lambda at: self.settled.get(at, ZEROS), self.sectors, self.known)
         except (NotALog, Damaged):
             self.known = AT_FIRST
 
     def _images(self):
-        """What a crash now may leave of the unsettled sectors: all as they are in one of two forms, but for one."""
+        """What a crash now may leave of the sectors that aren't durable yet: all as they are in one of two forms, but for one."""
         new, old = self.unsettled, {at: self.settled.get(at, ZEROS) for at in self.unsettled}
         places, few = list(new), MOST_SINGLES // 2
         yield new, None, b""
@@ -268,7 +268,7 @@ class Crashes:
 
 
 def judge_crashes(calls, data, answered):
-    """Behind each call a crash leaves the commits that were answered, or these and the one that was asked for."""
+    """After each call a crash leaves the commits that were answered, or these and the one that was asked for."""
     crashes = Crashes(log_image(answered.before, answered.sectors), answered.sectors)
     replies = [(len(due), writes) for due, writes in answered.replies]
     log, left, at = list(answered.before), 0, -1
@@ -290,7 +290,7 @@ def judge_crashes(calls, data, answered):
 
 
 def judge_crashes_of_create(calls):
-    """Once the zeros and the name are settled a crash leaves no log or an empty one, and the second once all is done."""
+    """Once the zeros and the name are durable a crash leaves no log or an empty one, and the second once all is done."""
     crashes = Crashes(bytes(SECTOR * SECTORS_OF_CREATE), SECTORS_OF_CREATE)
     crashes.judge([None])
     for call in calls:

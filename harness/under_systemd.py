@@ -1,11 +1,10 @@
 """The package under systemd: units started, killed and timed in a machine of its own.
 
-The machine is booted by systemd-nspawn from a copy of this system that is thrown away: what is written goes to a folder of its own, it has a
-network of its own, and of the units that are enabled here it starts none. The package is built, installed, upgraded, removed and purged there.
-Between these a server is started, killed, started twice and found again after the machine was killed; started without its file, over a damaged
-file and one that is full; compacted and shipped by the timers beside clients that write, compacted on a full disk and killed while it is compacted,
-and restored. A server that an operator stopped stays stopped. Each commit that was acknowledged must be there. At last units with a planted fault
-are shown to the same judges.
+The machine is booted by systemd-nspawn from a copy of this system that is thrown away: what is written goes to a folder of its own, it has a network
+of its own, and of the units that are enabled here it starts none. The package is built, installed, upgraded, removed and purged there. Between these
+a server is started, killed, started twice and found again after the machine was killed; started without its file, over a damaged file and one that is
+full; compacted and shipped by the timers while clients write, compacted on a full disk and killed while it is compacted, and restored. A server that
+an operator stopped stays stopped. Each commit that was acknowledged must be there. Finally, units with a planted fault are shown to the same judges.
 
 It has no quick form. It needs root, systemd-nspawn (Debian's systemd-container), debhelper and an overlay file system, and says what it lacks.
 """
@@ -146,7 +145,7 @@ class Machine:
 
 
 def due_of(count):
-    """The map after so many commits."""
+    """The map after this many commits."""
     due = {}
     for number in range(count):
         due[b"%06d" % (number % 40)] = b"v" * (number * 97 % 1_500)
@@ -312,7 +311,7 @@ def machine_killed(machine):
 # Timers, compactions, backups
 
 def timers(machine):
-    """Each timer fires by itself: metrics are there, the file is compacted and shipped, beside clients that write."""
+    """Each timer fires by itself: metrics are there, the file is compacted and shipped, while clients write."""
     machine.changed("ssikvd-ship@shop.timer", "[Timer]\nOnCalendar=\nOnCalendar=minutely\nRandomizedDelaySec=0\n")
     begun = time.time()
     with writers(PORTS["shop"], 0.03, 10) as load:    # some hundred sectors each second
@@ -344,9 +343,8 @@ LOOKS, SWAPS = "ssikvd-compact@shop", "ssikvd-swap@shop"
 
 
 def compactions(machine):
-    """Compactions beside clients that write, whole ones and then some killed at each of some moments: of the first unit, of the second once the
-    server was stopped, and of that again and again until it has no process left, with the command that starts the server. A server runs, and
-    nothing is lost."""
+    """Compactions while clients write, whole ones and then some killed at each of some moments: of the first unit, of the second once the server was
+    stopped, and of that again and again until it has no process left, with the command that starts the server. A server runs, and nothing is lost."""
     always_due(machine)
     with writers(PORTS["shop"], 0.01, 20) as load:
         for _ in range(2):
@@ -369,8 +367,8 @@ def always_due(machine):
 
 
 def compaction_killed(machine, load, unit, seconds, is_repeated=False):
-    """A compaction of which a unit is killed after so many seconds, from its start on or, where it is the second, from the server's stop on. Was the
-    server stopped then?"""
+    """A compaction of which a unit is killed after this many seconds, from its start on or, where it is the second, from the server's stop on. Was
+    the server stopped then?"""
     wait_for(lambda before=count_of(load): count_of(load) > before + 50, "clients aren't served", SLOWLY)
     machine.done("systemctl", "start", "--no-block", LOOKS)
     if unit == SWAPS:
@@ -394,7 +392,7 @@ def has_ended(machine, unit):
 
 
 def stopped_by_hand(machine):
-    """A server that an operator stops while a compaction copies beside it, or before one, stays stopped."""
+    """A server that an operator stops while a compaction copies, or before one, stays stopped."""
     state = machine.path(FOLDER + "shop.data.new.state")
     with contextlib.suppress(FileNotFoundError):    # what a compaction that was killed left
         os.remove(state)
@@ -427,7 +425,7 @@ def stays_stopped(machine):
 
 @contextlib.contextmanager
 def small_disk(machine, size):
-    """A disk of so many bytes in the place of the folder of the data files, with no server meanwhile but those that are started there."""
+    """A disk of this many bytes in the place of the folder of the data files, with no server meanwhile but those that are started there."""
     machine.done("systemctl", "stop", "ssikvd-*@*.timer", "ssikvd@*.service")
     machine.done("mount", "-t", "tmpfs", "-o", f"size={size},mode=700", "tmpfs", FOLDER)
     machine.done("chown", "ssikvd:ssikvd", FOLDER)

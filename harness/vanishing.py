@@ -137,7 +137,7 @@ class Peers:
 
 
 def be_the_peers():
-    """What the process of the peers does as it is told."""
+    """What the process of the peers does on command."""
     clients = []
     for line in sys.stdin:
         words = line.split()
@@ -162,7 +162,7 @@ def is_served(port):
 
 
 def open_transactions(port, count):
-    """Can so many new clients begin?"""
+    """Can this many new clients begin?"""
     clients = [Connection(port) for _ in range(count)]
     replies = [one.ask(BEGIN) for one in clients]
     close_all(clients)
@@ -187,7 +187,7 @@ def vanished(place, by):
         with Served(place, "0.0.0.0:0") as served, Connection(served.port) as good:
             expect(good.ask(BEGIN) == OK, "BEGIN was refused")
             peers.connect(served.port)
-            expect(not is_served(served.port), "there is a place beside all that there are")
+            expect(not is_served(served.port), "there is a place beyond all that there are")
             sockets = sockets_of(served.process)
             silent_ones = {address: one for address, one in sockets.items() if address[0] == FAR}
             expect(len(silent_ones) == PEERS, f"{len(silent_ones)} peers have a connection")

@@ -1,4 +1,4 @@
-"""The field's words: no document, man page, picture, tool or script of bench uses those of `AVOIDED`, and each of `SEARCHED` is in a document.
+"""The field's words: no document, man page, picture, tool or script of bench or harness uses those of `AVOIDED`; documents have those of `SEARCHED`.
 
 A reader finds by searching what he knows the name of. Of documents and man pages, what is between backticks, in blocks and in links isn't read: names,
 commands and texts of the program. Of a picture its text is read; of a script its docstrings, help and messages, and the comments at its head; of the
@@ -58,7 +58,8 @@ AVOIDED = {
 SEARCHED = ("throughput", "CPU time", "write-ahead log", "optimistic", "idempotency key", "backoff", "percentile", "pipelined", "restart", "garbage", "snapshot",
             "recovery", "abort", "serializable", "wall-clock", "group commit", "auto-commit", "replication", "authentication", "idempotent", "buffered",
             "received", "sent", "reported", "notified", "interquartile range", "compaction", "back-pressure", "write skew", "phantom")
-NOT_READ = ("docs/STATUS.md",)
+# The last holds the list.
+NOT_READ = ("docs/STATUS.md", "harness/words.py")
 
 
 def prose(name):
@@ -108,8 +109,9 @@ def found_in(*patterns):
 def read():
     """The files that are read, each with what gives its lines."""
     pages = [name for name in documents() + found_in("man/*.[1-8]") if name not in NOT_READ]
-    scripts = found_in("bench/*.py", "dist/*", "completions/*", "docs/pictures/*", "examples/*.py", "harness/run.sh", "wrong_bodies/run.sh")
-    return [(name, prose) for name in pages] + [(name, spoken) for name in scripts]
+    scripts = found_in("bench/*.py", "dist/*", "completions/*", "docs/pictures/*", "examples/*.py", "harness/*.py", "harness/run.sh",
+                       "harness/ssikvd_harness/*.py", "wrong_bodies/*.py", "wrong_bodies/run.sh")
+    return [(name, prose) for name in pages] + [(name, spoken) for name in scripts if name not in NOT_READ]
 
 
 def hits(name, lines_of=prose):
@@ -120,7 +122,8 @@ def hits(name, lines_of=prose):
         starts.append(len(text))
         text += line.strip() + " "
     for word, better in AVOIDED.items():
-        for found in re.finditer(rf"(?<![\w-]){word}(?![\w-])(?! to\b)", text, re.I):
+        # A dot and a name after it make it code.
+        for found in re.finditer(rf"(?<![\w-]){word}(?![\w-]|\.\w)(?! to\b)", text, re.I):
             yield lines[bisect.bisect(starts, found.start()) - 1][0], word, better
 
 
@@ -149,9 +152,9 @@ class Words(Harness):
                 expect(not found, "; ".join(found[:5]))
 
     def test_read(self):
-        for name, reader in (("docs/pictures/pauses.svg", spoken), ("bench/workloads.py", spoken), ("dist/ssikvd-ship", spoken), ("dist/ssikvd-compact", spoken)):
+        for name in ("docs/pictures/pauses.svg", "bench/workloads.py", "harness/kills.py", "dist/ssikvd-ship", "dist/ssikvd-compact"):
             with self.tally.run(f"{name}, of which something is read"):
-                expect(sum(len(line.split()) for _, line in reader(name)) > 50, "next to nothing is read of it")
+                expect(sum(len(line.split()) for _, line in spoken(name)) > 50, "next to nothing is read of it")
 
     def test_planted(self):
         with self.tally.run("words that are planted"):

@@ -1,6 +1,6 @@
 """The program, wrong on purpose: `wrong_program.py -- OLD NEW PROGRAM WORD..` runs PROGRAM with these words, and where it prints or answers the text
-OLD, it has NEW in its place. Both are Python's string escapes. Where OLD is empty, a bit of the data file is turned over behind each command but
-`serve`. It ends as the program does, also by a signal, and the program ends with it. `soak.py --sight` asks for it.
+OLD, it has NEW in its place. Both are Python's string escapes. Where OLD is empty, a bit of the data file is flipped after each command but `serve`.
+It ends as the program does, also by a signal, and the program ends with it. `soak.py --sight` asks for it.
 """
 import argparse
 import contextlib
@@ -52,7 +52,7 @@ def serve(words, old, new):
 
 
 def turn_a_bit(words):
-    """A command, behind which a bit of its data file is turned over. The status."""
+    """A command, after which a bit of its data file is flipped. The status."""
     status = subprocess.run(words).returncode
     names = [word for option, word in zip(words, words[1:]) if option in ("--data", "--from")]
     with contextlib.suppress(OSError), open(names[0] if names else "", "r+b") as file:

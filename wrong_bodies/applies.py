@@ -1,8 +1,8 @@
-"""Whether each wrong body still applies: each of its `old:` texts stands exactly once in its file, once those before it were changed.
+"""Checks that each wrong body still applies: each of its `old:` texts stands exactly once in its file, once those before it were changed.
 
-`applies.py [CRATE..]`, all crates where none is named: those of the folder `must-fail` of each crate, and those beside this file. Nothing is
-proved. Prints each that does not apply, and each that `gate.txt` names and that no folder `must-fail` has, and ends with status 1 where there
-is one. `--table` prints how many there are of each crate, and `--write` writes that into docs/TESTING.md.
+`applies.py [CRATE..]`, all crates where none is named: those of the folder `must-fail` of each crate, and those next to this file. Nothing is proved.
+Prints each that does not apply, and each that `gate.txt` names and that no folder `must-fail` has, and ends with status 1 where there is one.
+`--table` prints how many there are of each crate, and `--write` writes that into docs/TESTING.md.
 """
 import argparse
 import re
@@ -64,7 +64,7 @@ def write():
 def main():
     parser = argparse.ArgumentParser(description=__doc__, formatter_class=argparse.RawDescriptionHelpFormatter)
     parser.add_argument("--table", action="store_true", help="print how many there are of each crate")
-    parser.add_argument("--write", action="store_true", help="write that into docs/TESTING.md")
+    parser.add_argument("--write", action="store_true", help="write these numbers into docs/TESTING.md")
     parser.add_argument("crates", nargs="*", metavar="CRATE")
     given = parser.parse_args()
     if given.table or given.write:

@@ -183,7 +183,7 @@ def taken(source, target):
 
 def main():
     parser = argparse.ArgumentParser(description=__doc__, formatter_class=argparse.RawDescriptionHelpFormatter)
-    parser.add_argument("--gate", action="store_true", help="those of the crates' own folders must-fail as well")
+    parser.add_argument("--gate", action="store_true", help="try those of the crates' own folders must-fail as well")
     parser.add_argument("crates", nargs="*", metavar="CRATE")
     words = parser.parse_args()
     crates = sorted(it.name for it in (TOP / "crates").iterdir())

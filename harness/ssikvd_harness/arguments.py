@@ -60,12 +60,12 @@ def parser_of_harness() -> argparse.ArgumentParser:
 
 def add_form(parser: argparse.ArgumentParser) -> None:
     """The form of a harness: the quick one where none is named."""
-    parser.add_argument("form", nargs="?", choices=FORMS, default=FORMS[0], help="how much is run; quick where nothing is said")
+    parser.add_argument("form", nargs="?", choices=FORMS, default=FORMS[0], help="how much to run (default quick)")
 
 
 def add_unittest(parser: argparse.ArgumentParser) -> None:
-    """The options that unittest has, too."""
-    parser.add_argument("-k", action="append", metavar="WORD", help="the tests with WORD in their names, or that fit it where it has a `*`")
+    """The options that unittest has as well."""
+    parser.add_argument("-k", action="append", metavar="WORD", help="the tests with WORD in their names, or that match it where it has a `*`")
     parser.add_argument("-v", "--verbose", action="store_const", const=2, dest="verbosity", help="print the names of the tests")
     parser.add_argument("-f", "--failfast", action="store_true", help="stop at the first failure")
     if parser.argument_default != argparse.SUPPRESS:    # that of a word of another parser, which has these options, too

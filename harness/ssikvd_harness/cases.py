@@ -94,7 +94,7 @@ class Harness(unittest.TestCase):
             leave_out(what, needed)
 
     def run_again(self, before: Sequence[str], *options: str, **variables: str) -> None:
-        """Runs the harness's script behind these words, such as `unshare`, with these options and variables. What it does there must hold."""
+        """Runs the harness's script after these words, such as `unshare`, with these options and variables. What it does there must hold."""
         script = os.path.join(HARNESS, f"{type(self).__module__}.py")
         ran = subprocess.run([*before, sys.executable, script, *options, *words_of_harness()], env={**os.environ, **variables}, check=False)
         expect(ran.returncode == 0, f"what was run by {before[0]} ended with status {ran.returncode}")

@@ -42,7 +42,7 @@ class Connection:
         return bool(piece)
 
     def _line_end(self, at: int) -> int | None:
-        """The place behind the line that begins here; None where it was cut off."""
+        """The place after the line that begins here; None where it was cut off."""
         while True:
             end = self.came.find(b"\r\n", at)
             if end >= 0:

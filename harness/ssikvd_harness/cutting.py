@@ -24,7 +24,7 @@ def requests_of(client: socket.socket) -> Iterator[tuple[bytes, bytes]]:
 
 
 class Cutting:
-    """A proxy that cuts connections: before a COMMIT is passed on, or behind it, before its reply comes back."""
+    """A proxy that cuts connections: before a COMMIT is passed on, or after it, before its reply comes back."""
 
     def __init__(self, port: int | None, chance: random.Random, share: float) -> None:
         self.port, self.chance, self.share, self.cuts = port, chance, share, 0

@@ -37,7 +37,7 @@ def is_refused(judge: Callable[..., object], *figures: Any) -> bool:
 
 
 def wait_for(found: Callable[[], Found], text: str, seconds: float = PATIENCE, pause: float = 0.02) -> Found:
-    """What is found at last; a deviation of this text where nothing is in time."""
+    """What is found in the end; a deviation of this text where nothing is found in time."""
     end = time.monotonic() + seconds
     while not (result := found()):
         expect(time.monotonic() < end, text)
@@ -101,7 +101,7 @@ class Tally:
                     raise Deviation(text)
 
     def end(self, more: str = "") -> bool:
-        """Prints the line of the harness, behind its deviations, and answers whether all held."""
+        """Prints the line of the harness, after its deviations, and returns whether all held."""
         for text, places in self.deviations.items():
             print(f"  DEVIATION in {len(places)} runs, first {places[0]}, last {places[-1]}: {text}")
         count = self.count()

@@ -90,7 +90,7 @@ class Refusals:
 
 @contextlib.contextmanager
 def refusing_server(sectors: int) -> Iterator[tuple[Server, Refusals]]:
-    """A server over a new file of so many sectors, and the calls of its that may fail."""
+    """A server over a new file of this many sectors, and those of its calls that may fail."""
     with folder() as place:
         data, refusals = os.path.join(place, "data"), Refusals(place)
         create(data, sectors)

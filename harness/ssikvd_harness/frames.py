@@ -22,7 +22,7 @@ class Broken(Exception):
 
 
 def _number(data: bytes, at: int, mark: int, least: int, most: int) -> tuple[int, int] | None:
-    """The decimal behind the mark at this place, and the place behind its line end. None where it is not complete yet."""
+    """The decimal after the mark at this place, and the place after its line end. None where it is not complete yet."""
     if at == len(data):
         return None
     if data[at] != mark:

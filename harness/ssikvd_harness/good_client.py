@@ -11,7 +11,7 @@ PAUSE = 0.005
 
 
 class GoodClient(threading.Thread):
-    """Commits one key again and again, each request behind the reply before, and takes the time of each reply."""
+    """Commits one key again and again, each request after the previous reply, and takes the time of each reply."""
 
     def __init__(self, port: int | None) -> None:
         super().__init__(daemon=True)
@@ -55,7 +55,7 @@ class GoodClient(threading.Thread):
         return found
 
     def wait_for_one(self, seconds: float) -> None:
-        """Waits so long for the first transaction since it was asked last, where there was none yet."""
+        """Waits this long for the first transaction since it was asked last, where there was none yet."""
         end = time.monotonic() + seconds
         while not self.commits + self.full and not self.deviation and time.monotonic() < end:
             time.sleep(PAUSE)

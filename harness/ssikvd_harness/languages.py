@@ -95,7 +95,7 @@ class Client(Protocol):
     name: str
 
     def start(self, place: str, port: int | None, times: int) -> subprocess.Popen[str]:
-        """The client as a process, which adds so many times with each worker."""
+        """The client as a process, which adds this many times with each worker."""
 
 
 def wait_for(holds: Callable[[], object], process: subprocess.Popen[Any]) -> None:
@@ -126,7 +126,7 @@ class Run:
         expect(self.proxy.refusals[FULL], f"the client met no {FULL!r}")
 
     def kill(self, commits: int) -> None:
-        """Kills the server after so many COMMITs, and starts it again."""
+        """Kills the server after this many COMMITs, and starts it again."""
         wait_for(lambda: self.proxy.names[b"COMMIT"] >= commits, self.process)
         expect(self.process.poll() is None, "the client ended before the server was killed")
         self.server.kill()
@@ -140,7 +140,7 @@ class Run:
         found = re.fullmatch(r"added (\d+), counter (\d+)\ntries (\d+)\n", out)
         expect(found and self.process.returncode == 0, f"it ended with {self.process.returncode}, {out!r} {errors[-400:]!r}")
         added, counter, tries = (int(number) for number in (found.groups() if found else ()))
-        expect(counter == self.due, f"the counter holds {counter}, due is {self.due}")
+        expect(counter == self.due, f"the counter holds {counter}, expected {self.due}")
         expect(self.proxy.firsts == {b"BEGIN"}, f"connections begin with {self.proxy.firsts}")
         return added, tries
 

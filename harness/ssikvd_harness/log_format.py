@@ -55,13 +55,13 @@ def records(log: Iterable[Writes]) -> Iterator[bytes]:
 
 
 def log_image(log: Iterable[Writes], sectors: int, head: bytes = HEAD) -> bytes:
-    """The bytes of a device of so many sectors with a log of these write sets, of which nothing else was ever written. With the old head
+    """The bytes of a device of this many sectors with a log of these write sets, of which nothing else was ever written. With the old head
     it is a log of format 1, as long as no value is longer than 4,096 bytes."""
     return b"".join((head, *records(log))).ljust(SECTOR * sectors, b"\0")
 
 
 def write_log(path: str, log: Iterable[Writes], free_sectors: int = 0) -> None:
-    """Writes a data file of these write sets, one after the other, with so many sectors behind the last gate."""
+    """Writes a data file of these write sets, one after the other, with this many sectors after the last gate."""
     with open(path, "wb") as file:
         file.write(HEAD)
         for sectors in records(log):
@@ -72,7 +72,7 @@ def write_log(path: str, log: Iterable[Writes], free_sectors: int = 0) -> None:
 # To read
 
 def _entry(content: bytes, at: int) -> tuple[Write, int]:
-    """The write at this place of a payload, and the place behind it. Raises ValueError or IndexError where there is none."""
+    """The write at this place of a payload, and the place after it. Raises ValueError or IndexError where there is none."""
     size, at = int.from_bytes(content[at:at + 2], "big"), at + 2
     key, at = content[at:at + size], at + size
     if not 1 <= len(key) == size <= KEY_MAX or content[at] > 1:
@@ -105,7 +105,7 @@ AT_FIRST: Known = ((), 1, bytes(32))
 
 
 def read_log(sector: Callable[[int], bytes], sectors: int, known: Known = AT_FIRST) -> tuple[list[Writes], int, bytes]:
-    """What the log of a device of so many sectors holds, of which `sector` gives each: the write sets, the place of the closed gate, and
+    """What the log of a device of this many sectors holds, of which `sector` gives each: the write sets, the place of the closed gate, and
     the last digest. Of a beginning all of this may be known. Raises NotALog, OldFormat, or Damaged with an index."""
     if sectors >= 2 and sector(0) == OLD_HEAD:
         raise OldFormat

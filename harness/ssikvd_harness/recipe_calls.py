@@ -21,8 +21,9 @@ gives in one line. A part of a key is an integer, bytes as 0x and hex digits, or
     show LIST                           ITEM=VALUE..
     clear LIST                          `N deleted`
 
-Several programs of a language share a server. A gate in front of it holds back COMMITs until as many have come as are due, so that transactions are open
-at once, and counts the refusals. One judge looks at what the calls give and at what they leave. It must find each wrong form of the recipes in Python.
+Several programs of a language share a server. A gate in front of it holds back COMMITs until as many have come as are expected, so that transactions
+are open at once, and counts the refusals. One judge looks at what the calls give and at what they leave. It must find each wrong form of the recipes
+in Python.
 """
 from __future__ import annotations
 
@@ -85,7 +86,7 @@ def languages(copy: str) -> Iterator[Language]:
 
 
 class Gate(Proxy):
-    """Holds back COMMITs once some have passed, until so many are held or all are let go. Counts them, and the refusals."""
+    """Holds back COMMITs once some have passed, until this many are held or all are let go. Counts them, and the refusals."""
 
     def __init__(self, port: int | None) -> None:
         super().__init__(port, 0.0)
@@ -157,7 +158,7 @@ class Run:
         return given, self.gate.conflicts()
 
     def crowd(self, play: Callable[[Call, int], Any], count: int = PROGRAMS) -> list[Any]:
-        """Runs play(call, number) for so many programs at once. What each gave."""
+        """Runs play(call, number) for this many programs at once. What each gave."""
         def one(number: int) -> Any:
             return play(lambda words: self.call(words, number), number)
 
@@ -168,7 +169,7 @@ class Run:
         """Calls one after another, each with what it gives."""
         for words, due in pairs:
             given = self.call(words)
-            expect(given == due, f"{words} gave {given!r}, due is {due!r}")
+            expect(given == due, f"{words} gave {given!r}, expected {due!r}")
 
 
 # The judges, one for each recipe
@@ -208,7 +209,7 @@ def reservations(run: Run) -> None:
     given = list(itertools.chain(*run.crowd(play)))
     found = [one for one in booked(run.port) if one[0] in (b"a", b"b")]
     expect(not overlaps(booked(run.port)), f"double bookings: {overlaps(booked(run.port))[:2]}")
-    expect(given.count("booked") == len(found) > PROGRAMS, f"{given.count('booked')} were told, {len(found)} are there")
+    expect(given.count("booked") == len(found) > PROGRAMS, f"{given.count('booked')} were reported, {len(found)} are there")
 
 
 def unique_addresses(run: Run) -> None:
@@ -276,7 +277,8 @@ def holds(run: Run) -> None:
     bought = list(itertools.chain(*run.crowd(play)))
     expect(len(bought) == len(set(bought)) > 0, f"seats were sold twice: {sorted(bought)}")
     sold = {seat.decode() for (seat,), _ in once(run.port, under("sold"))}
-    expect(set(bought) <= sold and not once(run.port, wrong_holds), f"told are {sorted(bought)}, sold are {sorted(sold)}; {once(run.port, wrong_holds)}")
+    wrong = once(run.port, wrong_holds)
+    expect(set(bought) <= sold and not wrong, f"reported are {sorted(bought)}, sold are {sorted(sold)}; {wrong}")
 
 
 def queue(run: Run) -> None:

@@ -66,7 +66,7 @@ def memory_of(process: int, name: str) -> int:
 
 
 def processor_seconds_of(process: int) -> float:
-    """The processor time of a process, without that of its children."""
+    """The CPU time of a process, without that of its children."""
     with open(f"/proc/{process}/stat", encoding="ascii") as file:
         fields = file.read().rsplit(")", 1)[1].split()
     return (int(fields[11]) + int(fields[12])) / os.sysconf("SC_CLK_TCK")

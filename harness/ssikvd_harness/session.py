@@ -18,5 +18,5 @@ class Session:
         """The reply to a request, which is the model's."""
         reply = self.connection.ask(frame(*parts)) or b"closed"
         due, shown = self.store.request(self.name, parts), b" ".join(part[:8] for part in parts)
-        expect(reply == due, f"{shown!r}: {reply[:60]!r}, due is {due[:60]!r}")
+        expect(reply == due, f"{shown!r}: {reply[:60]!r}, expected {due[:60]!r}")
         return reply

@@ -22,7 +22,7 @@ def told(found: BaseException) -> str:
 
 
 def play_whole(operations: list[Any], play: Play, again: Play | None = None, show: Callable[[list[Any]], Any] = list) -> Any:
-    """Plays a list of operations. Its deviation is told with them, and with what plays some of them again."""
+    """Plays a list of operations. Its deviation is reported with them, and with what plays some of them again."""
     try:
         return play(operations)
     except Exception as found:    # a wrong reply may also break what reads it

@@ -1,4 +1,4 @@
-"""Threads whose failures are told."""
+"""Threads whose failures are reported."""
 import threading
 from collections.abc import Callable
 from typing import Any
@@ -8,7 +8,7 @@ from .settings import PATIENCE
 
 
 class Threads:
-    """Threads whose failures are told at the end."""
+    """Threads whose failures are reported at the end."""
 
     def __init__(self) -> None:
         self.threads: list[threading.Thread] = []

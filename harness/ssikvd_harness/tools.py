@@ -66,7 +66,7 @@ def commit(port: int | None, number: int) -> None:
 
 
 def fill(data: str, count: int, sectors: int = SECTORS) -> None:
-    """A data file with so many commits."""
+    """A data file with this many commits."""
     create(data, sectors)
     with Server(data) as server:
         for number in range(count):
@@ -81,7 +81,7 @@ def in_memory() -> contextlib.AbstractContextManager[str]:
 
 
 def lacking(programs: Iterable[tuple[str, str | None]]) -> str | None:
-    """The first of these programs that isn't here, with the package of Debian that has it where one is told."""
+    """The first of these programs that isn't here, with the package of Debian that has it where one is given."""
     for name, package in programs:
         if not shutil.which(name):
             return f"{name} (Debian's {package})" if package else name

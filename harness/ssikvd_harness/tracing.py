@@ -14,7 +14,7 @@ NAMES = ("open", "write", "write at", "read at", "sync", "sync of data", "close"
 @dataclass(frozen=True)
 class Call:
     """A call: its kind, descriptor, place and result, and the bytes that it moved out, or its path. `SYNC_NAMES` is the sync of a directory,
-    which who reads the calls tells from that of a file."""
+    which a reader of the calls tells from that of a file."""
 
     kind: int
     file: int

@@ -28,7 +28,7 @@ exit $status
 
 
 class Recorder:
-    """Writes and syncs of a process, taken in the place of the system's. What stands behind the copy's last closed gate is any bytes."""
+    """Writes and syncs of a process, taken in the place of the system's. What follows the copy's last closed gate is any bytes."""
 
     FEW = 8
 
@@ -37,7 +37,7 @@ class Recorder:
         self.unsettled: dict[int, bytes] = {}
 
     def images(self, chance: random.Random) -> Iterator[bytes]:
-        """What a crash now may leave: of the unsettled sectors all old, all new, one of them otherwise, or each for itself."""
+        """What a crash now may leave: of the sectors that aren't durable yet all old, all new, one of them otherwise, or each independently."""
         new, old = dict(self.unsettled), {at: bytes(self.settled[SECTOR * at:SECTOR * (at + 1)]) for at in self.unsettled}
         yield from (self._image(old), self._image(new))
         places = sorted(new)

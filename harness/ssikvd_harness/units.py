@@ -178,7 +178,7 @@ FIRES = {
 
 
 def judge_alert(name: str, series: str, values: str, is_on: bool) -> None:
-    """Does the alert fire over this series, beside a log of 1,000 sectors?"""
+    """Does the alert fire over this series, with a log of 1,000 sectors?"""
     inputs = [(series, values), *([("ssikvd_log_sectors", "1000x60")] if "sectors_used" in series else [])]
     test = f"rule_files: [{DIST}/alerts.yml]\ntests:\n  - interval: 1m\n    input_series:\n"
     test += "".join(f"      - {{series: '{one}', values: '{given}'}}\n" for one, given in inputs)
