@@ -9,16 +9,18 @@ use Rattle.sessions.specs.Life.{LosesNothing}
 use Rattle.sessions.specs.Lives.{Served}
 use Rattle.sessions.specs.StandsFor.{device}
 use Rattle.sessions.specs.declared.hub.Hub.{Hub}
+use Rattle.stream_driver.specs.Entries.{is_gone}
 use Rattle.stream_driver.specs.Traffic.{Traffic}
 use Rattle.stream_driver.specs.declared.buffered.BufferedStream.{BufferedStream}
 use Rattle.stream_driver.specs.declared.entries.Entry.{Entry}
 use Rattle.slab.specs.Slab.{Slab}
 use Rattle.event_loop.proofs.Departing.{GoesOn, Slots, accepts_goes, all_kept, closed_goes, driven_goes, ends_tell}
+use Rattle.event_loop.proofs.Departing.{inner_tells}
 use Rattle.event_loop.proofs.Departing.{holds_map, last_sound, rests_goes, stands_now, turned_goes}
 use Rattle.event_loop.proofs.WholeTurns.{they_speak}
 use Rattle.event_loop.specs.AllThatLeft.{HaveOneRun, HoldsAtAllEnds, TurnsTo}
 use Rattle.event_loop.specs.AllThatLeft.TurnsTo.{Fault, NoTurn, OneMore}
-use Rattle.event_loop.specs.Departures.{AreKept, HoldsAtEnds, Serving, Tells, present_state}
+use Rattle.event_loop.specs.Departures.{HoldsAtEnds, IsExplained, Serving, Tells, present_state}
 use Rattle.event_loop.specs.Lingerings.{Lingerers, lingers_in, unless_failed}
 use Rattle.event_loop.specs.Sockets.{SocketsTell, session_of, traffic_of}
 use Rattle.event_loop.specs.Turns.{Accepted, IsTurn, accepts_now, is_reported_of}
@@ -32,11 +34,11 @@ use Rattle.event_loop.specs.declared.socket.Socket.{Socket}
 
 module _ {D : Type 0} {g : Ghosts D} where
   stays : {hub : Hub D g} {slots : Slots} {lingerers : List Lingerer} (s : Serving hub slots lingerers) → GoesOn s.served hub slots lingerers
-  stays s = record { now = s; told = λ n t e. e }
+  stays s = record { now = s; told = λ b n t e. e }
 
   then_on : {hub mid later : Hub D g} {served : Served hub} {slots new : Slots} {lingerers others : List Lingerer} (on : GoesOn served mid slots lingerers)
       → GoesOn on.now.served later new others → GoesOn served later new others
-  then_on on more = record { now = more.now; told = λ n t e. more.told n t (on.told n t e) }
+  then_on on more = record { now = more.now; told = λ b n t e. more.told b n t (on.told b n t e) }
 
   same_on : {hub mid later : Hub D g} {served : Served hub} {slots new : Slots} {lingerers others : List Lingerer} → later ≡ mid → new ≡ slots
       → others ≡ lingerers → GoesOn served mid slots lingerers → GoesOn served later new others
@@ -101,7 +103,8 @@ module _ {D : Type 0} {g : Ghosts D} where
 
   -- ---- any number of turns
 
-  all_ends : (P Q : ℕ → Traffic → Type 0) → ((s : ℕ) (t : Traffic) → P s t → Q s t) → {first last : EventLoop D g} (turns : TurnsTo first last)
+  all_ends : (P Q : Bool → ℕ → Traffic → Type 0) → ((b : Bool) (s : ℕ) (t : Traffic) → P b s t → Q b s t) → {first last : EventLoop D g}
+      (turns : TurnsTo first last)
       → HoldsAtAllEnds P turns → HoldsAtAllEnds Q turns
   all_ends P Q f NoTurn x = tt
   all_ends P Q f (OneMore old new since turn) x = (
@@ -128,15 +131,20 @@ module _ {D : Type 0} {g : Ghosts D} where
       let now = whole.0 in
       let h = present_state now.served in
       let lawful = (last_sound now.served.first last.hub now.served.choices now.served.ran).lawful h (stands_now now.served) in
-      let kept = all_kept last.hub last.table.slots last.lingering.queue.items last.serving crash only_now counts_now now.served in (
+      let kept = all_kept last.hub last.table.slots last.lingering.queue.items last.serving crash only_now counts_now now.served in
+      let explained : (b : Bool) (n : ℕ) (u : Traffic) → Tells now.served b n u → IsExplained now.served b n u =
+      λ b n u told. record { kept = kept n u.departed told.told; requested = told.requested } in (
         now.served,
         record {
           stands = stands_now now.served;
           lawful = lawful;
           speak = they_speak h last.table.slots lawful now.bytes t;
-          entries = λ key entry e. (let told = now.tells t key entry e in (told.number, kept entry.session (traffic_of entry.stream.inner).departed told.told));
-          linger = all-each _ _ last.lingering.queue.items (λ l told. kept (session_of l.socket) (traffic_of l.socket).departed told.told)
+          entries = λ key entry e. (
+              let told = inner_tells now.served (is_gone entry.state) entry.session entry.stream (now.tells t key entry e) in
+              (told.number, explained (is_gone entry.state) entry.session (traffic_of entry.stream.inner) told)
+              );
+          linger = all-each _ _ last.lingering.queue.items (λ l told. explained true (session_of l.socket) (traffic_of l.socket) told)
               (now.lingerers_tell t);
-          ended = all_ends (Tells now.served) (AreKept now.served) (λ n u told. kept n u.departed told.told) turns whole.1;
+          ended = all_ends (Tells now.served) (IsExplained now.served) explained turns whole.1;
         },
       ))

@@ -2,10 +2,10 @@
 use Rattle.std.proofs.Common.{◌≡◌, ◌≢◌, ◌⊎◌, inl, inr, ℕ, ◌+◌, ◌-◌, ◌||◌, Bool, true, false, List, [], ◌∷◌, ◌++◌}
 use Rattle.std.proofs.Common.{Option, Some, None, length, append_assoc, drop, refl, sym, ap, subst, ◌∙◌, arith}
 use Rattle.std.proofs.Math.Logic.{∥∥₁_map}
-use Rattle.std.proofs.lemmas.Bool.{cases_eq}
+use Rattle.std.proofs.lemmas.Bool.{and_parts, cases_eq}
 use Rattle.std.proofs.lemmas.List.{append-nil}
-use Rattle.std.proofs.lemmas.List.Elements.{All-drop, All-from_recursion, recursion_from_All}
-use Rattle.std.specs.List.{AllByRecursion}
+use Rattle.std.proofs.lemmas.List.Elements.{All-contains, All-drop, All-from_recursion, recursion_from_All}
+use Rattle.std.specs.List.{AllByRecursion, Contains}
 use Rattle.mio.specs.declared.event.event.Event.{Event}
 use Rattle.model.proofs.Elements.{all-append, all-each}
 use Rattle.model.proofs.Lookups.{some_same}
@@ -17,14 +17,15 @@ use Rattle.sessions.specs.Laws.{IsSessionStream, IsSound, NoneRuns, Ran}
 use Rattle.sessions.specs.Life.{Holds, LosesNothing, MayFind}
 use Rattle.sessions.specs.Lives.{IsOpened, IsServed, Served}
 use Rattle.sessions.specs.Readings.{HasOneReading}
-use Rattle.sessions.specs.SessionStreams.{HubState, HubEvent, Choice, SessionStream, replies_text, run, stream_of}
+use Rattle.sessions.specs.SessionStreams.{HubState, HubEvent, Choice, SessionStream, replies_text, requests_text, run}
+use Rattle.sessions.specs.SessionStreams.{stream_of}
 use Rattle.sessions.specs.StandsFor.{StandsFor, device}
 use Rattle.sessions.specs.declared.hub.Hub.{Hub}
 use Rattle.stream_driver.proofs.Carry.{run_then}
 use Rattle.stream_driver.proofs.Sends.{all_before, all_since, answered_since, answered_then, begins_through}
 use Rattle.stream_driver.proofs.States.{at_point, point_of}
-use Rattle.stream_driver.specs.Buffers.{buffered_in, traffic_through}
-use Rattle.stream_driver.specs.Entries.{DrivenAll, EndsDrive, HaveSessions, is_over}
+use Rattle.stream_driver.specs.Buffers.{buffered_in, has_had_share, is_settled, traffic_through}
+use Rattle.stream_driver.specs.Entries.{DrivenAll, EndsDrive, HaveSessions, is_gone, is_over}
 use Rattle.stream_driver.specs.Sends.{AreToldBefore, HasSent, HaveSent, IsAnswered}
 use Rattle.stream_driver.specs.Sessions.{Adds, Point, StandsAt}
 use Rattle.stream_driver.specs.Traffic.{Departure, DepartAt, IsBeginning, Traffic}
@@ -33,11 +34,12 @@ use Rattle.stream_driver.specs.declared.entries.Entry.{Entry}
 use Rattle.stream_driver.specs.declared.entries.EntryState.TheVariants.{Ready, Gone}
 use Rattle.event_loop.proofs.Committed.{answered_committed}
 use Rattle.event_loop.proofs.Entries.{no_entry, polled_sessions}
-use Rattle.event_loop.proofs.Polled.{each_rest, TakesTurns, was_driven, was_polled}
-use Rattle.event_loop.proofs.TableBytes.{driven_was, drives_bytes, finished, polled_bytes}
+use Rattle.event_loop.proofs.GoneSessions.{Grows, HasLeft, left_on, run_grows}
+use Rattle.event_loop.proofs.Polled.{each_rest, gone_at, TakesTurns, was_driven, was_gone, was_polled}
+use Rattle.event_loop.proofs.TableBytes.{driven_left, driven_was, drives_bytes, finished, polled_bytes}
 use Rattle.event_loop.proofs.WholeTurns.{all_found, each_bytes, new_begins}
 use Rattle.event_loop.specs.Departures.{EntriesTell, HoldsAtEnds, IsCommitted, IsKept, IsServing, IsTold}
-use Rattle.event_loop.specs.Departures.{LingerersTell, Serving, Tells, first_state, present_state}
+use Rattle.event_loop.specs.Departures.{LingerersTell, Serving, Tells, WasRequested, first_state, present_state}
 use Rattle.event_loop.specs.Leavings.{EndAll, EndEach, LeavesAs, LeavesIf}
 use Rattle.event_loop.specs.Leavings.EndEach.{NoneEnded, OneMore as OneEnded}
 use Rattle.event_loop.specs.Lingerings.{AllTurned, AreTurned, DropsInput, Lingerers, TurnedIf, Leaves}
@@ -96,33 +98,48 @@ module _ {D : Type 0} {g : Ghosts D} {hub : Hub D g} (served : Served hub) where
     bytes_on : (slots : Slots) → HaveTheirBytes (run (present_state served) fs) slots → HaveTheirBytes (present_state served_on) slots
     bytes_on slots has = subst (λ (h : HubState). HaveTheirBytes h slots) (sym (run_then (first_state served) served.choices fs)) has
 
+    -- who has left stays so
+    present_grows : Grows (present_state served) (present_state served_on)
+    present_grows =
+        subst (λ (h : HubState). Grows (present_state served) h) (sym (run_then (first_state served) served.choices fs)) (run_grows (present_state served) fs)
+
+    requested_on : (s : ℕ) (bytes : List ℕ) → WasRequested served s bytes → WasRequested served_on s bytes
+    requested_on s bytes w = record {
+      stream = w.stream;
+      left = left_on (present_state served) (present_state served_on) s w.stream present_grows w.left;
+      requests = w.requests;
+    }
+
     -- what was answered before stays so
-    pub tells_on : (s : ℕ) (t : Traffic) → Tells served s t → Tells served_on s t
-    tells_on s t e = assumption (
-      all_since s (first_state served) ran_then served.first hub later served.choices fs ran t.departed e.told,
-      answered_since s (first_state served) served.choices fs t.sent e.answered,
-    )
+    pub tells_on : (gone : Bool) (s : ℕ) (t : Traffic) → Tells served gone s t → Tells served_on gone s t
+    tells_on gone s t e = record {
+      number = e.number;
+      told = all_since s (first_state served) ran_then served.first hub later served.choices fs ran t.departed e.told;
+      answered = answered_since s (first_state served) served.choices fs t.sent e.answered;
+      requested = λ is. requested_on s t.received (e.requested is);
+    }
 
     lingerers_on : (all : List Lingerer) → LingerersTell served all → LingerersTell served_on all
-    lingerers_on all tells = all-each _ _ all (λ l. tells_on (session_of l.socket) (traffic_of l.socket)) tells
+    lingerers_on all tells = all-each _ _ all (λ l. tells_on true (session_of l.socket) (traffic_of l.socket)) tells
 
     -- a stream was called in a drive, or left alone
-    driven_tells : (s : ℕ) (t u : Traffic) → u.connection ≡ t.connection → AreToldBefore s (present_state served) hub later fs t u
-        → (u.sent ≡ t.sent) ⊎ IsAnswered s (present_state served) fs u.sent → Tells served s t → Tells served_on s u
-    driven_tells s t u same_number left took e =
-        let on = tells_on s t e in
+    driven_tells : (was gone : Bool) (s : ℕ) (t u : Traffic) → u.connection ≡ t.connection → AreToldBefore s (present_state served) hub later fs t u
+        → (u.sent ≡ t.sent) ⊎ IsAnswered s (present_state served) fs u.sent → (gone ≡ true → WasRequested served_on s u.received) → Tells served was s t
+        → Tells served_on gone s u
+    driven_tells was gone s t u same_number left took asked e =
+        let on = tells_on was s t e in
         let told : AllByRecursion (IsTold served_on s) (t.departed ++ left.departures) =
         all-append (IsTold served_on s) t.departed left.departures on.told
         (all_before s (first_state served) ran_then served.first hub later served.choices fs served.ran left.departures left.each) in
         let answered : IsAnswered s (first_state served) (served.choices ++ fs) u.sent =
         elim took [ inl same ↦ rw same on.answered | inr since ↦ answered_then s (first_state served) served.choices fs u.sent since ] in
-        record { number = same_number ∙ e.number; told = rw left.departed_are told; answered = answered }
+        record { number = same_number ∙ e.number; told = rw left.departed_are told; answered = answered; requested = asked }
 
 module _ {D : Type 0} {g : Ghosts D} where
   -- a loop that serves on a run goes on with it: what was told is told still
   pub record GoesOn {hub : Hub D g} (served : Served hub) (later : Hub D g) (new : Slots) (lingerers : List Lingerer) : Type 0 where
     pub now : Serving later new lingerers
-    pub told : (s : ℕ) (t : Traffic) → Tells served s t → Tells now.served s t
+    pub told : (gone : Bool) (s : ℕ) (t : Traffic) → Tells served gone s t → Tells now.served gone s t
 
 -- ---- what a stream buffers leaves
 
@@ -134,14 +151,18 @@ answered_part s h es less bytes begins a =
 
 module _ {D : Type 0} {g : Ghosts D} {hub : Hub D g} (served : Served hub) where
   -- no more has left than was written to the connection
-  inner_tells : (s : ℕ) (b : BufferedStream Socket) → Tells served s (through b) → Tells served s (traffic_of b.inner)
-  inner_tells s b e =
-      assumption (answered_part s (first_state served) served.choices (traffic_of b.inner).sent (through b).sent
-      (record { rest = buffered_in b.buffered; all_is = refl }) e.answered)
+  pub inner_tells : (gone : Bool) (s : ℕ) (b : BufferedStream Socket) → Tells served gone s (through b) → Tells served gone s (traffic_of b.inner)
+  inner_tells gone s b e = record {
+    number = e.number;
+    told = e.told;
+    answered = answered_part s (first_state served) served.choices (traffic_of b.inner).sent (through b).sent
+        (record { rest = buffered_in b.buffered; all_is = refl }) e.answered;
+    requested = e.requested;
+  }
 
   -- the session is that of the number
-  own_tells : (s : ℕ) (socket : Socket) → Tells served s (traffic_of socket) → Tells served (session_of socket) (traffic_of socket)
-  own_tells s socket e = subst (λ (n : ℕ). Tells served n (traffic_of socket)) (sym e.number) e
+  own_tells : (s : ℕ) (socket : Socket) → Tells served true s (traffic_of socket) → Tells served true (session_of socket) (traffic_of socket)
+  own_tells s socket e = subst (λ (n : ℕ). Tells served true n (traffic_of socket)) (sym e.number) e
 
   module _ (none : NoneRuns hub) (moment : ℕ) (now : moment ≡ g.moment (device hub)) where
     leaves_now : (s : ℕ) (took : List ℕ) → IsAnswered s (first_state served) served.choices took → (ds : List Departure)
@@ -157,9 +178,10 @@ module _ {D : Type 0} {g : Ghosts D} {hub : Hub D g} (served : Served hub) where
       told = answered_part s (first_state served) served.choices d.bytes took left.1 a;
     }) all
 
-    -- nothing was written to it, and what left leaves now
-    departs_tells : (s : ℕ) (t u : Traffic) → u.connection ≡ t.connection → u.sent ≡ t.sent → DepartAt moment t u → Tells served s t → Tells served s u
-    departs_tells s t u same_number same departs e =
+    -- nothing was written to it, and what left leaves now; more may have come in
+    departs_tells : (was gone : Bool) (s : ℕ) (t u : Traffic) → (gone ≡ true → was ≡ true) → u.connection ≡ t.connection
+        → IsBeginning t.received u.received → u.sent ≡ t.sent → DepartAt moment t u → Tells served was s t → Tells served gone s u
+    departs_tells was gone s t u before same_number more same departs e =
         let answered : IsAnswered s (first_state served) served.choices u.sent =
         subst (λ (bytes : List ℕ). IsAnswered s (first_state served) served.choices bytes) (sym same) e.answered in
         let told : AllByRecursion (IsTold served s) (t.departed ++ departs.departures) =
@@ -168,19 +190,29 @@ module _ {D : Type 0} {g : Ghosts D} {hub : Hub D g} (served : Served hub) where
           number = same_number ∙ e.number;
           told = subst (λ (ds : List Departure). AllByRecursion (IsTold served s) ds) (sym departs.departed_are) told;
           answered = answered;
+          requested = λ is. (let w = e.requested (before is) in record {
+            stream = w.stream;
+            left = w.left;
+            requests = begins_through (requests_text w.stream) t.received u.received w.requests more;
+          });
         }
 
     -- the end of an entry's drive
-    end_tells : SocketsTell → (was entry : Connection) → EndsDrive SocketsTell traffic_of moment was entry → Tells served was.session (through was.stream)
-        → Tells served entry.session (through entry.stream)
+    end_tells : SocketsTell → (was entry : Connection) → EndsDrive SocketsTell traffic_of moment was entry
+        → Tells served (is_gone was.state) was.session (through was.stream) → Tells served (is_gone entry.state) entry.session (through entry.stream)
     end_tells t was entry ends e =
         let f = finished SocketsTell traffic_of moment entry.state was.stream entry.stream ends.stream in
-        subst (λ (s : ℕ). Tells served s (through entry.stream)) (sym ends.session)
-        (departs_tells was.session (through was.stream) (through entry.stream) f.connection (f.sent t) (f.departed t) e)
+        let before : is_gone entry.state ≡ true → is_gone was.state ≡ true =
+        λ is. ap is_gone (was_gone was.state (has_had_share was.stream) (sym ends.state ∙ gone_at entry.state is)) in
+        let more : IsBeginning (through was.stream).received (through entry.stream).received =
+        record { rest = []; all_is = f.received t ∙ sym (append-nil (through was.stream).received) } in
+        subst (λ (s : ℕ). Tells served (is_gone entry.state) s (through entry.stream)) (sym ends.session)
+        (departs_tells (is_gone was.state) (is_gone entry.state) was.session (through was.stream) (through entry.stream) before f.connection more (f.sent t)
+        (f.departed t) e)
 
     -- ---- those that linger
 
-    one_lingers : (socket : Socket) (old new : Lingerers) → Leaves socket old new → (s : ℕ) → Tells served s (traffic_of socket)
+    one_lingers : (socket : Socket) (old new : Lingerers) → Leaves socket old new → (s : ℕ) → Tells served true s (traffic_of socket)
         → LingerersTell served old.all → LingerersTell served new.all
     one_lingers socket old new leaves s e tells = elim leaves [
       | inl x ↦ rw x.1 tells
@@ -189,22 +221,33 @@ module _ {D : Type 0} {g : Ghosts D} {hub : Hub D g} (served : Served hub) where
         | inr begun ↦
             let one : Lingerer = record { socket = socket; left = LINGERING_BYTES } in
             rw begun.1
-            (all_drop (λ (l : Lingerer). Tells served (session_of l.socket) (traffic_of l.socket)) (length old.all + 1 - LINGERING_MAX) (old.all ++ one ∷ [])
-            (all-append (λ (l : Lingerer). Tells served (session_of l.socket) (traffic_of l.socket)) old.all (one ∷ []) tells (own_tells s socket e, tt)))
+            (all_drop (λ (l : Lingerer). Tells served true (session_of l.socket) (traffic_of l.socket)) (length old.all + 1 - LINGERING_MAX) (old.all ++ one
+            ∷ [])
+            (all-append (λ (l : Lingerer). Tells served true (session_of l.socket) (traffic_of l.socket)) old.all (one ∷ []) tells
+            (own_tells s socket e, tt)))
       ]
     ]
 
-    leaves_if : (b : Bool) (socket : Socket) (old new : Lingerers) → LeavesIf b socket old new → (s : ℕ) → Tells served s (traffic_of socket)
-        → LingerersTell served old.all → LingerersTell served new.all
+    leaves_if : (b : Bool) (socket : Socket) (old new : Lingerers) → LeavesIf b socket old new → (s : ℕ)
+        → (b ≡ true → Tells served true s (traffic_of socket)) → LingerersTell served old.all → LingerersTell served new.all
     leaves_if false socket old new same s e tells = rw same tells
-    leaves_if true socket old new leaves s e tells = one_lingers socket old new leaves s e tells
+    leaves_if true socket old new leaves s e tells = one_lingers socket old new leaves s (e refl) tells
+
+    -- the session of an entry that is over is gone
+    over_tells : (entry : Connection) → Tells served (is_gone entry.state) entry.session (traffic_of entry.stream.inner) → is_over entry ≡ true
+        → Tells served true entry.session (traffic_of entry.stream.inner)
+    over_tells entry e over =
+        subst (λ (gone : Bool). Tells served gone entry.session (traffic_of entry.stream.inner))
+        (and_parts (is_gone entry.state) (is_settled entry.stream) over).0 e
 
     leaves_as : SocketsTell → (slot after : Option Connection) (ended : EndsTurn SocketsTell traffic_of moment slot after) (old new : Lingerers)
         → LeavesAs moment slot after ended old new
-        → ((was : Connection) → slot ≡ Some was → Tells served was.session (through was.stream)) → LingerersTell served old.all → LingerersTell served new.all
+        → ((was : Connection) → slot ≡ Some was → Tells served (is_gone was.state) was.session (through was.stream)) → LingerersTell served old.all
+        → LingerersTell served new.all
     leaves_as t None after ended old new same tells all = subst (λ (l : Lingerers). LingerersTell served l.all) (sym same) all
     leaves_as t (Some was) after (mid, ends, is) old new leaves tells all =
-        leaves_if (is_over mid) mid.stream.inner old new leaves mid.session (inner_tells mid.session mid.stream (end_tells t was mid ends (tells was refl))) all
+        leaves_if (is_over mid) mid.stream.inner old new leaves mid.session
+        (over_tells mid (inner_tells (is_gone mid.state) mid.session mid.stream (end_tells t was mid ends (tells was refl)))) all
 
     each_lingers : SocketsTell → {slots : Slots} {old : Lingerers} {key : ℕ} {new : Slots} {later : Lingerers} → EndEach moment slots old key new later
         → EntriesTell served slots → LingerersTell served old.all
@@ -215,9 +258,10 @@ module _ {D : Type 0} {g : Ghosts D} {hub : Hub D g} (served : Served hub) where
         (each_lingers t each entries tells)
 
     drops_tells : SocketsTell → (old : Lingerer) (dropped : Dropped) (new : Lingerer) → DropsInput moment old dropped new → (s : ℕ)
-        → Tells served s (traffic_of old.socket) → Tells served s (traffic_of new.socket)
+        → Tells served true s (traffic_of old.socket) → Tells served true s (traffic_of new.socket)
     drops_tells t old dropped new drops s e =
-        departs_tells s (traffic_of old.socket) (traffic_of new.socket) drops.connection (drops.sent t) (drops.departed t) e
+        departs_tells true true s (traffic_of old.socket) (traffic_of new.socket) (λ is. is) drops.connection (drops.goes_on t) (drops.sent t)
+        (drops.departed t) e
 
     all_tell : SocketsTell → (old new : List Lingerer) (more : Bool) → AllTurned moment old new more → LingerersTell served old → LingerersTell served new
     all_tell t [] new more turned tells = subst (λ (l : List Lingerer). LingerersTell served l) (sym turned.0) tells
@@ -258,18 +302,50 @@ module _ {D : Type 0} {g : Ghosts D} (hub later : Hub D g) (slots new : Slots) (
         × DrivenAll SocketsTell through (point_of hub (present_state s.served)) d.ready k d.driven)
     to = d.drives.leads.to (point_of hub (present_state s.served)) (at_point hub (present_state s.served) (stands_now s.served))
 
+    -- what was served for a session that has left by now was requested
+    now_requested : (n : ℕ) (bytes : List ℕ) → HasLeft to.0.hub n bytes → WasRequested on n bytes
+    now_requested n bytes l =
+        let is : to.0.hub ≡ present_state on = to.2.0.run_is ∙ sym (run_then (first_state s.served) s.served.choices d.drives.leads.choices) in
+        let left : Contains (present_state on).gone (n, l.stream) = subst (λ (h : HubState). Contains h.gone (n, l.stream)) is l.left in
+        let lawful = (last_sound s.served.first later on.choices on.ran).lawful (present_state on) (stands_now on) in
+        record {
+          stream = l.stream;
+          left = left;
+          requests = l.came (All-contains (λ (x : ℕ × SessionStream). IsSessionStream x.1) (present_state on).gone (n, l.stream)
+              (All-from_recursion (λ (x : ℕ × SessionStream). IsSessionStream x.1) (present_state on).gone lawful.gone) left);
+        }
+
+    -- of the entries that were to be driven those that were gone
+    gone_before : SocketsTell → (key : ℕ) (entry : Connection) → slot_at d.ready key ≡ Some entry → entry.state ≡ Gone
+        → HasLeft (present_state s.served) entry.session (through entry.stream).received
+    gone_before t key entry e gone =
+        let before = was_polled traffic_of slots d.ready events turned key entry e in
+        let was = (s.tells t key before.0 before.1).requested (sym before.2.gone ∙ ap is_gone gone) in record {
+          stream = was.stream;
+          left = subst (λ (n : ℕ). Contains (present_state s.served).gone (n, was.stream)) (sym before.2.session) was.left;
+          came = λ is. subst (λ (x : Traffic). IsBeginning (requests_text was.stream) x.received) (sym before.2.through) was.requests;
+        }
+
     -- what was answered before the drives' departures stays so
     driven_tell : SocketsTell → EntriesTell on d.driven
     driven_tell t key mid e =
         let h = present_state s.served in
         let was = driven_was SocketsTell through (point_of hub h) d.ready to.0 d.driven to.2.1 key mid e in
         let before = was_polled traffic_of slots d.ready events turned key was.0 was.1 in
-        let sent = have_sent h d.ready t (polled_bytes SocketsTell traffic_of (g.moment (device later)) slots d.ready events turned h s.bytes) in
-        subst (λ (n : ℕ). Tells on n (through mid.stream)) (sym was.2)
-        (driven_tells s.served later d.drives.leads.choices d.drives.leads.ran was.0.session (through was.0.stream) (through mid.stream) was.3
-        (d.drives.telling t h (stands_now s.served) sent key was.0 mid was.1 e) (d.drives.answered t h (stands_now s.served) sent key was.0 mid was.1 e)
-        (subst (λ (n : ℕ). Tells s.served n (through was.0.stream)) (sym before.2.session)
-        (subst (λ (x : Traffic). Tells s.served before.0.session x) (sym before.2.through) (s.tells t key before.0 before.1))))
+        let bytes = polled_bytes SocketsTell traffic_of (g.moment (device later)) slots d.ready events turned h s.bytes in
+        let sent = have_sent h d.ready t bytes in
+        let gone : is_gone mid.state ≡ true → HasLeft to.0.hub mid.session (through mid.stream).received =
+        λ is. driven_left SocketsTell through (point_of hub h) d.ready to.0 d.driven to.2.1 (polled_sessions slots d.ready events turned hub sessions).own t
+        bytes (gone_before t) key mid e (gone_at mid.state is) in
+        let asked : is_gone mid.state ≡ true → WasRequested on was.0.session (through mid.stream).received =
+        λ is. subst (λ (n : ℕ). WasRequested on n (through mid.stream).received) was.2
+        (now_requested mid.session (through mid.stream).received (gone is)) in
+        subst (λ (n : ℕ). Tells on (is_gone mid.state) n (through mid.stream)) (sym was.2)
+        (driven_tells s.served later d.drives.leads.choices d.drives.leads.ran (is_gone before.0.state) (is_gone mid.state) was.0.session
+        (through was.0.stream) (through mid.stream) was.3 (d.drives.telling t h (stands_now s.served) sent key was.0 mid was.1 e)
+        (d.drives.answered t h (stands_now s.served) sent key was.0 mid was.1 e) asked
+        (subst (λ (n : ℕ). Tells s.served (is_gone before.0.state) n (through was.0.stream)) (sym before.2.session)
+        (subst (λ (x : Traffic). Tells s.served (is_gone before.0.state) before.0.session x) (sym before.2.through) (s.tells t key before.0 before.1))))
 
     lingered : SocketsTell → LingerersTell on old.all
     lingered t = lingerers_on s.served later d.drives.leads.choices d.drives.leads.ran old.all (s.lingerers_tell t)
@@ -295,7 +371,7 @@ module _ {D : Type 0} {g : Ghosts D} (hub later : Hub D g) (slots new : Slots) (
     pub ends_tell : SocketsTell → HoldsAtEnds (Tells driven_goes.now.served) (g.moment (device later)) d.driven old.all later_all.all
     unfolding driven_goes driven_serves
     ends_tell t = record {
-      entries = λ key was entry e ends. inner_tells on entry.session entry.stream
+      entries = λ key was entry e ends. inner_tells on (is_gone entry.state) entry.session entry.stream
           (end_tells on none_runs (g.moment (device later)) refl t was entry ends (driven_tell t key was e));
       linger = lingered t;
       ends = all-each _ _ later_all.all
@@ -322,7 +398,7 @@ module _ {D : Type 0} {g : Ghosts D} (hub : Hub D g) (slots : Slots) where
       → GoesOn s.served hub slots new.all
   unfolding turns_on relinger
   turned_goes is_reported old new turned s =
-      record { now = turns_on (g.moment (device hub)) refl is_reported old new turned s; told = λ n t e. e }
+      record { now = turns_on (g.moment (device hub)) refl is_reported old new turned s; told = λ b n t e. e }
 
   pub turns_serve : (moment : ℕ) → moment ≡ g.moment (device hub) → (is_reported : Bool) (old new : Lingerers) → AreTurned moment is_reported old new
       → IsServing hub slots old.all → IsServing hub slots new.all
@@ -333,7 +409,7 @@ module _ {D : Type 0} {g : Ghosts D} (hub : Hub D g) (slots : Slots) where
 
   pub closed_goes : (old : List Lingerer) (s : Serving hub slots old) → GoesOn s.served hub slots []
   unfolding closed_on relinger
-  closed_goes old s = record { now = closed_on old [] refl s; told = λ n t e. e }
+  closed_goes old s = record { now = closed_on old [] refl s; told = λ b n t e. e }
 
   pub closed_serves : (old new : List Lingerer) → new ≡ [] → IsServing hub slots old → IsServing hub slots new
   closed_serves old new is some = ∥∥₁_map some (closed_on old new is)
@@ -366,7 +442,7 @@ module _ {D : Type 0} {g : Ghosts D} where
 -- nothing left over a new connection
 new_tells : {D : Type 0} {g : Ghosts D} {hub : Hub D g} (served : Served hub) (slots : Slots) → SocketsTell → HaveTheirBytes (present_state served) slots
     → (key : ℕ) (entry : Connection) → slot_at slots key ≡ Some entry → IsNewSocket key entry.session entry.stream → entry.state ≢ Gone
-    → Tells served entry.session (through entry.stream)
+    → Tells served (is_gone entry.state) entry.session (through entry.stream)
 new_tells served slots t has key entry e fresh alive =
     let none : (through entry.stream).departed ≡ [] = ap (λ (x : Socket). (traffic_of x).departed) fresh.2.inner_is ∙ fresh.1.departed t in
     record {
@@ -376,6 +452,7 @@ new_tells served slots t has key entry e fresh alive =
           (append-nil served.choices)
           (answered_then entry.session (first_state served) served.choices [] (through entry.stream).sent
           (sent_answered entry.session (present_state served) [] (through entry.stream) (have_sent (present_state served) slots t has key entry e alive)));
+      requested = λ is. absurd (alive (gone_at entry.state is));
     }
 
 module _ {D : Type 0} {g : Ghosts D} (hub later : Hub D g) (next then count refused counted : ℕ) (slots new : Slots) (lingerers : List Lingerer)
@@ -394,7 +471,7 @@ module _ {D : Type 0} {g : Ghosts D} (hub later : Hub D g) (next then count refu
         served = served_on s.served later leads.choices leads.ran;
         bytes = bytes;
         tells = λ t key entry e. elim (each_from come.0 key entry e) [
-          | inl was ↦ tells_on s.served later leads.choices leads.ran entry.session (through entry.stream) (s.tells t key entry was)
+          | inl was ↦ tells_on s.served later leads.choices leads.ran (is_gone entry.state) entry.session (through entry.stream) (s.tells t key entry was)
           | inr (fresh, alive) ↦ new_tells (served_on s.served later leads.choices leads.ran) new t bytes key entry e fresh alive
         ];
         lingerers_tell = λ t. lingerers_on s.served later leads.choices leads.ran lingerers (s.lingerers_tell t);
@@ -414,7 +491,7 @@ module _ {D : Type 0} {g : Ghosts D} (hub later : Hub D g) (ran : Ran hub later 
   rests_on s = record {
     served = served_on s.served later [] ran;
     bytes = bytes_on s.served later [] ran slots s.bytes;
-    tells = λ t key entry e. tells_on s.served later [] ran entry.session (through entry.stream) (s.tells t key entry e);
+    tells = λ t key entry e. tells_on s.served later [] ran (is_gone entry.state) entry.session (through entry.stream) (s.tells t key entry e);
     lingerers_tell = λ t. lingerers_on s.served later [] ran lingerers (s.lingerers_tell t);
   }
 
@@ -482,11 +559,11 @@ module _ {D : Type 0} {g : Ghosts D} (hub : Hub D g) (slots : Slots) (lingerers 
 
 -- ---- what leaves in a turn
 
-pub holds_map : (P Q : ℕ → Traffic → Type 0) → ((s : ℕ) (t : Traffic) → P s t → Q s t)
+pub holds_map : (P Q : Bool → ℕ → Traffic → Type 0) → ((b : Bool) (s : ℕ) (t : Traffic) → P b s t → Q b s t)
     → (moment : ℕ) (driven : List (Option (Entry (BufferedStream Socket)))) (lingered turned : List Lingerer) → HoldsAtEnds P moment driven lingered turned
     → HoldsAtEnds Q moment driven lingered turned
 holds_map P Q f moment driven lingered turned x = record {
-  entries = λ key was entry e ends. f entry.session (traffic_of entry.stream.inner) (x.entries key was entry e ends);
-  linger = all-each _ _ lingered (λ l p. f (session_of l.socket) (traffic_of l.socket) p) x.linger;
-  ends = all-each _ _ turned (λ l p dropped later drops. f (session_of l.socket) (traffic_of later.socket) (p dropped later drops)) x.ends;
+  entries = λ key was entry e ends. f (is_gone entry.state) entry.session (traffic_of entry.stream.inner) (x.entries key was entry e ends);
+  linger = all-each _ _ lingered (λ l p. f true (session_of l.socket) (traffic_of l.socket) p) x.linger;
+  ends = all-each _ _ turned (λ l p dropped later drops. f true (session_of l.socket) (traffic_of later.socket) (p dropped later drops)) x.ends;
 }

@@ -3,6 +3,7 @@ pub mod Present
 pub mod Entries
 pub mod Tables
 pub mod Polled
+mod GoneSessions
 mod Ordering
 pub mod TableBytes
 pub mod WholeTurns

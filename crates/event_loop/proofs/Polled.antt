@@ -29,14 +29,14 @@ mapped_some : {A B : Type 0} (f : A → B) (o p : Option A) (y : A) → option_m
 mapped_some f None p y same is = absurd (cc (ap (option_map f) is))
 mapped_some f (Some x) p y same is = (x, refl, cc (ap (option_map f) is))
 
-gone_at : (state : EntryState) → is_gone state ≡ true → state ≡ Gone
+pub gone_at : (state : EntryState) → is_gone state ≡ true → state ≡ Gone
 gone_at state is = grind arith
 
 -- an entry is gone at the end of its drive exactly where it was
 pub gone_at_end : (state : EntryState) (had : Bool) → state ≡ Gone → state_at_end state had ≡ Gone
 gone_at_end state had gone = ap (λ s. state_at_end s had) gone
 
-was_gone : (state : EntryState) (had : Bool) → state_at_end state had ≡ Gone → state ≡ Gone
+pub was_gone : (state : EntryState) (had : Bool) → state_at_end state had ≡ Gone → state ≡ Gone
 was_gone Gone had gone = refl
 was_gone Ready had gone = gone
 was_gone Idle true gone = absurd (let bad : Ready ≡ Gone = gone in cc)

@@ -19,6 +19,7 @@ use Rattle.stream_driver.specs.declared.entries.Entry.{Entry}
 use Rattle.stream_driver.specs.declared.entries.EntryState.{EntryState}
 use Rattle.stream_driver.specs.declared.entries.EntryState.TheVariants.{Idle, Ready, Gone as EntryGone}
 use Rattle.event_loop.proofs.Entries.{no_entry}
+use Rattle.event_loop.proofs.GoneSessions.{HasLeft, all_grow, entry_left, slot_grows, stays_left}
 use Rattle.event_loop.proofs.Polled.{gone_as, gone_at_end, TakesTurns, was_driven, was_polled}
 use Rattle.event_loop.proofs.Slots.{Slots}
 use Rattle.event_loop.specs.TableBytes.{HasItsBytes, HaveBytes}
@@ -143,6 +144,44 @@ module _ {T : Type 0} (tells : Type 0) (traffic : T → Traffic) where
       let before = was_alive w.0.state w.2 w.0 w.3 entry refl w.4 alive in
       one_bytes earlier slots later new d key w.0 entry w.1 e (λ other another g too same. own key other w.0 another w.1 g before too same) alive
       (has key w.0 w.1 before)
+
+  -- ---- entries that are gone
+
+  one_left : (earlier : Point) (slots : Slots T) (later : Point) (new : Slots T) → DrivenAll tells traffic earlier slots later new
+      → (key : ℕ) (was entry : Entry T) → slot_at slots key ≡ Some was → slot_at new key ≡ Some entry
+      → (was.state ≢ EntryGone → (other : ℕ) (another : Entry T) → slot_at slots other ≡ Some another → another.state ≢ EntryGone
+      → was.session ≡ another.session → key ≡ other)
+      → tells → (was.state ≢ EntryGone → HasItsBytes tells traffic earlier.hub was)
+      → (was.state ≡ EntryGone → HasLeft earlier.hub was.session (traffic was.stream).received) → entry.state ≡ EntryGone
+      → HasLeft later.hub entry.session (traffic entry.stream).received
+  one_left earlier [] later new d key was entry e f own t has left gone = absurd (no_entry [] refl key was e)
+  one_left earlier (slot ∷ slots) later new (first, mid, others, is, d, rest) zero was entry e f own t has left gone =
+      let here = slot_driven earlier slot mid first d was entry e (ap (λ l. slot_at l zero) (sym is) ∙ f) in
+      stays_left mid.hub later.hub entry.session (traffic entry.stream).received (all_grow tells traffic mid slots later others rest)
+      (entry_left tells traffic was.state earlier was mid entry refl here t has left gone)
+  one_left earlier (slot ∷ slots) later new (first, mid, others, is, d, rest) (suc key) was entry e f own t has left gone =
+      one_left mid slots later others rest key was entry e (ap (λ l. slot_at l (suc key)) (sym is) ∙ f)
+      (λ alive other another g too same. (let up : suc key ≡ suc other = own alive (suc other) another g too same in omega arith)) t
+      (λ alive. (let b = has alive in (
+        b.0,
+        slot_other earlier slot mid first d was.session (λ another g too same. (let bad : suc key ≡ zero = own alive zero another g too same in omega arith))
+            ∙ b.1,
+        b.2,
+      )))
+      (λ before. stays_left earlier.hub mid.hub was.session (traffic was.stream).received (slot_grows tells traffic earlier slot mid first d) (left before))
+      gone
+
+  -- the session of each has left
+  pub driven_left : (earlier : Point) (slots : Slots T) (later : Point) (new : Slots T) → DrivenAll tells traffic earlier slots later new → AreOwn slots
+      → tells → HaveBytes tells traffic earlier.hub slots
+      → ((key : ℕ) (entry : Entry T) → slot_at slots key ≡ Some entry → entry.state ≡ EntryGone
+      → HasLeft earlier.hub entry.session (traffic entry.stream).received)
+      → (key : ℕ) (entry : Entry T) → slot_at new key ≡ Some entry → entry.state ≡ EntryGone
+      → HasLeft later.hub entry.session (traffic entry.stream).received
+  driven_left earlier slots later new d own t has left key entry e gone =
+      let w = driven_at earlier slots later new d key entry e in
+      one_left earlier slots later new d key w.0 entry w.1 e (λ alive other another g too same. own key other w.0 another w.1 g alive too same) t
+      (λ alive. has key w.0 w.1 alive) (left key w.0 w.1) gone
 
   -- ---- the table alone changes
 

@@ -1,17 +1,18 @@
 -- One run for all that ever left over the connections of a loop: of those in its table, of those that linger, and of
 -- those that a turn has closed.
 use Rattle.std.specs.List.{AllByRecursion}
-use Rattle.std.specs.Prelude.{◌≡◌, ◌≢◌, ℕ, ⊤, Some}
+use Rattle.std.specs.Prelude.{◌≡◌, ◌≢◌, ℕ, ⊤, Bool, true, Some}
 use Rattle.sector.specs.declared.device.Sectors.{Ghosts}
 use Rattle.sessions.specs.Laws.{IsLawful}
 use Rattle.sessions.specs.Lives.{Served}
 use Rattle.sessions.specs.SessionStreams.{SessionStream, stream_of}
 use Rattle.sessions.specs.StandsFor.{StandsFor, device}
+use Rattle.stream_driver.specs.Entries.{is_gone}
 use Rattle.stream_driver.specs.Traffic.{Traffic}
 use Rattle.stream_driver.specs.declared.buffered.BufferedStream.{BufferedStream}
 use Rattle.stream_driver.specs.declared.entries.Entry.{Entry}
 use Rattle.stream_driver.specs.declared.entries.EntryState.TheVariants.{Gone}
-use Rattle.event_loop.specs.Departures.{AreKept, HoldsAtEnds, present_state}
+use Rattle.event_loop.specs.Departures.{HoldsAtEnds, IsExplained, present_state}
 use Rattle.event_loop.specs.Sockets.{SocketsTell, session_of, traffic_of}
 use Rattle.event_loop.specs.TableBytes.{SpeaksFor}
 use Rattle.event_loop.specs.Tables.{slot_at}
@@ -26,7 +27,7 @@ pub data TurnsTo {D : Type 0} {g : Ghosts D} (first : EventLoop D g) : EventLoop
   Fault : (old new : EventLoop D g) → TurnsTo first old → IsUntouched old new → TurnsTo first new
 
 -- this holds of each session and of what its connection has moved, as each of these turns left or ended it
-abbrev pub HoldsAtAllEnds : {D : Type 0} {g : Ghosts D} {first last : EventLoop D g} → (ℕ → Traffic → Type 0)
+abbrev pub HoldsAtAllEnds : {D : Type 0} {g : Ghosts D} {first last : EventLoop D g} → (Bool → ℕ → Traffic → Type 0)
     → TurnsTo first last → Type 0
 HoldsAtAllEnds P NoTurn = ⊤
 HoldsAtAllEnds {D} {g} P (OneMore old new since turn) =
@@ -36,8 +37,9 @@ HoldsAtAllEnds {D} {g} P (OneMore old new since turn) =
 HoldsAtAllEnds P (Fault old new since same) = HoldsAtAllEnds P since
 
 -- The run from an opening to the hub after these turns comes to a lawful state. Each connection whose session has not
--- left speaks of that session there. And each departure is kept of each connection that ever was: of each in the table,
--- which is that of its session, of each that lingers, and of each as any of the turns left or closed it.
+-- left speaks of that session there. And each connection that ever was is explained, each of its departures and, where
+-- its session has left, what was served for it: of each in the table, which is that of its session, of each that
+-- lingers, and of each as any of the turns left or closed it.
 pub record IsOneRun {D : Type 0} {g : Ghosts D} {first last : EventLoop D g} (served : Served last.hub)
     (turns : TurnsTo first last) : Type 0 where
   pub stands : StandsFor last.hub (present_state served)
@@ -47,10 +49,11 @@ pub record IsOneRun {D : Type 0} {g : Ghosts D} {first last : EventLoop D g} (se
       → (st : SessionStream) × (stream_of (present_state served) entry.session ≡ Some st) × SpeaksFor entry.stream st
   pub entries : (key : ℕ) (entry : Entry (BufferedStream Socket)) → slot_at last.table.slots key ≡ Some entry
       → (session_of entry.stream.inner ≡ entry.session)
-      × AreKept served entry.session (traffic_of entry.stream.inner)
+      × IsExplained served (is_gone entry.state) entry.session (traffic_of entry.stream.inner)
   pub linger :
-      AllByRecursion (λ l. AreKept served (session_of l.socket) (traffic_of l.socket)) last.lingering.queue.items
-  pub ended : HoldsAtAllEnds (AreKept served) turns
+      AllByRecursion (λ l. IsExplained served true (session_of l.socket) (traffic_of l.socket))
+      last.lingering.queue.items
+  pub ended : HoldsAtAllEnds (IsExplained served) turns
 
 -- there is such a run of whatever turns follow
 abbrev pub HaveOneRun : {D : Type 0} {g : Ghosts D} → EventLoop D g → Type 0

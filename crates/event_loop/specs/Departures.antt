@@ -1,6 +1,6 @@
 -- What left over the connections was answered before, and no crash since loses it.
 use Rattle.std.specs.List.{AllByRecursion, Contains}
-use Rattle.std.specs.Prelude.{◌≡◌, ℕ, List, Option, Some, length, map}
+use Rattle.std.specs.Prelude.{◌≡◌, ℕ, Bool, true, List, Option, Some, length, map}
 use Rattle.model.specs.History.{Record}
 use Rattle.model.specs.Machine.{opened}
 use Rattle.model.specs.Operations.{Response}
@@ -9,11 +9,11 @@ use Rattle.sector.specs.declared.device.Sectors.{Ghosts}
 use Rattle.sessions.specs.Life.{Holds, MayFind}
 use Rattle.sessions.specs.Lives.{FollowOn, Life, LoseNothing, Served}
 use Rattle.sessions.specs.Readings.{HasOneReading}
-use Rattle.sessions.specs.SessionStreams.{HubState, hub_over, replies_text, run}
+use Rattle.sessions.specs.SessionStreams.{HubState, SessionStream, hub_over, replies_text, requests_text, run}
 use Rattle.sessions.specs.StandsFor.{device}
 use Rattle.sessions.specs.declared.hub.Hub.{Hub}
 use Rattle.stream_driver.specs.Buffers.{traffic_through}
-use Rattle.stream_driver.specs.Entries.{EndsDrive}
+use Rattle.stream_driver.specs.Entries.{EndsDrive, is_gone}
 use Rattle.stream_driver.specs.Sends.{IsAnswered, IsToldBefore}
 use Rattle.stream_driver.specs.Traffic.{Departure, IsBeginning, Traffic}
 use Rattle.stream_driver.specs.declared.buffered.BufferedStream.{BufferedStream}
@@ -45,21 +45,28 @@ module _ {D : Type 0} {g : Ghosts D} {hub : Hub D g} (served : Served hub) where
   abbrev pub IsTold : ℕ → Departure → Type 0
   IsTold s d = IsToldBefore s (first_state served) served.first hub served.choices d
 
+  -- The session has left, and what was served for it had come in: the spellings of the requests begin these bytes.
+  pub record WasRequested (s : ℕ) (received : List ℕ) : Type 0 where
+    pub stream : SessionStream
+    pub left : Contains (present_state served).gone (s, stream)
+    pub requests : IsBeginning (requests_text stream) received
+
   -- So it is of each departure of the session's stream, which has its number. All that was written to the stream was
-  -- answered, so what it buffers may leave later.
-  pub record Tells (s : ℕ) (t : Traffic) : Type 0 where
+  -- answered, so what it buffers may leave later. And where the session is gone, what was served for it was requested.
+  pub record Tells (gone : Bool) (s : ℕ) (t : Traffic) : Type 0 where
     pub number : t.connection ≡ s
     pub told : AllByRecursion (IsTold s) t.departed
     pub answered : IsAnswered s (first_state served) served.choices t.sent
+    pub requested : gone ≡ true → WasRequested s t.received
 
   -- so it is of each entry, gone or not
   abbrev pub EntriesTell : List (Option (Entry (BufferedStream Socket))) → Type 0
   EntriesTell slots = (key : ℕ) (entry : Entry (BufferedStream Socket)) → slot_at slots key ≡ Some entry
-      → Tells entry.session (traffic_through traffic_of entry.stream)
+      → Tells (is_gone entry.state) entry.session (traffic_through traffic_of entry.stream)
 
   -- and of each connection that lingers, of the session that it had
   abbrev pub LingerersTell : List Lingerer → Type 0
-  LingerersTell all = AllByRecursion (λ l. Tells (session_of l.socket) (traffic_of l.socket)) all
+  LingerersTell all = AllByRecursion (λ l. Tells true (session_of l.socket) (traffic_of l.socket)) all
 
   -- What left begins the texts of the machine's replies, which have one reading, and each number among these is that of
   -- a transaction committed by then. A crash at the moment of the departure or since leaves no map that is older than
@@ -89,18 +96,21 @@ abbrev pub IsServing : {D : Type 0} {g : Ghosts D} → Hub D g → List (Option 
     → List Lingerer → Type 0
 IsServing hub slots lingerers = ∥ Serving hub slots lingerers ∥₁
 
--- This holds of each session and of what its connection has moved, as a turn leaves it: of each entry after its drive,
--- whether it stays or is taken out; of each connection that lingered before the turn; and of each that was turned,
--- whether it stays or is closed.
-pub record HoldsAtEnds (P : ℕ → Traffic → Type 0) (moment : ℕ) (driven : List (Option (Entry (BufferedStream Socket))))
-    (lingered turned : List Lingerer) : Type 0 where
+-- This holds of each session, gone or not, and of what its connection has moved, as a turn leaves it: of each entry
+-- after its drive, whether it stays or is taken out; of each connection that lingered before the turn; and of each that
+-- was turned, whether it stays or is closed.
+pub record HoldsAtEnds (P : Bool → ℕ → Traffic → Type 0) (moment : ℕ)
+    (driven : List (Option (Entry (BufferedStream Socket)))) (lingered turned : List Lingerer) : Type 0 where
   pub entries : (key : ℕ) (was entry : Entry (BufferedStream Socket)) → slot_at driven key ≡ Some was
-      → EndsDrive SocketsTell traffic_of moment was entry → P entry.session (traffic_of entry.stream.inner)
-  pub linger : AllByRecursion (λ l. P (session_of l.socket) (traffic_of l.socket)) lingered
+      → EndsDrive SocketsTell traffic_of moment was entry
+      → P (is_gone entry.state) entry.session (traffic_of entry.stream.inner)
+  pub linger : AllByRecursion (λ l. P true (session_of l.socket) (traffic_of l.socket)) lingered
   pub ends :
       AllByRecursion (λ l. (dropped : Dropped) (later : Lingerer) → DropsInput moment l dropped later
-      → P (session_of l.socket) (traffic_of later.socket)) turned
+      → P true (session_of l.socket) (traffic_of later.socket)) turned
 
--- each departure is kept
-abbrev pub AreKept : {D : Type 0} {g : Ghosts D} {hub : Hub D g} → Served hub → ℕ → Traffic → Type 0
-AreKept served s t = AllByRecursion (IsKept served s) t.departed
+-- each departure is kept, and what was served for a session that is gone was requested
+pub record IsExplained {D : Type 0} {g : Ghosts D} {hub : Hub D g} (served : Served hub) (gone : Bool) (s : ℕ)
+    (t : Traffic) : Type 0 where
+  pub kept : AllByRecursion (IsKept served s) t.departed
+  pub requested : gone ≡ true → WasRequested served s t.received

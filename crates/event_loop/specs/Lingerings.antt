@@ -1,6 +1,6 @@
 -- The connections that linger.
 use Rattle.std.specs.Prelude.{◌≡◌, ◌⊎◌, ℕ, ◌<◌, ◌||◌, min, length, List, [], ◌∷◌, ◌++◌, Bool, true, false}
-use Rattle.stream_driver.specs.Traffic.{DepartAt, Traffic, one_more}
+use Rattle.stream_driver.specs.Traffic.{DepartAt, IsBeginning, Traffic, one_more}
 use Rattle.event_loop.specs.Drops.{GivesAtMost, WhyDropped, left_after, newest}
 use Rattle.event_loop.specs.Sockets.{IsHalfClosed, IsRefused, SocketsTell, traffic_of}
 use Rattle.event_loop.specs.declared.connections.Backlog.{Backlog}
@@ -59,6 +59,7 @@ most_of lingerer = min lingerer.left LINGERING_BYTES_A_TURN
 pub record DropsInput (moment : ℕ) (old : Lingerer) (dropped : Dropped) (new : Lingerer) : Type 0 where
   pub received : SocketsTell → GivesAtMost dropped (most_of old) (length (traffic_of old.socket).received)
       (length (traffic_of new.socket).received)
+  pub goes_on : SocketsTell → IsBeginning (traffic_of old.socket).received (traffic_of new.socket).received
   pub sent : SocketsTell → (traffic_of new.socket).sent ≡ (traffic_of old.socket).sent
   pub departed : SocketsTell → DepartAt moment (traffic_of old.socket) (traffic_of new.socket)
   pub connection : (traffic_of new.socket).connection ≡ (traffic_of old.socket).connection

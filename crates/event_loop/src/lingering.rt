@@ -6,7 +6,7 @@
 ghost use Rattle.std.specs.Prelude.{◌≡◌, ◌≤◌, length};
 ghost use Rattle.std.specs.VecDeque.{deque_len, deque_capacity};
 ghost use Rattle.event_loop.specs.declared.lingering.TheConstants.{LINGERING_MAX};
-ghost use Rattle.stream_driver.specs.Traffic.{DepartAt};
+ghost use Rattle.stream_driver.specs.Traffic.{DepartAt, IsBeginning};
 ghost use Rattle.event_loop.specs.Drops.{GivesAtMost, WhyDropped};
 
 use crate::connections::LINGERER;
@@ -54,6 +54,7 @@ impl Dropped {
 /// Reads at most so many bytes and drops them; each read is shown the device. Takes no memory.
 pub fn drop_input<D: Sectors, S: Stream>(device: &D, stream: &mut S, most: usize) -> Dropped
     ensures received { S.tells → GivesAtMost result most (length (S.traffic stream.old).received) (length (S.traffic stream.new).received) }
+    ensures goes_on { S.tells → IsBeginning (S.traffic stream.old).received (S.traffic stream.new).received }
     ensures sent { S.tells → (S.traffic stream.new).sent ≡ (S.traffic stream.old).sent }
     ensures departed { S.tells → DepartAt (D.moment device.now) (S.traffic stream.old) (S.traffic stream.new) }
     ensures connection { (S.traffic stream.new).connection ≡ (S.traffic stream.old).connection }

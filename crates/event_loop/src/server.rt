@@ -228,6 +228,9 @@ impl<D: Sectors> EventLoop<D> {
     /// run passes a hub whose device stood at the moment of the departure, and by then the session had been answered the bytes that had
     /// left. A crash at that moment or since leaves no map that is older than the one committed at that hub, and so whatever lives follow
     /// begin with such a map. So a COMMIT whose number has left over a connection is never lost.
+    ///
+    /// And where a connection's session has left, what was served for it was requested: the spellings of all its requests are the beginning
+    /// of what came in over the connection.
     pub fn law_all_have_one_run(&self)
         ensures run { SocketsTell → HaveOneRun self.now }
     {

@@ -1,6 +1,6 @@
 use Rattle.event_loop.proofs.lingering.drop_input.Given as goal
 use Rattle.std.proofs.Common.{◌≡◌, ◌+◌, ◌≤◌, length}
-use Rattle.stream_driver.specs.Traffic.{DepartAt, SameCounts}
+use Rattle.stream_driver.specs.Traffic.{DepartAt, IsBeginning, SameCounts}
 
 abbrev pub invariant-loop-left : goal.invariant-loop-left
 invariant-loop-left g l =
@@ -9,6 +9,7 @@ invariant-loop-left g l =
     × (g.S.Stream.tells → (g.S.Stream.traffic l.stream).sent ≡ (g.S.Stream.traffic l.initial.stream).sent)
     × SameCounts (g.S.Stream.traffic l.stream) (g.S.Stream.traffic l.initial.stream))
     × (g.S.Stream.tells → DepartAt (g.D.Sectors.moment l.device) (g.S.Stream.traffic l.initial.stream) (g.S.Stream.traffic l.stream))
+    × (g.S.Stream.tells → IsBeginning (g.S.Stream.traffic l.initial.stream).received (g.S.Stream.traffic l.stream).received)
 
 abbrev pub decreases-loop-left : goal.decreases-loop-left
 decreases-loop-left g l = l.left
