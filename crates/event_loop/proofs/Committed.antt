@@ -180,7 +180,7 @@ in_run h (e ∷ es) a = in_run (hub_step h e.0 e.1).0 es (in_step h e.0 e.1 a)
 
 -- ---- what was answered in a run is committed at its end
 
-abbrev Grown : State → State → Type 0
+abbrev pub Grown : State → State → Type 0
 Grown m n = (more : List Record) × (n.history ≡ m.history ++ more)
 
 one_grown : (m : State) (f : Bool) (n : State) → CommitsBy m f n → Grown m n
@@ -188,7 +188,7 @@ one_grown m f n (NoMore base is stopped) = ([], is ∙ sym (append-nil m.history
 one_grown m f n (OneMore r up base is stopped) = (r ∷ [], is)
 one_grown m f n (Fails failed up base is stopped) = ([], is ∙ sym (append-nil m.history))
 
-run_grown : (h : HubState) (es : List (HubEvent × Choice)) → Grown h.machine (run h es).machine
+pub run_grown : (h : HubState) (es : List (HubEvent × Choice)) → Grown h.machine (run h es).machine
 run_grown h [] = ([], sym (append-nil h.machine.history))
 run_grown h (e ∷ es) =
     let one = one_grown h.machine e.1.failed (hub_step h e.0 e.1).0.machine (commits_in_event h e.0 e.1) in

@@ -9,6 +9,7 @@ use Rattle.std.specs.List.{AllByRecursion, Contains}
 use Rattle.mio.specs.declared.event.event.Event.{Event}
 use Rattle.model.proofs.Elements.{all-append, all-each}
 use Rattle.model.proofs.Lookups.{some_same}
+use Rattle.model.specs.Map.{KeyMap}
 use Rattle.sector.specs.declared.device.Sectors.{Ghosts}
 use Rattle.sessions.proofs.LivesLaws.{lose_nothing}
 use Rattle.sessions.proofs.Readings.{runs_have_one_reading}
@@ -32,13 +33,15 @@ use Rattle.stream_driver.specs.Traffic.{Departure, DepartAt, IsBeginning, Traffi
 use Rattle.stream_driver.specs.declared.buffered.BufferedStream.{BufferedStream}
 use Rattle.stream_driver.specs.declared.entries.Entry.{Entry}
 use Rattle.stream_driver.specs.declared.entries.EntryState.TheVariants.{Ready, Gone}
-use Rattle.event_loop.proofs.Committed.{answered_committed}
+use Rattle.event_loop.proofs.Committed.{answered_committed, run_grown}
 use Rattle.event_loop.proofs.Entries.{no_entry, polled_sessions}
+use Rattle.event_loop.proofs.FoundCommits.{finds, low, run_base}
 use Rattle.event_loop.proofs.GoneSessions.{Grows, HasLeft, left_on, run_grows}
 use Rattle.event_loop.proofs.Polled.{each_rest, gone_at, TakesTurns, was_driven, was_gone, was_polled}
 use Rattle.event_loop.proofs.TableBytes.{driven_left, driven_was, drives_bytes, finished, polled_bytes}
 use Rattle.event_loop.proofs.WholeTurns.{all_found, each_bytes, new_begins}
-use Rattle.event_loop.specs.Departures.{EntriesTell, HoldsAtEnds, IsCommitted, IsKept, IsServing, IsTold}
+use Rattle.event_loop.specs.Departures.{EntriesTell, HoldsAtEnds, IsCommitted, IsAfterCommits, IsKept, IsOneMore}
+use Rattle.event_loop.specs.Departures.{IsServing, IsTold}
 use Rattle.event_loop.specs.Departures.{LingerersTell, Serving, Tells, WasRequested, first_state, present_state}
 use Rattle.event_loop.specs.Leavings.{EndAll, EndEach, LeavesAs, LeavesIf}
 use Rattle.event_loop.specs.Leavings.EndEach.{NoneEnded, OneMore as OneEnded}
@@ -530,6 +533,33 @@ module _ {D : Type 0} {g : Ghosts D} (hub : Hub D g) (slots : Slots) (lingerers 
         let stream : IsSessionStream st = all_found IsSessionStream s (run (first_state served) by).present st lawful.present there in
         subst (λ (all : List ℕ). IsBeginning bytes all) (sym stream.output) begins
 
+    -- what a crash leaves once these events were answered
+    is_counted : (served : Served hub) (before since : List (HubEvent × Choice)) → served.choices ≡ before ++ since → (map : KeyMap)
+        → MayFind (first_state served) served.choices (length before) map → IsAfterCommits served before map
+    is_counted served before since is map found =
+        let h = first_state served in
+        let now = present_state served in
+        let lawful = (last_sound served.first hub served.choices served.ran).lawful now (stands_now served) in
+        let numbered = lawful.serializable.faithful.numbered in
+        let whole : (run h (before ++ since)).machine.history ≡ now.machine.history =
+        ap (λ (es : List (HubEvent × Choice)). (run h es).machine.history) (sym is) in
+        let base : h.machine.base ≡ now.machine.base = sym (run_base h served.choices) in
+        let x = finds now.machine.base now.machine.history numbered served.first hub before since
+        (subst (λ (es : List (HubEvent × Choice)). Ran served.first hub es) is served.ran) h served.start.begins.stands base whole map
+        (subst (λ (es : List (HubEvent × Choice)). MayFind h es (length before) map) is found) in
+        let grown = run_grown (run h before) since in
+        let more : now.machine.history ≡ (run h before).machine.history ++ grown.0 =
+        sym whole ∙ ap (λ (k : HubState). k.machine.history) (run_then h before since) ∙ grown.1 in
+        record {
+          commits = x.commits;
+          none_above = all-each _ _ (run h before).machine.history (λ r under. (let least = x.least_is in omega (arith, under, least)))
+              (low now.machine.base now.machine.history numbered (run h before).machine grown.0 more);
+          found_is = elim x.found [
+            | inl at ↦ inl at
+            | inr one ↦ inr (subst (λ (es : List (HubEvent × Choice)). IsOneMore h es x.commits map) (sym is) one)
+          ];
+        }
+
     is_kept : (served : Served hub) (s : ℕ) (d : Departure) → IsTold served s d → IsKept served s d
     is_kept served s d t =
         let left : g.keeps_model → (c : List (List ℕ)) → g.left_since (device hub) d.moment c → Holds (first_state served) served.choices (length t.before) c =
@@ -549,6 +579,7 @@ module _ {D : Type 0} {g : Ghosts D} (hub : Hub D g) (slots : Slots) (lingerers 
               t.told.stream.replies) (sym events)
               (answered_committed (first_state served) t.told.by t.told.since s t.told.stream refl t.told.stream_is);
           left = left;
+          counted = is_counted served t.before t.since t.events_are;
           found = λ keeps lives follow. lose_nothing hub only_now counts_now keeps lives (g.left_since (device hub) d.moment)
               (MayFind (first_state served) served.choices (length t.before))
               (λ c l. (let z = left keeps c l in (z.0, z.2, z.1))) follow;

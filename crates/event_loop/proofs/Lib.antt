@@ -12,5 +12,6 @@ mod OneTurn
 mod Turned
 pub mod Serving
 mod Committed
+mod FoundCommits
 mod Departing
 mod AllThatLeft

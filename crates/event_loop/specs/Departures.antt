@@ -1,15 +1,17 @@
 -- What left over the connections was answered before, and no crash since loses it.
 use Rattle.std.specs.List.{AllByRecursion, Contains}
-use Rattle.std.specs.Prelude.{◌≡◌, ℕ, Bool, true, List, Option, Some, length, map}
-use Rattle.model.specs.History.{Record}
-use Rattle.model.specs.Machine.{opened}
-use Rattle.model.specs.Operations.{Response}
+use Rattle.std.specs.Prelude.{◌≡◌, ◌≤◌, ◌⊎◌, ℕ, Bool, true, false, List, ◌++◌, Option, Some, length, map}
+use Rattle.model.specs.History.{Record, map_at}
+use Rattle.model.specs.Machine.{State, last, opened, step}
+use Rattle.model.specs.Map.{KeyMap}
+use Rattle.model.specs.Operations.{Commit, Response}
 use Rattle.model.specs.Operations.Response.{Number}
 use Rattle.sector.specs.declared.device.Sectors.{Ghosts}
 use Rattle.sessions.specs.Life.{Holds, MayFind}
 use Rattle.sessions.specs.Lives.{FollowOn, Life, LoseNothing, Served}
 use Rattle.sessions.specs.Readings.{HasOneReading}
-use Rattle.sessions.specs.SessionStreams.{HubState, SessionStream, hub_over, replies_text, requests_text, run}
+use Rattle.sessions.specs.SessionStreams.{Choice, HubEvent, HubState, SessionStream, hub_over, replies_text}
+use Rattle.sessions.specs.SessionStreams.{requests_text, run}
 use Rattle.sessions.specs.StandsFor.{device}
 use Rattle.sessions.specs.declared.hub.Hub.{Hub}
 use Rattle.stream_driver.specs.Buffers.{traffic_through}
@@ -30,6 +32,16 @@ use Rattle.event_loop.specs.declared.socket.Socket.{Socket}
 abbrev pub IsCommitted : List Record → Response → Type 0
 IsCommitted history (Number n) = Contains (map (λ r. r.commit) history) n
 IsCommitted history other = Unit {0}
+
+-- the map with all that has committed
+abbrev pub newest_map : State → KeyMap
+newest_map m = map_at m.base m.history (last m)
+
+-- the map with a COMMIT of some session in a state of this run that has made so many commits
+abbrev pub IsOneMore : HubState → List (HubEvent × Choice) → ℕ → KeyMap → Type 0
+IsOneMore h events n found =
+    (by since : List (HubEvent × Choice)) × (events ≡ by ++ since) × (last (run h by).machine ≡ n)
+    × (s : ℕ) × (found ≡ newest_map (step (run h by).machine s Commit false).0)
 
 -- the state in which the opening left the store
 abbrev pub first_state : {D : Type 0} {g : Ghosts D} {hub : Hub D g} → Served hub → HubState
@@ -68,10 +80,18 @@ module _ {D : Type 0} {g : Ghosts D} {hub : Hub D g} (served : Served hub) where
   abbrev pub LingerersTell : List Lingerer → Type 0
   LingerersTell all = AllByRecursion (λ l. Tells true (session_of l.socket) (traffic_of l.socket)) all
 
+  -- This map is that after some number of the run's commits, or that with one more, which was under way or the device
+  -- failed in; none that was committed by these events is above that number.
+  pub record IsAfterCommits (before : List (HubEvent × Choice)) (found : KeyMap) : Type 0 where
+    pub commits : ℕ
+    pub none_above : AllByRecursion (λ r. r.commit ≤ commits) (run (first_state served) before).machine.history
+    pub found_is : (found ≡ map_at (present_state served).machine.base (present_state served).machine.history commits)
+        ⊎ IsOneMore (first_state served) served.choices commits found
+
   -- What left begins the texts of the machine's replies, which have one reading, and each number among these is that of
   -- a transaction committed by then. A crash at the moment of the departure or since leaves no map that is older than
-  -- the one committed there. So whatever lives follow, the first begins with such a map, and each other with one that
-  -- the life before it may have left.
+  -- the one committed there: one after at least as many commits. So whatever lives follow, the first begins with such a
+  -- map, and each other with one that the life before it may have left.
   pub record IsKept (s : ℕ) (d : Departure) : Type 0 where
     pub told : IsTold s d
     pub texts : IsBeginning d.bytes (replies_text told.told.stream)
@@ -80,6 +100,8 @@ module _ {D : Type 0} {g : Ghosts D} {hub : Hub D g} (served : Served hub) where
         told.told.stream.replies
     pub left : g.keeps_model → (c : List (List ℕ)) → g.left_since (device hub) d.moment c
         → Holds (first_state served) served.choices (length told.before) c
+    pub counted : (map : KeyMap) → MayFind (first_state served) served.choices (length told.before) map
+        → IsAfterCommits told.before map
     pub found : g.keeps_model → (lives : List (Life D g)) → FollowOn (g.left_since (device hub) d.moment) lives
         → LoseNothing (MayFind (first_state served) served.choices (length told.before)) lives
 

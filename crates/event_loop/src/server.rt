@@ -227,7 +227,8 @@ impl<D: Sectors> EventLoop<D> {
     /// For each connection that is in the table, lingers, or was taken out or closed in any of the turns, and each of its departures, the
     /// run passes a hub whose device stood at the moment of the departure, and by then the session had been answered the bytes that had
     /// left. A crash at that moment or since leaves no map that is older than the one committed at that hub, and so whatever lives follow
-    /// begin with such a map. So a COMMIT whose number has left over a connection is never lost.
+    /// begin with such a map: it is that after some number of the run's commits, or that with one commit more, and no commit whose number
+    /// had been answered by then is above that number. So a COMMIT whose number has left over a connection is never lost.
     ///
     /// And where a connection's session has left, what was served for it was requested: the spellings of all its requests are the beginning
     /// of what came in over the connection.
