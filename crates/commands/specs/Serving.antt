@@ -4,7 +4,7 @@ use Rattle.std.specs.Net.Grammar.{IsSocketText}
 use Rattle.std.specs.Prelude.{◌≡◌, ◌+◌, ◌-◌, ◌^◌, ℕ, List, Bool, true, false, Result, Ok, Err, MatchResult}
 use Rattle.std.specs.declared.io.Error.{Error}
 use Rattle.std.specs.declared.net.socket_addr.SocketAddr.{SocketAddr}
-use Rattle.model.specs.Map.{KeyMap}
+use Rattle.model.specs.Map.{IsInBounds, KeyMap}
 use Rattle.sector.specs.declared.device.Sectors.{Ghosts}
 use Rattle.commit_log.specs.declared.faults.Unopened.{Unopened}
 use Rattle.sessions.specs.Lives.{Begins, IsOpened, Opens, TellsWhy}
@@ -28,7 +28,8 @@ TakesOpened {D} {g} takes = (hub : Hub D g) → IsOpened hub → takes hub
 abbrev pub Starts : {D : Type 0} {g : Ghosts D} → D → Result (Hub D g) (Unopened D) → Type 0
 Starts {D = D} {g = g} device result =
     TellsWhy {D = D} {g = g} device result
-    × MatchResult result (λ hub. ((map : KeyMap) × Begins device hub map) × (g.keeps_model → Opens device (Ok hub)))
+    × MatchResult result (λ hub. ((map : KeyMap) × Begins device hub map × IsInBounds map)
+    × (g.keeps_model → Opens device (Ok hub)))
     (λ unopened. g.keeps_model → Opens {D = D} {g = g} device (Err unopened))
 
 -- Opening a file of this name and listening at the address that a text spells: the first that fails ends it, with its

@@ -278,5 +278,5 @@ runs_have_one_reading {D} {g} hub served es fs is =
     let parts = ran_parts served.first hub es fs (subst (λ (xs : List (HubEvent × Choice)). Ran served.first hub xs) is served.ran) in
     let begins = served.start.begins in
     let h : HubState = hub_over (opened served.start.map begins.used (g.size served.start.dev)) in
-    have_one_reading served.start.map begins.used (g.size served.start.dev) es begins.in_bounds
+    have_one_reading served.start.map begins.used (g.size served.start.dev) es served.start.in_bounds
     (leads_to served.first parts.0 es parts.1 h begins.stands).possible

@@ -17,11 +17,10 @@ use Rattle.sessions.specs.Life.{Holds, MayFind}
 use Rattle.sessions.specs.SessionStreams.{HubEvent, Choice, hub_over}
 use Rattle.sessions.specs.StandsFor.{Ghosts, Hub, StandsFor, device, device_after}
 
--- the hub begins with this map, whose keys and values are in bounds
+-- the hub begins with this map
 pub record Begins {D : Type 0} {g : Ghosts D} (dev : D) (hub : Hub D g) (map : KeyMap) : Type 0 where
   pub used : ℕ
   pub stands : StandsFor hub (hub_over (opened map used (g.size dev)))
-  pub in_bounds : IsInBounds map
 
 -- an opening ends with this map or, where it gives no hub, the device failed or memory was refused
 abbrev pub EndsWith : {D : Type 0} {g : Ghosts D} → D → Result (Hub D g) (Unopened D) → KeyMap → Type 0
@@ -44,11 +43,12 @@ pub record TellsWhy {D : Type 0} {g : Ghosts D} (dev : D) (result : Result (Hub 
   pub no_log : g.keeps_model → FindsNoLog g dev result (λ u. u.fault)
   pub older : g.keeps_model → FindsOldHead g dev result (λ u. u.fault)
 
--- the hub is what an opening gave
+-- the hub is what an opening gave, with a map whose keys and values are in bounds
 pub record IsOpened {D : Type 0} {g : Ghosts D} (hub : Hub D g) : Type 0 where
   pub dev : D
   pub map : KeyMap
   pub begins : Begins dev hub map
+  pub in_bounds : IsInBounds map
   pub opens : g.keeps_model → Opens dev (Ok hub)
 
 -- The hub has come so far from an opening: by these events, and every hub on the way is known.

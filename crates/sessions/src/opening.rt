@@ -7,7 +7,7 @@ use std::alloc::Global;
 
 impl<D: Sectors> Hub<D> {
     ghost use Rattle.std.specs.Prelude.{IfOk};
-    ghost use Rattle.model.specs.Map.{KeyMap};
+    ghost use Rattle.model.specs.Map.{IsInBounds, KeyMap};
     ghost use Rattle.sessions.specs.Lives.{Begins, Opens, TellsWhy};
 
     /// A hub over the store whose log a device holds. Nobody has joined. Faults are those of `Engine::open`, `Device` exactly where a
@@ -18,7 +18,7 @@ impl<D: Sectors> Hub<D> {
     /// device fails or memory is refused. A crash at any moment of the call, also where it fails, leaves what one before it could have
     /// left, so it loses nothing either.
     pub fn open(alloc: Global, dev: D) -> Result<Hub<D>, Unopened<D>>
-        ensures begins { IfOk result (λ hub. (map : KeyMap) × Begins dev hub map) }
+        ensures begins { IfOk result (λ hub. (map : KeyMap) × Begins dev hub map × IsInBounds map) }
         ensures opens { D.keeps_model → Opens dev result }
         ensures tells { TellsWhy dev result }
     {

@@ -1,7 +1,7 @@
 use Rattle.sessions.proofs.hub.Hub.open.Goals as goal
 use Rattle.std.proofs.Common.{◌+◌, sym, subst}
 use Rattle.model.specs.Machine.{opened}
-use Rattle.model.specs.Map.{KeyMap, IsInBounds}
+use Rattle.model.specs.Map.{KeyMap}
 use Rattle.sector.specs.SectorModel.{LeavesOnly}
 use Rattle.commit_log.specs.LogImage.{span}
 use Rattle.sessions.specs.SessionStreams.{hub_over}
@@ -10,7 +10,7 @@ use Rattle.sessions.specs.StandsFor.{StandsFor}
 pub returns-in-Ok-clause-begins : goal.returns-in-Ok-clause-begins
 returns-in-Ok-clause-begins g c =
     let o = c.in-Ok.ensures.opens in
-    (o.0, record { used = o.1; stands = c.new.ensures.stands _ o.2; in_bounds = c.in-Ok.ensures.in_bounds _ o.2 })
+    (o.0, record { used = o.1; stands = c.new.ensures.stands _ o.2 }, c.in-Ok.ensures.in_bounds _ o.2)
 
 pub returns-in-Ok-clause-opens : goal.returns-in-Ok-clause-opens
 returns-in-Ok-clause-opens g c keeps = record {
@@ -19,11 +19,7 @@ returns-in-Ok-clause-opens g c keeps = record {
   ends = λ image map long reads x. (
       let found = (c.in-Ok.ensures.finds keeps).found image x.0 long reads x.1 in
       let P : KeyMap → Type 0 = λ m. StandsFor c.new.result (hub_over (opened m (2 + span x.0) (g.D.Sectors.size c.args.dev))) in
-      record {
-        used = 2 + span x.0;
-        stands = subst P x.2 (c.new.ensures.stands _ found);
-        in_bounds = subst IsInBounds x.2 (c.in-Ok.ensures.in_bounds _ found);
-      });
+      record { used = 2 + span x.0; stands = subst P x.2 (c.new.ensures.stands _ found) });
 }
 
 pub returns-in-Ok-clause-tells : goal.returns-in-Ok-clause-tells
