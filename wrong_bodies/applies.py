@@ -2,9 +2,11 @@
 
 `applies.py [CRATE..]`, all crates where none is named: those of the folder `must-fail` of each crate, and those next to this file. Nothing is proved.
 Prints each that does not apply, and each that `gate.txt` names and that no folder `must-fail` has, and ends with status 1 where there is one.
-`--table` prints how many there are of each crate, and `--write` writes that into docs/TESTING.md.
+`--table` prints how many there are of each crate, with what came out when they were last tried (`result.json` next to them), and `--write` writes
+that into docs/TESTING.md.
 """
 import argparse
+import json
 import re
 import sys
 from pathlib import Path
@@ -45,20 +47,35 @@ def missing():
     return [f"{place.relative_to(TOP)}: gate.txt names it, and it isn't there" for place in places.values() if not place.is_file()]
 
 
+HEAD = ("Crate", "Tried", "Refused by a clause", "By the form of a proof alone", "Accepted", "At commit", "More, by the gate")
+
+
+def result_of(name):
+    """What came out when the wrong bodies of a crate were last tried: a cell for each column but the first and the last."""
+    folder = TOP / "wrong_bodies" / name
+    count = len(list(folder.glob("*.edit")))
+    if not (folder / "result.json").is_file():
+        return [f"{count} not yet" if count else "0", "", "", "", ""]
+    result = json.loads((folder / "result.json").read_text())
+    form, accepted = len(result["by form alone"]), len(result["accepted"]) + len(result["not judged"])
+    later = f", {count - result['tried']} not yet" if count > result["tried"] else ""
+    return [f"{result['tried']}{later}", str(result["tried"] - form - accepted), str(form), str(accepted), f"`{result['commit']}`"]
+
+
 def table():
-    """How many wrong bodies there are of each crate, in the order of crates.txt."""
+    """What came out of the wrong bodies of each crate, in the order of crates.txt, and how many more of each the gate tries."""
     lines = (TOP / "crates.txt").read_text().split("\n")
     names = [line.partition(":")[0].split()[0] for line in lines if line and not line.startswith("#")]
-    counts = [(name, *(len(list(folder.glob("*.edit"))) for folder in (TOP / "wrong_bodies" / name, TOP / "crates" / name / "must-fail"))) for name in names]
-    found = [count for count in counts if any(count[1:])]
-    total = ("all", *(sum(column) for column in list(zip(*found))[1:]))
-    rows = [f"| `{name}` | {others} | {gate} |" for name, others, gate in found] + ["| {} | {} | {} |".format(*total)]
-    return "\n".join(["| Crate | By `wrong_bodies/run.sh` | By the gate |", "|---|---|---|", *rows])
+    gate = {name: len(list((TOP / "crates" / name / "must-fail").glob("*.edit"))) for name in names}
+    rows = [[f"`{name}`", *result_of(name), str(gate[name])] for name in names if gate[name] or (TOP / "wrong_bodies" / name).is_dir()]
+    tried = sum(len(list((TOP / "wrong_bodies" / name).glob("*.edit"))) for name in names)
+    rows.append(["all", str(tried), "", "", "", "", str(sum(gate.values()))])
+    return "\n".join("| " + " | ".join(cells) + " |" for cells in (HEAD, ["---"] * len(HEAD), *rows))
 
 
 def write():
     page = TOP / "docs" / "TESTING.md"
-    page.write_text(re.sub(r"^\| Crate \| By `wrong_bodies.*?(?=\n\n)", lambda _: table(), page.read_text(), flags=re.M | re.S))
+    page.write_text(re.sub(r"^\| Crate \| (?:By `wrong_bodies|Tried).*?(?=\n\n)", lambda _: table(), page.read_text(), flags=re.M | re.S))
 
 
 def main():

@@ -6,9 +6,11 @@ that callee's edit. What stands outside a function, such as a constant, is tried
 repository; `--gate` tries those of the crates' own folders `must-fail` as well.
 
 Prints each wrong body that isn't refused, and ends with status 1 where there is one. `BAD` is one that doesn't compile, or of which nothing is said.
-`FORM` is one that is refused, but by the form of a proof alone: it names a fact of the real body that the wrong one lacks.
+`FORM` is one that is refused, but by the form of a proof alone: it names a fact of the real body that the wrong one lacks. What came out is written
+next to the wrong bodies of each crate, as `result.json`, with the commit; `applies.py --write` takes docs/TESTING.md's table from there.
 """
 import argparse
+import json
 import os
 import re
 import shutil
@@ -171,6 +173,27 @@ class Crate:
         return not wrong
 
 
+def commit_of(name):
+    """The commit at which the crate and its wrong bodies stand, with a `+` where they have been changed since."""
+    places = [str(Path(part) / name) for part in ("crates", "wrong_bodies") if (TOP / part / name).is_dir()]
+    commit = subprocess.run(["git", "log", "-1", "--format=%h", "--abbrev=12"], cwd=TOP, capture_output=True, text=True).stdout.strip()
+    changed = subprocess.run(["git", "status", "--porcelain", "--", *places], cwd=TOP, capture_output=True, text=True).stdout
+    return commit + ("+" if any(not line.endswith("result.json") for line in changed.splitlines()) else "")
+
+
+def record(crate, commit):
+    """Writes down what came out for a crate, all of whose wrong bodies of this folder were tried."""
+    edits = [edit for edit in crate.verdicts if edit.parent.name != "must-fail"]
+    result = {
+        "commit": commit,
+        "tried": len(edits),
+        "by form alone": sorted(edit.stem for edit in edits if edit in crate.formal and crate.verdicts[edit] == "refused"),
+        "accepted": sorted(edit.stem for edit in edits if crate.verdicts[edit] == "PROVED"),
+        "not judged": sorted(edit.stem for edit in edits if crate.verdicts[edit] == "BAD"),
+    }
+    (TOP / "wrong_bodies" / crate.name / "result.json").write_text(json.dumps(result, indent=1) + "\n")
+
+
 def taken(source, target):
     """Copies a file; one of a folder `out`, which `rt` replaces and never changes, is linked where it can be."""
     if "out" in Path(source).parts:
@@ -198,7 +221,10 @@ def main():
         for name in words.crates or crates:
             edits = sorted((TOP / "wrong_bodies" / name).glob("*.edit"))
             edits += sorted((TOP / "crates" / name / "must-fail").glob("*.edit")) if words.gate else []
-            good &= Crate(copy, name, edits).run() if edits else True
+            if edits:
+                crate, commit = Crate(copy, name, edits), commit_of(name)
+                good &= crate.run()
+                record(crate, commit)
     return 0 if good else 1
 
 

@@ -3,7 +3,7 @@
 # named. The prover must refuse each. Many are tried in one check, on a copy of the repository: some minutes for each crate (batches.py).
 # With `--gate` those of the crates' own folders `must-fail` as well.
 # `wrong_bodies/run.sh --applies [CRATE..]` proves nothing: it looks whether each of them, and of those in the crates' own folders, still fits the
-# code. `wrong_bodies/run.sh --table` prints how many there are of each crate, and with `--write` they are written into docs/TESTING.md.
+# code. `wrong_bodies/run.sh --table` prints what came out for each crate when they were last tried; `--write` writes that into docs/TESTING.md.
 set -e
 if [ "$1" = --help ] || [ "$1" = -h ]; then
     sed -n '2,/^set/ s/^# //p' "$0"
