@@ -121,12 +121,22 @@ module _ {X : Type 0} where
 
   -- ---- at a place
 
+  -- there is a page where there is room
+  pub has_page : (ps : List (Page X)) (k : Bytes) → 0 < room_at k ps → 0 < length ps
+  has_page [] k some = some
+  has_page (p ∷ ps) k some = omega arith
+
   -- the page that is read there
   pub page_is : (ps : List (Page X)) (k : Bytes) (i : ℕ) (p : Page X) → (w : IsPlace ps k i) → p ≡ get_or ps i p → p ≡ w.page
   page_is ps k i p w is = is ∙ ap (λ (l : List (Page X)). get_or l i p) w.is ∙ get_or_at w.before w.page w.after p i w.index
 
   pub place_within : (ps : List (Page X)) (k : Bytes) (i : ℕ) → IsPlace ps k i → i < length ps
   place_within ps k i w = (let a = ap length w.is in let b = length-append w.before (w.page ∷ w.after) in let e = w.index in omega arith)
+
+  -- whatever would be read where there is none
+  pub page_at : (ps : List (Page X)) (k : Bytes) (i : ℕ) (p d : Page X) → IsPlace ps k i → p ≡ get_or ps i p → p ≡ get_or ps i d
+  page_at ps k i p d w is =
+      page_is ps k i p w is ∙ sym (ap (λ (l : List (Page X)). get_or l i d) w.is ∙ get_or_at w.before w.page w.after d i w.index)
 
   pub set_is : (ps : List (Page X)) (k : Bytes) (i : ℕ) (p : Page X) (w : IsPlace ps k i) → set ps i p ≡ w.before ++ p ∷ w.after
   set_is ps k i p w = ap (λ (l : List (Page X)). set l i p) w.is ∙ set_at w.before w.page w.after p i w.index

@@ -1,9 +1,9 @@
 -- What pages end as, where a `&mut` to a value is returned.
-use Rattle.std.specs.Borrow.{Lends, LendsIf, Fml, RattleType, MutBor}
+use Rattle.std.specs.Borrow.{Lends, LendsIfOk, Fml, RattleType, MutBor}
 use Rattle.std.specs.Cmp.Lexicographic.{slice_cmp}
 use Rattle.std.specs.FinMap.Entries.{find, put}
 use Rattle.std.specs.Ordering.{nat_cmp}
-use Rattle.std.specs.Prelude.{◌≡◌, List, [], ◌∷◌, Option, is_some, if◌then◌else◌}
+use Rattle.std.specs.Prelude.{◌≡◌, List, [], ◌∷◌, Result, is_some, if◌then◌else◌}
 use Rattle.model.specs.Map.{Bytes}
 use Rattle.sorted_pages.specs.Pages.{Page, entries}
 use Rattle.sorted_pages.specs.contracts.page.Page.{the_row as page_row}
@@ -27,10 +27,10 @@ lends_in_page T g s k r = Lends (page_row T g) T s r (with_value_in s.now k)
 abbrev pub lends_value : (T : RattleType) → Ghosts T.Denot → MutBor (List (Page T.Denot)) → Bytes → MutBor T.Denot → Fml
 lends_value T g s k r = Lends (pages_row T g) T s r (with_value s.now k)
 
--- the same, and at `None` nothing has changed
-abbrev pub lends_if_present : (T : RattleType) → Ghosts T.Denot → MutBor (List (Page T.Denot)) → Bytes
-    → Option (MutBor T.Denot) → Fml
-lends_if_present T g s k r = LendsIf (pages_row T g) T s r (with_value s.now k) s.now
+-- the same, and at `Err` nothing has changed
+abbrev pub lends_if_present : {E : Type 0} (T : RattleType) → Ghosts T.Denot → MutBor (List (Page T.Denot)) → Bytes
+    → Result (MutBor T.Denot) E → Fml
+lends_if_present T g s k r = LendsIfOk (pages_row T g) T s r (with_value s.now k) s.now
 
 -- the pages with a value at the key have the entries in which it was put
 abbrev pub PutsAt : {X : Type 0} → List (Page X) → Bytes → Type 0

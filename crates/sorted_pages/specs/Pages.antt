@@ -1,11 +1,12 @@
 -- Pages of entries, all by rising key.
 use Rattle.std.specs.Cmp.Lexicographic.{slice_cmp}
-use Rattle.std.specs.FinMap.Entries.{below_all, is_sorted}
+use Rattle.std.specs.FinMap.Entries.{below_all, find, is_sorted}
 use Rattle.std.specs.List.{AllByRecursion}
 use Rattle.std.specs.Ordering.{nat_cmp, is_le, is_lt}
 use Rattle.std.specs.Prelude.{◌≡◌, ℕ, T, ◌+◌, ◌-◌, ◌*◌, ◌^◌, ◌<◌, ◌≤◌, min, fold, Bool, true, false, List, [], ◌∷◌}
-use Rattle.std.specs.Prelude.{◌++◌, length, slice_get, Option, Some, None, if◌then◌else◌, ⊤, ◌⊎◌}
+use Rattle.std.specs.Prelude.{◌++◌, length, slice_get, slice_index_or, Option, Some, None, if◌then◌else◌, ⊤, ◌⊎◌}
 use Rattle.std.specs.declared.cmp.Ordering.TheVariants.{Less}
+use Rattle.model.specs.Entries.{IsGap}
 use Rattle.model.specs.Map.{Bytes, key_cmp}
 
 -- the entries of a page, and how many more fit without memory
@@ -140,6 +141,12 @@ pub record IsPlace {X : Type 0} (ps : List (Page X)) (k : Bytes) (i : ℕ) : Typ
   pub starts : 0 < i → starts_by k page.0 ≡ true
   pub later : AllByRecursion (λ (p : Page X). starts_by k p.0 ≡ false) after
   pub above : T (below_all (slice_cmp nat_cmp) k (entries after))
+
+-- k has no entry, and one would be inserted in page i, before its entry j
+pub record IsInsertionPoint {X : Type 0} (ps : List (Page X)) (k : Bytes) (i j : ℕ) : Type 0 where
+  pub absent : find (slice_cmp nat_cmp) k (entries ps) ≡ None
+  pub page : 0 < length ps → IsPlace ps k i
+  pub gap : 0 < length ps → (p : Page X) → IsGap (slice_index_or ps i p).0 k j
 
 -- the same entries, and no less room for any key
 pub record IsRoomier {X : Type 0} (old new : List (Page X)) : Type 0 where

@@ -1,17 +1,18 @@
 //! Makes room for new entries, splits pages that would grow too large, and adds entries.
-ghost use Rattle.std.specs.Prelude.{◌≡◌, ◌+◌, ◌<◌, ◌≤◌, T, true, None, [], ◌∷◌, ◌++◌, length, is_ok, IsOk, OnOk};
+ghost use Rattle.std.specs.Prelude.{◌≡◌, ◌+◌, ◌<◌, ◌≤◌, T, true, [], ◌∷◌, ◌++◌, length, is_ok, IsOk, OnOk};
 ghost use Rattle.std.specs.Ordering.{nat_cmp};
 ghost use Rattle.std.specs.Cmp.Lexicographic.{slice_cmp};
-ghost use Rattle.std.specs.FinMap.Entries.{find, put, is_sorted};
+ghost use Rattle.std.specs.FinMap.Entries.{put, is_sorted};
 ghost use Rattle.std.specs.Vec.{vec_len};
 ghost use Rattle.model.specs.Map.{Bytes};
-ghost use Rattle.sorted_pages.specs.Pages.{AreAllFull, AreFull, AreLoose, IsCrowded, IsInOrder, StaysTight};
+ghost use Rattle.sorted_pages.specs.Pages.{AreAllFull, AreFull, AreLoose, IsCrowded, IsInOrder, IsInsertionPoint, StaysTight};
 ghost use Rattle.sorted_pages.specs.Pages.{count_at, entries, pushed, room_at};
 ghost use Rattle.sorted_pages.specs.Rooms.{MakesOnePage, MakesRoom, SplitsPage};
 
 use crate::aging::Aging;
+use crate::insertion_point::InsertionPoint;
 use crate::page::{PAGE_MAX, Page};
-use crate::placing::{count, place, room};
+use crate::placing::{count_in, place, room_in};
 use model::Key;
 use std::alloc::AllocError;
 
@@ -24,18 +25,17 @@ const FILL: usize = 384;
 
 const FILL_PLACES: usize = 512;
 
-// Adds an entry of a new key in the room that was made for it.
-pub(crate) fn insert<V: Aging>(pages: &mut [Page<V>], key: Key, value: V)
+// Adds an entry of a new key where it would stand, in the room that was made for it.
+pub(crate) fn insert<V: Aging>(pages: &mut [Page<V>], at: InsertionPoint, key: Key, value: V)
     requires order { IsInOrder pages.old }
-    requires absent { find (slice_cmp nat_cmp) key (entries pages.old) ≡ None }
+    requires point { IsInsertionPoint pages.old key at.page at.entry }
     requires room { 0 < room_at key pages.old }
     ensures order { IsInOrder pages.new }
     ensures entries { entries pages.new ≡ put (slice_cmp nat_cmp) key value (entries pages.old) }
     ensures rooms { (q : Bytes) → room_at q pages.old ≤ room_at q pages.new + 1 }
     ensures tight { StaysTight 0 pages.old pages.new }
 {
-    let i = place(pages, key.lend().bytes());
-    pages[i].insert(key, value);
+    pages[at.page].insert(at.entry, key, value);
 }
 
 // Has the page at `i`, where there is one, look at the value that was lent for writing last.
@@ -122,24 +122,25 @@ fn start<V: Aging + Drop>(pages: &mut Vec<Page<V>>, n: usize) -> Result<(), Allo
 // Makes room for `n` more entries in the page where the key would stand. A page that they would make too large is split.
 pub(crate) fn reserve<V: Aging + Drop>(
     pages: &mut Vec<Page<V>>,
+    at: InsertionPoint,
     key: &[u8],
     n: usize,
 ) -> Result<(), AllocError>
     requires order { IsInOrder pages.old.items }
+    requires point { IsInsertionPoint pages.old.items key.now at.page at.entry }
     ensures room { MakesRoom n pages.old.items pages.new.items }
     ensures made { OnOk result (n ≤ room_at key.now pages.new.items) }
     ensures known { n ≤ room_at key.now pages.old.items → IsOk result }
     ensures split { OnOk result (IsCrowded key.now n pages.old.items → SplitsPage key.now pages.old.items pages.new.items) }
     ensures pages { MakesOnePage key.now n pages.old.items pages.new.items }
 {
-    if n <= room(pages, key) {
+    if n <= room_in(pages, at.page) {
         return Ok(());
     }
     if pages.is_empty() {
         return start(pages, n);
     }
-    let len = count(pages, key);
-    if is_crowded(len, n) {
+    if is_crowded(count_in(pages, at.page), n) {
         return divide(pages, key, n);
     }
     grow(pages, key, n)

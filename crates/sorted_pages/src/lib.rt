@@ -5,6 +5,7 @@
 mod aging;
 mod changing;
 mod gap;
+mod insertion_point;
 mod older;
 mod page;
 mod pages;
@@ -14,5 +15,6 @@ mod summary;
 mod trimming;
 
 pub use aging::Aging;
+pub use insertion_point::InsertionPoint;
 pub use pages::SortedPages;
 pub use range::Entries;

@@ -267,27 +267,21 @@ impl<V: Aging> Page<V> {
             .reserve_exact(room_in_steps(self.entries.len(), n))
     }
 
-    // Adds an entry of a new key in the room that was made for it.
-    pub(crate) fn insert(&mut self, key: Key, value: V)
-        requires sorted { T (is_sorted (slice_cmp nat_cmp) self.old.0) }
-        requires absent { find (slice_cmp nat_cmp) key self.old.0 ≡ None }
+    // Adds an entry of a new key at `i`, where it would stand, in the room that was made for it.
+    pub(crate) fn insert(&mut self, i: usize, key: Key, value: V)
+        requires gap { IsGap self.old.0 key i }
         requires room { 0 < self.old.1 }
         ensures entries { self.new.0 ≡ put (slice_cmp nat_cmp) key value self.old.0 }
         ensures room { self.old.1 ≡ self.new.1 + 1 }
     {
-        match self.search(key.lend().bytes()) {
-            Ok(_) => unreachable!(),
-            Err(i) => {
-                self.blank = self.blank.min(i);
-                self.summary = self.summary.take_in(&self.entries);
-                match self.entries.insert(i, (key, value)) {
-                    Ok(()) => {}
-                    Err(_) => unreachable!(),
-                }
-                self.summary.left_out = Some(i);
-                self.summary = self.summary.take_in(&self.entries);
-            }
+        self.blank = self.blank.min(i);
+        self.summary = self.summary.take_in(&self.entries);
+        match self.entries.insert(i, (key, value)) {
+            Ok(()) => {}
+            Err(_) => unreachable!(),
         }
+        self.summary.left_out = Some(i);
+        self.summary = self.summary.take_in(&self.entries);
     }
 }
 

@@ -1,16 +1,17 @@
 //! The map: look-ups, ranges, room for new keys, and new keys.
-ghost use Rattle.std.specs.Prelude.{◌≡◌, ◌+◌, ◌<◌, ◌≤◌, T, None, [], ◌∷◌, ◌++◌, length, option_copied, is_ok, IsOk};
+ghost use Rattle.std.specs.Prelude.{◌≡◌, ◌+◌, ◌<◌, ◌≤◌, T, [], ◌∷◌, ◌++◌, length, option_copied, is_ok, IsOk};
 ghost use Rattle.std.specs.Prelude.{OnOk};
 ghost use Rattle.std.specs.Ordering.{nat_cmp};
 ghost use Rattle.std.specs.Cmp.Lexicographic.{slice_cmp};
 ghost use Rattle.std.specs.FinMap.Entries.{find, put, is_sorted};
 ghost use Rattle.model.specs.Map.{Bytes};
 ghost use Rattle.sorted_pages.specs.Pages.{AreFull, AreLoose, IsCrowded, StaysTight, entries, places_in, pushed};
-ghost use Rattle.sorted_pages.specs.Pages.{room_at};
+ghost use Rattle.sorted_pages.specs.Pages.{IsInsertionPoint, room_at};
 ghost use Rattle.sorted_pages.specs.Rooms.{MakesOnePage, SplitsPage};
 
 use crate::aging::Aging;
 use crate::changing::{self, look_again};
+use crate::insertion_point::InsertionPoint;
 use crate::page::Page;
 use crate::placing::{self, place};
 use crate::range::Entries;
@@ -63,8 +64,7 @@ impl<V: Aging> SortedPages<V> {
 }
 
 impl<V: Aging> SortedPages<V> {
-    ghost use Rattle.std.specs.Prelude.{OnSome, slice_index_or};
-    ghost use Rattle.std.specs.Option.{option_copied_mut};
+    ghost use Rattle.std.specs.Prelude.{IfErr, IfOk, Some, slice_index_or};
     ghost use Rattle.std.specs.Borrow.{sem};
     ghost use Rattle.model.specs.Entries.{IsAt};
     ghost use Rattle.sorted_pages.specs.Pages.{Page, IsPlace};
@@ -82,22 +82,23 @@ impl<V: Aging> SortedPages<V> {
         self.pages[i].value_at(key, j)
     }
 
-    /// Lends the key's value for writing, and `None` where it has none: the map ends with what is written, and no key's room changes.
-    /// The key is looked up once. Takes no memory.
-    pub fn get_mut(&mut self, key: KeyRef<'_>) -> Option<&mut V>
+    /// Lends the key's value for writing, and says where it would be inserted if it has none: the map ends with what is written, and no
+    /// key's room changes. The key is looked up once. Takes no memory.
+    pub fn find_mut(&mut self, key: KeyRef<'_>) -> Result<&mut V, InsertionPoint>
         ensures* writes_back { sem 𝓛 (lends_if_present V.row V.Aging self.entry key.entry.bytes.now result) }
-        ensures value { option_copied_mut result ≡ find (slice_cmp nat_cmp) key.entry.bytes.now (entries self.old) }
-        ensures put { OnSome result (PutsAt self.old key.entry.bytes.now) }
+        ensures value { IfOk result (λ v. find (slice_cmp nat_cmp) key.entry.bytes.now (entries self.old) ≡ Some v.now) }
+        ensures put { OnOk result (PutsAt self.old key.entry.bytes.now) }
         ensures rooms { (v : V) (q : Bytes) → room_at q (with_value self.old key.entry.bytes.now v) ≡ room_at q self.old }
+        ensures absent { IfErr result (λ at. IsInsertionPoint self.old key.entry.bytes.now at.page at.entry) }
     {
         if self.pages.is_empty() {
-            return None;
+            return Err(InsertionPoint { page: 0, entry: 0 });
         }
         let bytes = key.bytes();
-        let i = place(&self.pages, bytes);
-        match self.pages[i].search(bytes) {
-            Ok(j) => Some(self.value_at(bytes, i, j)),
-            Err(_) => None,
+        let page = place(&self.pages, bytes);
+        match self.pages[page].search(bytes) {
+            Ok(i) => Ok(self.value_at(bytes, page, i)),
+            Err(entry) => Err(InsertionPoint { page, entry }),
         }
     }
 }
@@ -163,11 +164,17 @@ impl<V: Aging + Drop> SortedPages<V> {
         placing::room(&self.pages, key.bytes())
     }
 
-    /// Makes room for `n` more entries where the key stands or would stand. The entries stay, also where memory is refused, and no
+    /// Makes room for `n` more entries where a new key would be inserted. The entries stay, also where memory is refused, and no
     /// key has less room than before. Where the room is there already, it takes none and succeeds. A page of 288 entries is split where
     /// the `n` would make them more than 576: in the middle, or before its last entry where the key stands behind all of them. No other
     /// page is made, but for the first. No page gets room for more than `n` + 191 entries.
-    pub fn reserve(&mut self, key: KeyRef<'_>, n: usize) -> Result<(), AllocError>
+    pub fn reserve(
+        &mut self,
+        at: InsertionPoint,
+        key: KeyRef<'_>,
+        n: usize,
+    ) -> Result<(), AllocError>
+        requires { IsInsertionPoint self.old key.bytes.now at.page at.entry }
         ensures entries { entries self.new ≡ entries self.old }
         ensures rooms { (q : Bytes) → room_at q self.old ≤ room_at q self.new }
         ensures made { OnOk result (n ≤ room_at key.entry.bytes.now self.new) }
@@ -176,18 +183,19 @@ impl<V: Aging + Drop> SortedPages<V> {
         ensures split { OnOk result (IsCrowded key.entry.bytes.now n self.old → SplitsPage key.entry.bytes.now self.old self.new) }
         ensures pages { MakesOnePage key.entry.bytes.now n self.old self.new }
     {
-        changing::reserve(&mut self.pages, key.bytes(), n)
+        changing::reserve(&mut self.pages, at, key.bytes(), n)
     }
 
-    /// Adds an entry of a new key in the room that was made for it: each key has room for one entry less, at most. Takes no memory.
-    pub fn insert(&mut self, key: Key, value: V)
-        requires absent { find (slice_cmp nat_cmp) key (entries self.old) ≡ None }
+    /// Adds an entry of a new key where it would be inserted, in the room that was made for it: each key has room for one entry less, at
+    /// most. The key isn't looked up. Takes no memory.
+    pub fn insert(&mut self, at: InsertionPoint, key: Key, value: V)
+        requires point { IsInsertionPoint self.old key at.page at.entry }
         requires room { 0 < room_at key self.old }
         ensures entries { entries self.new ≡ put (slice_cmp nat_cmp) key value (entries self.old) }
         ensures rooms { (q : Bytes) → room_at q self.old ≤ room_at q self.new + 1 }
         ensures tight { StaysTight 0 self.old self.new }
     {
-        changing::insert(&mut self.pages, key, value);
+        changing::insert(&mut self.pages, at, key, value);
     }
 
     /// Adds an entry above all others, in pages that are filled one after another up to 384 entries, with places for 512: each page but the

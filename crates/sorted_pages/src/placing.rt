@@ -1,5 +1,6 @@
 //! Finds the page in which a key stands or would stand.
 ghost use Rattle.std.specs.Prelude.{◌≡◌, ◌<◌, length};
+ghost use Rattle.model.specs.Map.{Bytes};
 ghost use Rattle.sorted_pages.specs.Pages.{IsInOrder, IsPlace, count_at, room_at};
 
 use crate::aging::Aging;
@@ -16,6 +17,26 @@ pub(crate) fn place<V: Aging>(pages: &[Page<V>], key: &[u8]) -> usize
         .saturating_sub(1)
 }
 
+// How many more entries fit without memory in the page at `i`; 0 where there is none.
+pub(crate) fn room_in<V: Aging>(pages: &[Page<V>], i: usize) -> usize
+    ensures { (k : Bytes) → (0 < length pages.now → IsPlace pages.now k i) → result ≡ room_at k pages.now }
+{
+    match pages.get(i) {
+        Some(page) => page.room(),
+        None => 0,
+    }
+}
+
+// How many entries the page at `i` has; 0 where there is none.
+pub(crate) fn count_in<V: Aging>(pages: &[Page<V>], i: usize) -> usize
+    ensures { (k : Bytes) → (0 < length pages.now → IsPlace pages.now k i) → result ≡ count_at k pages.now }
+{
+    match pages.get(i) {
+        Some(page) => page.len(),
+        None => 0,
+    }
+}
+
 // How many more entries fit without memory in the page where the key stands or would stand.
 pub(crate) fn room<V: Aging>(pages: &[Page<V>], key: &[u8]) -> usize
     requires { IsInOrder pages.now }
@@ -25,15 +46,4 @@ pub(crate) fn room<V: Aging>(pages: &[Page<V>], key: &[u8]) -> usize
         return 0;
     }
     pages[place(pages, key)].room()
-}
-
-// How many entries the page has where the key stands or would stand.
-pub(crate) fn count<V: Aging>(pages: &[Page<V>], key: &[u8]) -> usize
-    requires { IsInOrder pages.now }
-    ensures { result ≡ count_at key.now pages.now }
-{
-    if pages.is_empty() {
-        return 0;
-    }
-    pages[place(pages, key)].len()
 }

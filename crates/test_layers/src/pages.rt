@@ -82,6 +82,13 @@ fn live(asked: &Cell<u64>) -> Watched<'_> {
     }
 }
 
+// Makes room for one entry more where the key would be inserted, if it has no value.
+fn make_room<R: Abort>(rt: &R, pages: &mut SortedPages<Watched<'_>>, at: KeyRef<'_>) {
+    if let Err(point) = pages.find_mut(at) {
+        pages.reserve(point, at, 1).expect(rt, "memory");
+    }
+}
+
 // Adds a value of the key of these bytes, where it has none.
 fn add<'a, R: Abort + AllocGlobal>(
     rt: &R,
@@ -90,10 +97,12 @@ fn add<'a, R: Abort + AllocGlobal>(
     value: Watched<'a>,
 ) {
     let at = KeyRef::new(bytes).expect(rt, "a key");
-    pages.reserve(at, 1).expect(rt, "memory");
-    if pages.get(at).is_none() && pages.room(at) > 0 {
-        let key = Key::from_ref(rt.alloc(), at).expect(rt, "memory");
-        pages.insert(key, value);
+    make_room(rt, pages, at);
+    let key = Key::from_ref(rt.alloc(), at).expect(rt, "memory");
+    let room = pages.room(at);
+    match pages.find_mut(at) {
+        Err(point) if room > 0 => pages.insert(point, key, value),
+        _ => {}
     }
 }
 
@@ -124,7 +133,7 @@ fn change<'a, R: Abort + AllocGlobal>(
 ) {
     match way {
         0 => {}
-        1 => pages.reserve(key(b"\x07\xcf"), 1).expect(rt, "memory"),
+        1 => make_room(rt, pages, key(b"\x07\xd0")),
         2 => add(rt, pages, b"\x07\xd0", live(asked)),
         _ => assert!(rt; !pages.trim_at(key(b"\x07\xcf"), &[], 0)),
     }
@@ -133,7 +142,7 @@ fn change<'a, R: Abort + AllocGlobal>(
 // Lends the value of the key of these bytes for writing. Has it one?
 fn lend(pages: &mut SortedPages<Watched<'_>>, bytes: &[u8]) -> bool {
     match KeyRef::new(bytes) {
-        Some(at) => pages.get_mut(at).is_some(),
+        Some(at) => pages.find_mut(at).is_ok(),
         None => false,
     }
 }
@@ -176,12 +185,12 @@ fn set_again<R: Abort>(rt: &R, pages: &mut SortedPages<Watched<'_>>, number: u64
     for i in 0..2_000u16 {
         let bytes = i.to_be_bytes();
         let at = KeyRef::new(bytes.as_slice()).expect(rt, "a key");
-        match pages.get_mut(at) {
-            Some(value) => {
+        match pages.find_mut(at) {
+            Ok(value) => {
                 value.shows = true;
                 value.again = number;
             }
-            None => panic!(rt; "a key is missing"),
+            Err(_) => panic!(rt; "a key is missing"),
         }
     }
 }

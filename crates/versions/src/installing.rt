@@ -49,9 +49,9 @@ pub(crate) fn make_room(
     ensures place { OnOk result (HasPlaceAt n key.entry.bytes.now chains.new (entries chains.new)) }
     ensures known { WhereRoom n key.entry.bytes.now chains.old (entries chains.old) (IsOk result) }
 {
-    match chains.get_mut(key) {
-        Some(chain) => chain.reserve(alloc),
-        None => chains.reserve(key, n),
+    match chains.find_mut(key) {
+        Ok(chain) => chain.reserve(alloc),
+        Err(at) => chains.reserve(at, key, n),
     }
 }
 
@@ -70,13 +70,13 @@ fn add(chains: &mut SortedPages<Chain>, listed: &mut Vec<OldVersion>, n: u64, wr
         number: n,
         value: kept_value(value),
     };
-    match chains.get_mut(key.lend()) {
-        Some(chain) => {
+    match chains.find_mut(key.lend()) {
+        Ok(chain) => {
             let number = chain.number();
             chain.add(version);
             list(listed, key, number, n);
         }
-        None => chains.insert(key, Chain::new(version)),
+        Err(at) => chains.insert(at, key, Chain::new(version)),
     }
 }
 

@@ -1,13 +1,13 @@
-use Rattle.sorted_pages.proofs.pages.SortedPages.get_mut.Goals as goal
-use Rattle.std.proofs.Common.{refl, sym, ap, ◌∙◌}
+use Rattle.sorted_pages.proofs.pages.SortedPages.find_mut.Goals as goal
+use Rattle.std.proofs.Common.{refl, ap, ◌∙◌}
 use Rattle.std.specs.Prelude.{is_some}
-use Rattle.sorted_pages.proofs.Placings.{page_sorted, find_at}
+use Rattle.sorted_pages.proofs.Placings.{page_sorted, page_at, find_at}
 use Rattle.sorted_pages.proofs.Values.{entries-with_value, room-with_value}
 
 pub search-requires : goal.search-requires
 search-requires g c =
-    let at = rw c.deref.ensures.value at c.place-i.ensures in
-    page_sorted c.self.inside.pages.items c.bytes-bytes.result.now c.place-i.result c.index.result.now at c.index.ensures c.self.invariant
+    let at = rw c.deref.ensures.value at c.place-page.ensures in
+    page_sorted c.self.inside.pages.items c.bytes-bytes.result.now c.place-page.result c.index.result.now at c.index.ensures c.self.invariant
 
 pub returns-in-Ok : goal.returns-in-Ok
 returns-in-Ok g c =
@@ -18,9 +18,10 @@ returns-in-Ok g c =
       rw c.bytes-bytes.ensures.bytes,
       record {
         writes_back = tt;
-        value = sym found;
+        value = found;
         put = λ w. entries-with_value ps k w sorted (ap is_some found);
         rooms = λ w q. room-with_value q ps k w sorted;
+        absent = tt;
       },
     )
 
@@ -29,14 +30,15 @@ returns-in-Err g c =
     let ps = c.args.self.now in
     let k = c.args.key.bytes.now in
     let sorted = rw c.self.view_is at c.self.invariant.sorted in
-    let at = rw (c.deref.ensures.value, c.self.view_is, c.bytes-bytes.ensures.bytes) at c.place-i.ensures in
+    let at = rw (c.deref.ensures.value, c.self.view_is, c.bytes-bytes.ensures.bytes) at c.place-page.ensures in
     let is = rw c.self.view_is at c.index.ensures in
-    let absent = rw c.bytes-bytes.ensures.bytes at c.in-Err.ensures.absent.absent in (
+    let gap = rw c.bytes-bytes.ensures.bytes at c.in-Err.ensures.absent in (
       refl,
       record {
         writes_back = tt;
-        value = sym (find_at ps k c.place-i.result c.index.result.now at is ∙ absent);
+        value = tt;
         put = tt;
         rooms = λ w q. room-with_value q ps k w sorted;
+        absent = record { absent = find_at ps k c.place-page.result c.index.result.now at is ∙ gap.absent; page = λ some. at; gap = λ some p. rw (← page_at ps k c.place-page.result c.index.result.now p at is) gap };
       },
     )
