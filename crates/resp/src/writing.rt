@@ -41,13 +41,51 @@ fn append_number(out: &mut Vec<u8>, before: &[u8], n: u64, after: &[u8]) -> Resu
     append(out, &[before, digits, after])
 }
 
-// A bulk.
+// Adds bytes in room that is there.
+fn put(out: &mut Vec<u8>, bytes: &[u8])
+    requires { vec_len out.old + length bytes.now ≤ vec_capacity out.old }
+    ensures items { out.new.items ≡ out.old.items ++ bytes.now }
+    ensures capacity { vec_capacity out.old ≤ vec_capacity out.new }
+{
+    match out.extend_from_slice(bytes) {
+        Ok(()) => {}
+        Err(_) => unreachable!(),
+    }
+}
+
+// Adds the end of a line in room that is there.
+fn put_line_end(out: &mut Vec<u8>)
+    requires { vec_len out.old + 2 ≤ vec_capacity out.old }
+    ensures items { out.new.items ≡ out.old.items ++ crlf }
+    ensures capacity { vec_capacity out.old ≤ vec_capacity out.new }
+{
+    out.push_reserved(b'\r');
+    out.push_reserved(b'\n');
+}
+
+// Adds a bulk in room that is there. The digits are those of its length.
+fn put_bulk(out: &mut Vec<u8>, digits: &[u8], bytes: &[u8])
+    requires digits { digits.now ≡ decimal (length bytes.now) }
+    requires room { vec_len out.old + length (bulk bytes.now) ≤ vec_capacity out.old }
+    ensures items { out.new.items ≡ out.old.items ++ bulk bytes.now }
+    ensures capacity { vec_capacity out.old ≤ vec_capacity out.new }
+{
+    out.push_reserved(b'$');
+    put(out, digits);
+    put_line_end(out);
+    put(out, bytes);
+    put_line_end(out);
+}
+
+// A bulk. Its room is asked for once.
 fn append_bulk(out: &mut Vec<u8>, bytes: &[u8]) -> Result<(), Memory>
     ensures { Appends out.old out.new (bulk bytes.now) result }
 {
     let mut buffer = itoa::Buffer::new();
     let digits = buffer.format(bytes.len()).as_bytes();
-    append(out, &[b"$", digits, b"\r\n", bytes, b"\r\n"])
+    out.reserve(digits.len() + bytes.len() + 5)?;
+    put_bulk(out, digits, bytes);
+    Ok(())
 }
 
 // Fills a buffer with the hex digits of these bytes.
@@ -63,16 +101,13 @@ fn write_hex(bytes: &[u8], digits: &mut [u8])
 pub fn write_pair(out: &mut Vec<u8>, key: &[u8], value: &[u8]) -> Result<(), Memory>
     ensures { Appends out.old out.new (bulk key.now ++ bulk value.now) result }
 {
-    let mut key_buffer = itoa::Buffer::new();
-    let key_len = key_buffer.format(key.len()).as_bytes();
-    let mut value_buffer = itoa::Buffer::new();
-    let value_len = value_buffer.format(value.len()).as_bytes();
-    append(
-        out,
-        &[
-            b"$", key_len, b"\r\n", key, b"\r\n", b"$", value_len, b"\r\n", value, b"\r\n",
-        ],
-    )
+    let before = out.len();
+    append_bulk(out, key)?;
+    if append_bulk(out, value).is_err() {
+        out.truncate(before);
+        return Err(Memory);
+    }
+    Ok(())
 }
 
 /// Writes the line before an array of so many pairs at the end of `out`. It may grow `out`; where that is refused it answers `Memory`, and
