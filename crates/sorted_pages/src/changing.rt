@@ -5,15 +5,15 @@ ghost use Rattle.std.specs.Cmp.Lexicographic.{slice_cmp};
 ghost use Rattle.std.specs.FinMap.Entries.{put, is_sorted};
 ghost use Rattle.std.specs.Vec.{vec_len};
 ghost use Rattle.model.specs.Map.{Bytes};
-ghost use Rattle.sorted_pages.specs.Pages.{AreAllFull, AreFull, AreLoose, IsCrowded, IsInOrder, IsInsertionPoint, StaysTight};
-ghost use Rattle.sorted_pages.specs.Pages.{count_at, entries, pushed, room_at};
+ghost use Rattle.sorted_pages.specs.Pages.{AreAllFull, AreFull, AreLoose, IsCrowded, IsInOrder, IsInsertionPoint};
+ghost use Rattle.sorted_pages.specs.Pages.{StaysTight, count_at, entries, pushed, room_at};
 ghost use Rattle.sorted_pages.specs.Rooms.{MakesOnePage, MakesRoom, SplitsPage};
 
 use crate::aging::Aging;
 use crate::insertion_point::InsertionPoint;
 use crate::page::{PAGE_MAX, Page};
 use crate::placing::{count_in, place, room_in};
-use model::Key;
+use model::{Key, KeyRef};
 use std::alloc::AllocError;
 
 // A page of fewer entries isn't split.
@@ -48,27 +48,32 @@ pub(crate) fn look_again<V: Aging>(pages: &mut Vec<Page<V>>, i: usize)
 }
 
 // Makes room for `n` more entries in the page where the key would stand.
-fn grow<V: Aging>(pages: &mut Vec<Page<V>>, key: &[u8], n: usize) -> Result<(), AllocError>
+fn grow<V: Aging>(pages: &mut Vec<Page<V>>, key: KeyRef<'_>, n: usize) -> Result<(), AllocError>
     requires order { IsInOrder pages.old.items }
     requires some { 0 < vec_len pages.old }
     ensures room { MakesRoom n pages.old.items pages.new.items }
-    ensures made { OnOk result (n ≤ room_at key.now pages.new.items) }
+    ensures made { OnOk result (n ≤ room_at key.entry.bytes.now pages.new.items) }
     ensures pages { length pages.new.items ≡ length pages.old.items }
-    ensures count { count_at key.now pages.new.items ≡ count_at key.now pages.old.items }
+    ensures count { count_at key.entry.bytes.now pages.new.items ≡ count_at key.entry.bytes.now pages.old.items }
 {
     let i = place(pages, key);
     pages[i].reserve(n)
 }
 
 // Splits the page where the key would stand, and gives both parts room for `n` entries.
-fn split<V: Aging + Drop>(pages: &mut Vec<Page<V>>, key: &[u8], n: usize) -> Result<(), AllocError>
+fn split<V: Aging + Drop>(
+    pages: &mut Vec<Page<V>>,
+    key: KeyRef<'_>,
+    n: usize,
+) -> Result<(), AllocError>
     requires order { IsInOrder pages.old.items }
     requires some { 0 < vec_len pages.old }
-    requires short { room_at key.now pages.old.items < n }
+    requires short { room_at key.bytes.now pages.old.items < n }
     ensures room { MakesRoom n pages.old.items pages.new.items }
     ensures some { 0 < vec_len pages.new }
     ensures one { length pages.new.items ≤ length pages.old.items + 1 }
-    ensures split { OnOk result (IsCrowded key.now n pages.old.items → SplitsPage key.now pages.old.items pages.new.items) }
+    ensures split { OnOk result (IsCrowded key.entry.bytes.now n pages.old.items
+        → SplitsPage key.entry.bytes.now pages.old.items pages.new.items) }
 {
     pages.reserve(1)?;
     let i = place(pages, key);
@@ -85,14 +90,19 @@ fn split<V: Aging + Drop>(pages: &mut Vec<Page<V>>, key: &[u8], n: usize) -> Res
 }
 
 // Splits the page where the key would stand, and makes room for `n` more entries in the part where it stands then.
-fn divide<V: Aging + Drop>(pages: &mut Vec<Page<V>>, key: &[u8], n: usize) -> Result<(), AllocError>
+fn divide<V: Aging + Drop>(
+    pages: &mut Vec<Page<V>>,
+    key: KeyRef<'_>,
+    n: usize,
+) -> Result<(), AllocError>
     requires order { IsInOrder pages.old.items }
     requires some { 0 < vec_len pages.old }
-    requires short { room_at key.now pages.old.items < n }
+    requires short { room_at key.bytes.now pages.old.items < n }
     ensures room { MakesRoom n pages.old.items pages.new.items }
-    ensures made { OnOk result (n ≤ room_at key.now pages.new.items) }
+    ensures made { OnOk result (n ≤ room_at key.entry.bytes.now pages.new.items) }
     ensures one { length pages.new.items ≤ length pages.old.items + 1 }
-    ensures split { OnOk result (IsCrowded key.now n pages.old.items → SplitsPage key.now pages.old.items pages.new.items) }
+    ensures split { OnOk result (IsCrowded key.entry.bytes.now n pages.old.items
+        → SplitsPage key.entry.bytes.now pages.old.items pages.new.items) }
 {
     split(pages, key, n)?;
     grow(pages, key, n)
@@ -123,16 +133,17 @@ fn start<V: Aging + Drop>(pages: &mut Vec<Page<V>>, n: usize) -> Result<(), Allo
 pub(crate) fn reserve<V: Aging + Drop>(
     pages: &mut Vec<Page<V>>,
     at: InsertionPoint,
-    key: &[u8],
+    key: KeyRef<'_>,
     n: usize,
 ) -> Result<(), AllocError>
     requires order { IsInOrder pages.old.items }
-    requires point { IsInsertionPoint pages.old.items key.now at.page at.entry }
+    requires point { IsInsertionPoint pages.old.items key.bytes.now at.page at.entry }
     ensures room { MakesRoom n pages.old.items pages.new.items }
-    ensures made { OnOk result (n ≤ room_at key.now pages.new.items) }
-    ensures known { n ≤ room_at key.now pages.old.items → IsOk result }
-    ensures split { OnOk result (IsCrowded key.now n pages.old.items → SplitsPage key.now pages.old.items pages.new.items) }
-    ensures pages { MakesOnePage key.now n pages.old.items pages.new.items }
+    ensures made { OnOk result (n ≤ room_at key.entry.bytes.now pages.new.items) }
+    ensures known { n ≤ room_at key.entry.bytes.now pages.old.items → IsOk result }
+    ensures split { OnOk result (IsCrowded key.entry.bytes.now n pages.old.items
+        → SplitsPage key.entry.bytes.now pages.old.items pages.new.items) }
+    ensures pages { MakesOnePage key.entry.bytes.now n pages.old.items pages.new.items }
 {
     if n <= room_in(pages, at.page) {
         return Ok(());

@@ -15,7 +15,7 @@ ghost use Rattle.sorted_pages.specs.Trims.{changed_at, passes};
 
 use crate::aging::Aging;
 use crate::summary::Summary;
-use model::Key;
+use model::{Key, KeyRef};
 use std::alloc::{AllocError, Global};
 use std::cmp::Ordering;
 use std::marker::Model;
@@ -101,10 +101,10 @@ impl<V: Aging> Model for Page<V> {
 }
 
 // Which of the entry's key and another stands first.
-fn compare<V>(entry: &(Key, V), key: &[u8]) -> Ordering
-    ensures { result ≡ key_cmp entry.now.0 key.now }
+fn compare<V>(entry: &(Key, V), key: KeyRef<'_>) -> Ordering
+    ensures { result ≡ key_cmp entry.now.0 key.entry.bytes.now }
 {
-    entry.0.lend().bytes().cmp(key)
+    entry.0.lend().order(key)
 }
 
 impl<V: Aging> Page<V> {
@@ -152,8 +152,8 @@ impl<V: Aging> Page<V> {
     }
 
     // Is the first key at most this one?
-    pub(crate) fn starts_by(&self, key: &[u8]) -> bool
-        ensures { result ≡ starts_by key.now self.now.0 }
+    pub(crate) fn starts_by(&self, key: KeyRef<'_>) -> bool
+        ensures { result ≡ starts_by key.entry.bytes.now self.now.0 }
     {
         match self.entries.first() {
             None => true,
@@ -163,12 +163,12 @@ impl<V: Aging> Page<V> {
 
     // Where to cut the page so that the key gets room: in the middle, and before its last entry where the key stands behind all of
     // them, so that keys that come by rising order leave full pages. It is 0 where there are fewer than two entries.
-    pub(crate) fn cut_for(&self, key: &[u8]) -> usize
+    pub(crate) fn cut_for(&self, key: KeyRef<'_>) -> usize
         ensures within { result ≤ length self.now.0 - 1 }
         ensures some { 1 < length self.now.0 → 0 < result }
-        ensures behind { stands_behind key.now self.now.0 ≡ true → result ≡ length self.now.0 - 1 }
-        ensures low { stands_behind key.now self.now.0 ≡ false → 2 * result ≤ length self.now.0 }
-        ensures high { stands_behind key.now self.now.0 ≡ false → length self.now.0 ≤ 2 * result + 1 }
+        ensures behind { stands_behind key.entry.bytes.now self.now.0 ≡ true → result ≡ length self.now.0 - 1 }
+        ensures low { stands_behind key.entry.bytes.now self.now.0 ≡ false → 2 * result ≤ length self.now.0 }
+        ensures high { stands_behind key.entry.bytes.now self.now.0 ≡ false → length self.now.0 ≤ 2 * result + 1 }
     {
         match self.entries.last() {
             Some(entry) if compare(entry, key).is_lt() => self.entries.len() - 1,
@@ -177,18 +177,18 @@ impl<V: Aging> Page<V> {
     }
 
     // Where the key's entry is, or where it would stand.
-    pub(crate) fn search(&self, key: &[u8]) -> Result<usize, usize>
+    pub(crate) fn search(&self, key: KeyRef<'_>) -> Result<usize, usize>
         requires { T (is_sorted (slice_cmp nat_cmp) self.now.0) }
-        ensures found { IfOk result (IsAt self.now.0 key.now) }
-        ensures absent { IfErr result (IsGap self.now.0 key.now) }
+        ensures found { IfOk result (IsAt self.now.0 key.entry.bytes.now) }
+        ensures absent { IfErr result (IsGap self.now.0 key.entry.bytes.now) }
     {
         self.entries.binary_search_by(|entry| compare(entry, key))
     }
 
     // How many of the entries have keys below this one.
-    fn split_place(&self, key: &[u8]) -> usize
+    fn split_place(&self, key: KeyRef<'_>) -> usize
         requires { T (is_sorted (slice_cmp nat_cmp) self.now.0) }
-        ensures { IsSplit self.now.0 key.now result }
+        ensures { IsSplit self.now.0 key.entry.bytes.now result }
     {
         match self.entries.binary_search_by(|entry| compare(entry, key)) {
             Ok(i) => i,
@@ -215,18 +215,18 @@ impl<V: Aging> Page<V> {
     }
 
     // Lends the entries from this key on.
-    pub(crate) fn entries_from(&self, key: &[u8]) -> &[(Key, V)]
+    pub(crate) fn entries_from(&self, key: KeyRef<'_>) -> &[(Key, V)]
         requires { T (is_sorted (slice_cmp nat_cmp) self.now.0) }
-        ensures { IsTail self.now.0 key.now result.now }
+        ensures { IsTail self.now.0 key.entry.bytes.now result.now }
     {
         let start = self.split_place(key);
         &self.entries()[start..]
     }
 
     // Lends the key's value.
-    pub(crate) fn get(&self, key: &[u8]) -> Option<&V>
+    pub(crate) fn get(&self, key: KeyRef<'_>) -> Option<&V>
         requires { T (is_sorted (slice_cmp nat_cmp) self.now.0) }
-        ensures { option_copied result ≡ find (slice_cmp nat_cmp) key.now self.now.0 }
+        ensures { option_copied result ≡ find (slice_cmp nat_cmp) key.entry.bytes.now self.now.0 }
     {
         match self.search(key) {
             Ok(i) => Some(&self.entries[i].1),
@@ -235,10 +235,10 @@ impl<V: Aging> Page<V> {
     }
 
     // Lends the key's value for writing, which stands at `i`.
-    pub(crate) fn value_at(&mut self, key: &[u8], i: usize) -> &mut V
-        requires { IsAt self.old.0 key.now i }
-        ensures* writes_back { sem 𝓛 (lends_in_page V.row V.Aging self.entry key.now result) }
-        ensures value { find (slice_cmp nat_cmp) key.now self.old.0 ≡ Some result.now }
+    pub(crate) fn value_at(&mut self, key: KeyRef<'_>, i: usize) -> &mut V
+        requires { IsAt self.old.0 key.bytes.now i }
+        ensures* writes_back { sem 𝓛 (lends_in_page V.row V.Aging self.entry key.entry.bytes.now result) }
+        ensures value { find (slice_cmp nat_cmp) key.entry.bytes.now self.old.0 ≡ Some result.now }
     {
         self.blank = self.blank.min(i);
         self.summary = self.summary.leave_out(&self.entries, i);
@@ -327,11 +327,11 @@ impl<V: Aging + Drop> Page<V> {
 
 impl<V: Aging> Page<V> {
     // Trims the key's value, where it has one. Does it keep something of this number then?
-    pub(crate) fn trim_at(&mut self, key: &[u8], numbers: &[u64], number: u64) -> bool
+    pub(crate) fn trim_at(&mut self, key: KeyRef<'_>, numbers: &[u64], number: u64) -> bool
         requires { T (is_sorted (slice_cmp nat_cmp) self.old.0) }
-        ensures entries { self.new.0 ≡ changed_at (V.trimmed numbers.now) key.now self.old.0 }
+        ensures entries { self.new.0 ≡ changed_at (V.trimmed numbers.now) key.entry.bytes.now self.old.0 }
         ensures room { self.new.1 ≡ self.old.1 }
-        ensures left { result ≡ passes (V.has number) (find (slice_cmp nat_cmp) key.now self.new.0) }
+        ensures left { result ≡ passes (V.has number) (find (slice_cmp nat_cmp) key.entry.bytes.now self.new.0) }
     {
         match self.search(key) {
             Ok(i) => {

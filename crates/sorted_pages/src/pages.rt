@@ -58,8 +58,8 @@ impl<V: Aging> SortedPages<V> {
         if self.pages.is_empty() {
             return None;
         }
-        let i = place(&self.pages, key.bytes());
-        self.pages[i].get(key.bytes())
+        let i = place(&self.pages, key);
+        self.pages[i].get(key)
     }
 }
 
@@ -71,11 +71,11 @@ impl<V: Aging> SortedPages<V> {
     ghost use Rattle.sorted_pages.specs.Lent.{PutsAt, lends_if_present, lends_value, with_value};
 
     // Lends the key's value for writing, which stands in page `i`, at `j`.
-    fn value_at(&mut self, key: &[u8], i: usize, j: usize) -> &mut V
-        requires page { IsPlace self.old key.now i }
-        requires entry { (p : Page V) → IsAt (slice_index_or self.old i p).0 key.now j }
-        ensures* writes_back { sem 𝓛 (lends_value V.row V.Aging self.entry key.now result) }
-        ensures value { find (slice_cmp nat_cmp) key.now (entries self.old) ≡ Some result.now }
+    fn value_at(&mut self, key: KeyRef<'_>, i: usize, j: usize) -> &mut V
+        requires page { IsPlace self.old key.bytes.now i }
+        requires entry { (p : Page V) → IsAt (slice_index_or self.old i p).0 key.bytes.now j }
+        ensures* writes_back { sem 𝓛 (lends_value V.row V.Aging self.entry key.entry.bytes.now result) }
+        ensures value { find (slice_cmp nat_cmp) key.entry.bytes.now (entries self.old) ≡ Some result.now }
     {
         look_again(&mut self.pages, self.lent);
         self.lent = i;
@@ -94,10 +94,9 @@ impl<V: Aging> SortedPages<V> {
         if self.pages.is_empty() {
             return Err(InsertionPoint { page: 0, entry: 0 });
         }
-        let bytes = key.bytes();
-        let page = place(&self.pages, bytes);
-        match self.pages[page].search(bytes) {
-            Ok(i) => Ok(self.value_at(bytes, page, i)),
+        let page = place(&self.pages, key);
+        match self.pages[page].search(key) {
+            Ok(i) => Ok(self.value_at(key, page, i)),
             Err(entry) => Err(InsertionPoint { page, entry }),
         }
     }
@@ -120,9 +119,9 @@ impl<V: Aging> SortedPages<V> {
                 number,
             };
         }
-        let i = place(pages, lo.bytes());
+        let i = place(pages, lo);
         Entries {
-            front: pages[i].entries_from(lo.bytes()),
+            front: pages[i].entries_from(lo),
             pages: &pages[i + 1..],
             hi,
             number,
@@ -161,7 +160,7 @@ impl<V: Aging + Drop> SortedPages<V> {
     pub fn room(&self, key: KeyRef<'_>) -> usize
         ensures { result ≡ room_at key.entry.bytes.now self.now }
     {
-        placing::room(&self.pages, key.bytes())
+        placing::room(&self.pages, key)
     }
 
     /// Makes room for `n` more entries where a new key would be inserted. The entries stay, also where memory is refused, and no
@@ -183,7 +182,7 @@ impl<V: Aging + Drop> SortedPages<V> {
         ensures split { OnOk result (IsCrowded key.entry.bytes.now n self.old → SplitsPage key.entry.bytes.now self.old self.new) }
         ensures pages { MakesOnePage key.entry.bytes.now n self.old self.new }
     {
-        changing::reserve(&mut self.pages, at, key.bytes(), n)
+        changing::reserve(&mut self.pages, at, key, n)
     }
 
     /// Adds an entry of a new key where it would be inserted, in the room that was made for it: each key has room for one entry less, at
@@ -237,6 +236,6 @@ impl<V: Aging> SortedPages<V> {
         ensures entries { entries self.new ≡ changed_at (V.trimmed numbers.now) key.entry.bytes.now (entries self.old) }
         ensures left { result ≡ passes (V.has number) (find (slice_cmp nat_cmp) key.entry.bytes.now (entries self.new)) }
     {
-        trimming::trim_at(&mut self.pages, key.bytes(), numbers, number)
+        trimming::trim_at(&mut self.pages, key, numbers, number)
     }
 }

@@ -5,12 +5,13 @@ ghost use Rattle.sorted_pages.specs.Pages.{IsInOrder, IsPlace, count_at, room_at
 
 use crate::aging::Aging;
 use crate::page::Page;
+use model::KeyRef;
 
 // The page where the key stands or would stand: the last one that doesn't start above it.
-pub(crate) fn place<V: Aging>(pages: &[Page<V>], key: &[u8]) -> usize
+pub(crate) fn place<V: Aging>(pages: &[Page<V>], key: KeyRef<'_>) -> usize
     requires order { IsInOrder pages.now }
     requires some { 0 < length pages.now }
-    ensures { IsPlace pages.now key.now result }
+    ensures { IsPlace pages.now key.entry.bytes.now result }
 {
     pages
         .partition_point(|page| page.starts_by(key))
@@ -38,9 +39,9 @@ pub(crate) fn count_in<V: Aging>(pages: &[Page<V>], i: usize) -> usize
 }
 
 // How many more entries fit without memory in the page where the key stands or would stand.
-pub(crate) fn room<V: Aging>(pages: &[Page<V>], key: &[u8]) -> usize
+pub(crate) fn room<V: Aging>(pages: &[Page<V>], key: KeyRef<'_>) -> usize
     requires { IsInOrder pages.now }
-    ensures { result ≡ room_at key.now pages.now }
+    ensures { result ≡ room_at key.entry.bytes.now pages.now }
 {
     if pages.is_empty() {
         return 0;

@@ -9,18 +9,19 @@ ghost use Rattle.sorted_pages.specs.Trims.{changed_at, passes};
 use crate::aging::Aging;
 use crate::page::Page;
 use crate::placing::place;
+use model::KeyRef;
 
 // Trims the key's value, where it has one. Does it keep something of this number then?
 pub(crate) fn trim_at<V: Aging>(
     pages: &mut [Page<V>],
-    key: &[u8],
+    key: KeyRef<'_>,
     numbers: &[u64],
     number: u64,
 ) -> bool
     requires order { IsInOrder pages.old }
     ensures order { IsInOrder pages.new }
-    ensures entries { entries pages.new ≡ changed_at (V.trimmed numbers.now) key.now (entries pages.old) }
-    ensures left { result ≡ passes (V.has number) (find (slice_cmp nat_cmp) key.now (entries pages.new)) }
+    ensures entries { entries pages.new ≡ changed_at (V.trimmed numbers.now) key.entry.bytes.now (entries pages.old) }
+    ensures left { result ≡ passes (V.has number) (find (slice_cmp nat_cmp) key.entry.bytes.now (entries pages.new)) }
 {
     if pages.is_empty() {
         return false;

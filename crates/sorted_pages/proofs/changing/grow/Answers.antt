@@ -11,5 +11,5 @@ returns g c =
     let page = c.index_mut.result.now in
     let here = c.index_mut.ensures.value in
     let at = rw c.deref.ensures.value at c.place-i.ensures in
-    let all = grown ps c.args.key.now i page c.reserve.new.self at here c.requires.order c.reserve.ensures.entries c.reserve.ensures.room in
+    let all = grown ps c.args.key.bytes.now i page c.reserve.new.self at here c.requires.order c.reserve.ensures.entries c.reserve.ensures.room in
     grind (arith, common_steps, room_grown, on_ok_weaker, count_grown, tight-set)

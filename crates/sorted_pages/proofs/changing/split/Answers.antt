@@ -24,13 +24,14 @@ returns g c =
     let two = halves p.0 lo.0 up.0 c.cut_for-cut.result lower.entries upper.entries c.cut_for-cut.ensures.within c.if-cut-eq0.false in
     let was = c.index_mut-page.ensures.value in
     let short : p.1 ≤ c.args.n =
-    (let a = room_of ps c.args.key.now i p at was in let b = ap (λ (l : List (Page g.row.V.Denot)). room_at c.args.key.now l) c.reserve.ensures.items in let
-    d = c.requires.short in omega arith) in
-    let all = split ps c.args.key.now i (i
+    (let a = room_of ps c.args.key.bytes.now i p at was in
+    let b = ap (λ (l : List (Page g.row.V.Denot)). room_at c.args.key.bytes.now l) c.reserve.ensures.items in
+    let d = c.requires.short in omega arith) in
+    let all = split ps c.args.key.bytes.now i (i
     + 1) p lo up at was order refl two.same two.lower two.upper (omega (arith, lower.room))
     (omega (arith, upper.room)) in
     let lengthened = one_longer c.args.pages.now.items ps c.insert.new.self.items i (i
-    + 1) lo up (sym c.reserve.ensures.items) refl (place_within ps c.args.key.now i at) c.in-Ok.ensures.items in
+    + 1) lo up (sym c.reserve.ensures.items) refl (place_within ps c.args.key.bytes.now i at) c.in-Ok.ensures.items in
     record {
       room = record {
         order = rw (← c.in-Ok.ensures.items) at all.order;
@@ -42,7 +43,7 @@ returns g c =
       one = (let l = lengthened in omega arith);
       split = λ h. record {
         more = (let l = lengthened in omega arith);
-        halved = halved ps c.args.pages.now.items c.insert.new.self.items c.args.key.now i (i
+        halved = halved ps c.args.pages.now.items c.insert.new.self.items c.args.key.bytes.now i (i
             + 1) c.cut_for-cut.result p lo up (sym c.reserve.ensures.items) c.in-Ok.ensures.items at c.index_mut-page.ensures.value refl two.same two.lower
             lower.entries (let l = c.cut_for-cut.ensures.within in omega arith) c.cut_for-cut.ensures.low c.cut_for-cut.ensures.high;
       };
@@ -60,5 +61,5 @@ lone ps old k i n cut p at is same some none h =
 pub returns-then-cut-eq0-clause-split : goal.returns-then-cut-eq0-clause-split
 returns-then-cut-eq0-clause-split g c = λ h.
     let at = rw c.deref.ensures.value at c.place-i.ensures in
-    absurd (lone _ _ c.args.key.now c.place-i.result c.args.n c.cut_for-cut.result c.index_mut-page.result.now at c.index_mut-page.ensures.value
+    absurd (lone _ _ c.args.key.bytes.now c.place-i.result c.args.n c.cut_for-cut.result c.index_mut-page.result.now at c.index_mut-page.ensures.value
     c.reserve.ensures.items c.cut_for-cut.ensures.some c.if-cut-eq0.true h)

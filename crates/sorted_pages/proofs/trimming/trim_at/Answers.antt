@@ -12,13 +12,13 @@ pub trim_at-requires : goal.trim_at-requires
 trim_at-requires g c =
     let ps = c.args.pages.now in
     let i = c.place-i.result in
-    page_sorted ps c.args.key.now i (get_or ps i c.index-pages-i.result) c.place-i.ensures (ap (λ d. get_or ps i d) c.index-pages-i.is) c.requires.order
+    page_sorted ps c.args.key.bytes.now i (get_or ps i c.index-pages-i.result) c.place-i.ensures (ap (λ d. get_or ps i d) c.index-pages-i.is) c.requires.order
 
 pub returns : goal.returns
 returns g c =
     let ps = c.args.pages.now in
     let i = c.place-i.result in
-    let k = c.args.key.now in
+    let k = c.args.key.bytes.now in
     let f = g.V.Aging.trimmed c.args.numbers.now in
     let page = get_or ps i c.index-pages-i.result in
     let here = ap (λ d. get_or ps i d) c.index-pages-i.is in

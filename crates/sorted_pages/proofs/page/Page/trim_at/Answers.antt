@@ -21,7 +21,7 @@ take_in-self-inside-requires g c =
 pub returns-in-Ok : goal.returns-in-Ok
 returns-in-Ok g c =
     let f = g.V.Aging.trimmed c.args.numbers.now in
-    let k = c.args.key.now in
+    let k = c.args.key.bytes.now in
     let es = c.self.inside.entries.items in
     let e = c.index_mut-entry.result.now in
     let at = rw (← c.self.view_is) at c.in-Ok.ensures.found in

@@ -21,7 +21,7 @@ invariant_of-self-lent g c = λ w.
 pub returns : goal.returns
 returns g c =
     let es = c.self.inside.entries.items in
-    let k = c.args.key.now in
+    let k = c.args.key.bytes.now in
     let i = c.args.i in
     let e = c.index_mut-entry.result.now in
     let at = rw (← c.self.view_is) at c.requires in

@@ -7,15 +7,15 @@ use Rattle.sorted_pages.proofs.Values.{entries-with_value, room-with_value}
 pub search-requires : goal.search-requires
 search-requires g c =
     let at = rw c.deref.ensures.value at c.place-page.ensures in
-    page_sorted c.self.inside.pages.items c.bytes-bytes.result.now c.place-page.result c.index.result.now at c.index.ensures c.self.invariant
+    page_sorted c.self.inside.pages.items c.args.key.bytes.now c.place-page.result c.index.result.now at c.index.ensures c.self.invariant
 
 pub returns-in-Ok : goal.returns-in-Ok
 returns-in-Ok g c =
     let ps = c.args.self.now in
     let k = c.args.key.bytes.now in
     let sorted = rw c.self.view_is at c.self.invariant.sorted in
-    let found = rw c.bytes-bytes.ensures.bytes at c.value_at.ensures.value in (
-      rw c.bytes-bytes.ensures.bytes,
+    let found = c.value_at.ensures.value in (
+      refl,
       record {
         writes_back = tt;
         value = found;
@@ -30,15 +30,19 @@ returns-in-Err g c =
     let ps = c.args.self.now in
     let k = c.args.key.bytes.now in
     let sorted = rw c.self.view_is at c.self.invariant.sorted in
-    let at = rw (c.deref.ensures.value, c.self.view_is, c.bytes-bytes.ensures.bytes) at c.place-page.ensures in
+    let at = rw (c.deref.ensures.value, c.self.view_is) at c.place-page.ensures in
     let is = rw c.self.view_is at c.index.ensures in
-    let gap = rw c.bytes-bytes.ensures.bytes at c.in-Err.ensures.absent in (
+    let gap = c.in-Err.ensures.absent in (
       refl,
       record {
         writes_back = tt;
         value = tt;
         put = tt;
         rooms = λ w q. room-with_value q ps k w sorted;
-        absent = record { absent = find_at ps k c.place-page.result c.index.result.now at is ∙ gap.absent; page = λ some. at; gap = λ some p. rw (← page_at ps k c.place-page.result c.index.result.now p at is) gap };
+        absent = record {
+          absent = find_at ps k c.place-page.result c.index.result.now at is ∙ gap.absent;
+          page = λ some. at;
+          gap = λ some p. rw (← page_at ps k c.place-page.result c.index.result.now p at is) gap;
+        };
       },
     )

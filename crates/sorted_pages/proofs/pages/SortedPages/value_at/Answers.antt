@@ -9,7 +9,7 @@ use Rattle.sorted_pages.specs.Pages.{Page}
 pub invariant_of-self-lent : goal.invariant_of-self-lent
 invariant_of-self-lent g c = λ w.
     let same = c.look_again.ensures ∙ c.self.view_is in
-    let k = c.args.key.now in
+    let k = c.args.key.bytes.now in
     let p = c.index_mut.result.now in
     let is = rw same at c.index_mut.ensures.value in
     let order = rw c.self.view_is at c.self.invariant in
@@ -19,7 +19,7 @@ pub returns : goal.returns
 returns g c =
     let same = c.look_again.ensures ∙ c.self.view_is in
     let ps = c.args.self.now in
-    let k = c.args.key.now in
+    let k = c.args.key.bytes.now in
     let p = c.index_mut.result.now in
     let is = rw same at c.index_mut.ensures.value in
     let here = c.value_at.ensures.value in (

@@ -10,7 +10,7 @@ use Rattle.sorted_pages.specs.Pages.{Page, entries}
 pub entries_from-requires : goal.entries_from-requires
 entries_from-requires g c =
     let order = rw (← c.as_slice-pages.ensures.value) at c.self.invariant in
-    page_sorted c.as_slice-pages.result.now c.bytes.result.now c.place-i.result c.index-pages-i.result c.place-i.ensures c.index-pages-i.is order
+    page_sorted c.as_slice-pages.result.now c.args.lo.bytes.now c.place-i.result c.index-pages-i.result c.place-i.ensures c.index-pages-i.is order
 
 pub returns : goal.returns
 returns g c =
@@ -19,10 +19,9 @@ returns g c =
     let lo = c.args.lo.bytes.now in
     let page = c.index-pages-i.result in
     let front = c.entries_from.result.now in
-    let at = rw c.bytes.ensures.bytes at c.place-i.ensures in
+    let at = c.place-i.ensures in
     let order = rw (← c.as_slice-pages.ensures.value) at c.self.invariant in
-    let tail = rw c.bytes-2.ensures.bytes at c.entries_from.ensures in
-    range_from (g.V.Aging.hides c.args.number) ps lo (end_bytes c.args.hi) i page front _ at c.index-pages-i.is order tail (take_rest ps (i + 1)
-    ∙ after_is ps lo i at)
+    range_from (g.V.Aging.hides c.args.number) ps lo (end_bytes c.args.hi) i page front _ at c.index-pages-i.is order c.entries_from.ensures
+    (take_rest ps (i + 1) ∙ after_is ps lo i at)
     ∙ ap (λ (l : List (Page g.row.V.Denot)). In lo (end_bytes c.args.hi) (shown (g.V.Aging.hides c.args.number) (entries l))) (c.as_slice-pages.ensures.value
     ∙ c.self.view_is)
