@@ -8,6 +8,7 @@ use Rattle.model.specs.Map.{IsInBounds, KeyMap}
 use Rattle.sector.specs.declared.device.Sectors.{Ghosts}
 use Rattle.commit_log.specs.declared.faults.Unopened.{Unopened}
 use Rattle.sessions.specs.Lives.{Begins, IsOpened, Opens, TellsWhy}
+use Rattle.sessions.specs.StandsFor.{device}
 use Rattle.sessions.specs.declared.hub.Hub.{Hub}
 use Rattle.commands.specs.Faults.{of_log}
 use Rattle.commands.specs.Notices.{listening_line, stopped_line}
@@ -19,6 +20,7 @@ use Rattle.commands.specs.declared.system.DataFiles.{Ghosts as DataFiles}
 use Rattle.commands.specs.declared.system.Lines.{Ghosts as Lines}
 use Rattle.commands.specs.declared.system.Ports.{Ghosts as Ports}
 use Rattle.commands.specs.declared.system.Turns.{Ghosts as Turns}
+use Rattle.commands.specs.declared.system.Unbound.{Unbound}
 
 -- each hub that was opened is taken
 abbrev pub TakesOpened : {D : Type 0} {g : Ghosts D} → (Hub D g → Type 0) → Type 0
@@ -33,10 +35,10 @@ Starts {D = D} {g = g} device result =
     (λ unopened. g.keeps_model → Opens {D = D} {g = g} device (Err unopened))
 
 -- Opening a file of this name and listening at the address that a text spells: the first that fails ends it, with its
--- fault, and no later call is made but to close a file that holds no store. A text that spells no address ends it
--- before any call.
+-- fault, and no later call is made but to close the file as the opening of its store left it. A text that spells no
+-- address ends it before any call.
 pub data Opening {F P D V : Type 0} {g : Ghosts D} (files : DataFiles F D) (listens : P → SocketAddr → Hub D g
-    → Result V Error → P → Type 0)
+    → Result V (Unbound (Hub D g)) → P → Type 0)
     (name listen : List ℕ) (old : F) (ports : P) : Result V Fault → F → P → Type 0 where
   NoAddress : ((address : SocketAddr) → IsSocketText listen address → ⊥)
       → Opening files listens name listen old ports (Err Listen) old ports
@@ -47,11 +49,12 @@ pub data Opening {F P D V : Type 0} {g : Ghosts D} (files : DataFiles F D) (list
       → IsSocketText listen address → files.opens old name (Ok device) opened
       → Starts {D = D} {g = g} device (Err unopened) → files.closes opened unopened.device closed
       → Opening files listens name listen old ports (Err (of_log unopened.fault)) closed ports
-  NoPort : (address : SocketAddr) (device : D) (hub : Hub D g) (error : Error) (fault : Fault) (opened : F)
-      (listened : P) → IsSocketText listen address
-      → files.opens old name (Ok device) opened → Starts device (Ok hub)
-      → listens ports address hub (Err error) listened → IsToldAs error Listen fault
-      → Opening files listens name listen old ports (Err fault) opened listened
+  NoPort : (address : SocketAddr) (dev : D) (hub : Hub D g) (unbound : Unbound (Hub D g)) (fault : Fault)
+      (opened closed : F) (listened : P) → IsSocketText listen address
+      → files.opens old name (Ok dev) opened → Starts dev (Ok hub)
+      → listens ports address hub (Err unbound) listened → IsToldAs unbound.error Listen fault
+      → files.closes opened (device hub) closed
+      → Opening files listens name listen old ports (Err fault) closed listened
   Opened : (address : SocketAddr) (device : D) (hub : Hub D g) (server : V) (opened : F) (listened : P)
       → IsSocketText listen address
       → files.opens old name (Ok device) opened → Starts device (Ok hub)

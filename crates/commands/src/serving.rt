@@ -70,8 +70,8 @@ fn print_listening<O: Lines>(alloc: Global, address: SocketAddr, out: &mut O) ->
     out.write_line(line.as_bytes())
 }
 
-/// Opens a data file and listens at an address. Its faults are those of `serve` but `Poll`. A file that holds no store is closed as the
-/// opening left it: a crash of it leaves what one before could have left.
+/// Opens a data file and listens at an address. Its faults are those of `serve` but `Poll`. A file that holds no store, or for whose store
+/// nobody listens, is closed as the opening left it: a crash of it leaves what one before could have left.
 pub(crate) fn open<F: DataFiles, P: Ports<Hub<F::Device>>>(
     alloc: Global,
     files: &mut F,
@@ -95,6 +95,9 @@ pub(crate) fn open<F: DataFiles, P: Ports<Hub<F::Device>>>(
     };
     match ports.listen(alloc, address, hub) {
         Ok(server) => Ok(server),
-        Err(error) => Err(or_memory(&error, Fault::Listen)),
+        Err(unbound) => {
+            files.close(unbound.hub.into_device());
+            Err(or_memory(&unbound.error, Fault::Listen))
+        }
     }
 }

@@ -100,11 +100,20 @@ pub trait Turns {
         ensures { is_at self.now result };
 }
 
+/// A hub for whose sessions nobody listens, and why.
+#[derive(Drop)]
+pub struct Unbound<H> {
+    /// Why: the system's error, or out of memory.
+    pub error: io::Error,
+    /// The hub, as it was.
+    pub hub: H,
+}
+
 /// What listens at addresses, for the sessions of such a hub.
 pub trait Ports<H> {
-    ghost use Rattle.std.specs.Prelude.{⊤, Result};
-    ghost use Rattle.std.specs.declared.io.Error.{Error};
+    ghost use Rattle.std.specs.Prelude.{⊤, ◌≡◌, IfErr, Result};
     ghost use Rattle.std.specs.declared.net.socket_addr.SocketAddr.{SocketAddr};
+    ghost use Rattle.commands.specs.declared.system.Unbound.{Unbound};
 
     /// What serves a hub at an address.
     type Server: Turns + Drop;
@@ -113,12 +122,18 @@ pub trait Ports<H> {
     ghost takes: { H → Type 0 } = { λ _. ⊤ };
 
     /// `listens before address hub result after`: one call of `listen`.
-    ghost listens: { Self → SocketAddr → H → Result Self.Server Error → Self → Type 0 } = { λ _ _ _ _ _. ⊤ };
+    ghost listens: { Self → SocketAddr → H → Result Self.Server (Unbound H) → Self → Type 0 } = { λ _ _ _ _ _. ⊤ };
 
-    /// Listens at an address for the sessions of a hub.
-    fn listen(&mut self, alloc: Global, address: SocketAddr, hub: H) -> io::Result<Self::Server>
+    /// Listens at an address for the sessions of a hub. Where that fails, the hub is given back as it was.
+    fn listen(
+        &mut self,
+        alloc: Global,
+        address: SocketAddr,
+        hub: H,
+    ) -> Result<Self::Server, Unbound<H>>
         requires { takes hub }
-        ensures { listens self.old address hub result self.new };
+        ensures listens { listens self.old address hub result self.new }
+        ensures back { IfErr result (λ unbound. unbound.hub ≡ hub) };
 }
 
 /// What plays scripts, and prints to such an output.

@@ -10,6 +10,7 @@
 mod connections;
 mod lingering;
 mod listener;
+mod listening;
 mod order;
 mod polling;
 mod server;
@@ -19,6 +20,7 @@ mod waiting;
 pub use connections::{Backlog, accept_some};
 pub use lingering::{Dropped, LINGERING_BYTES, LINGERING_BYTES_A_TURN, LINGERING_MAX, drop_input};
 pub use listener::{AcceptAnswer, Listener, Port};
+pub use listening::Unbound;
 pub use server::EventLoop;
 pub use socket::Socket;
 pub use socket_calls::{AcceptedSocket, CountedPoll};

@@ -10,17 +10,17 @@ ghost use Rattle.event_loop.specs.Tables.{HaveEntries};
 use crate::connections::{
     Backlog, LINGERER, accept_some, any_ready, end_drives, make_polled_ready,
 };
-use crate::lingering::{LINGERING_MAX, Lingering};
+use crate::lingering::Lingering;
 use crate::listener::Port;
+use crate::listening::{Listening, Unbound};
 use crate::order::{Turns, law_each_comes_nearer, next_turns, take_turns};
 use crate::polling::Poller;
 use crate::socket::Socket;
 use crate::waiting::longest_wait;
-use mio::{Interest, Token};
+use mio::Token;
 use sector::Sectors;
-use sessions::{Hub, SESSIONS_MAX};
+use sessions::Hub;
 use slab::Slab;
-use socket_calls::{CountedPoll, ListeningSocket};
 use std::alloc::Global;
 use std::io;
 use std::net::{Net, SocketAddr};
@@ -28,7 +28,7 @@ use std::time::Duration;
 use stream_driver::{BufferedStream, Entry, Stream, drive_ready};
 
 /// The token of the listener, which no key of the table is.
-const LISTENER: Token = Token(usize::MAX);
+pub(crate) const LISTENER: Token = Token(usize::MAX);
 
 /// How many bytes a turn asks for once its step has freed garbage.
 const SPARE_BYTES: usize = 2_040;
@@ -66,7 +66,7 @@ pub struct EventLoop<D: Sectors> {
 }
 
 impl<D: Sectors> EventLoop<D> {
-    ghost use Rattle.std.specs.Prelude.{◌≡◌, true, IfOk, OnOk, OnErr};
+    ghost use Rattle.std.specs.Prelude.{◌≡◌, true, IfOk, MatchResult, OnOk, OnErr};
     ghost use Rattle.mio.specs.Events.{items};
     ghost use Rattle.sessions.specs.Lives.{IsOpened, IsServed};
     ghost use Rattle.sessions.specs.SessionStreams.{HubState};
@@ -84,38 +84,36 @@ impl<D: Sectors> EventLoop<D> {
     /// Listens at an address for the sessions of a hub that was opened. Port 0 stands for one that the system picks. The poll reports the
     /// listener under a key that no entry of the table has.
     ///
-    /// A fault is the system's, or out of memory, which is `OutOfMemory`. It takes memory for the events of one poll, and
-    /// for the connections that linger.
+    /// A fault is the system's, or out of memory, which is `OutOfMemory`; the hub is given back with it, as it was. It takes memory for the
+    /// events of one poll, and for the connections that linger.
     pub fn bind<R: Net>(
         rt: &R,
         alloc: Global,
         address: SocketAddr,
         hub: Hub<D>,
-    ) -> io::Result<EventLoop<D>>
+    ) -> Result<EventLoop<D>, Unbound<D>>
         requires { IsOpened hub }
-        ensures hub { IfOk result (λ events. hub_of events ≡ hub) }
+        ensures hub { MatchResult result (λ events. hub_of events ≡ hub) (λ unbound. unbound.hub ≡ hub) }
         ensures listens { IfOk result (λ events. ListensFor events address) }
     {
         hub.law_runs_follow();
-        let poll = CountedPoll::new(rt)?;
-        let mut listener = ListeningSocket::bind(rt, address)?;
-        listener.register(&poll, LISTENER, Interest::READABLE)?;
-        let poller = Poller::new(alloc, poll, SESSIONS_MAX + LINGERING_MAX + 1)?;
-        let lingering = Lingering::new(alloc)?;
-        Ok(EventLoop {
-            alloc,
-            poller,
-            port: Port::new(listener),
-            backlog: Backlog::Empty,
-            lingering,
-            hub,
-            has_garbage: false,
-            next: 0,
-            refused: 0,
-            turns: Turns::new(),
-            spare: None,
-            table: Slab::new(alloc),
-        })
+        match Listening::at(rt, alloc, address) {
+            Ok(listening) => Ok(EventLoop {
+                alloc,
+                poller: listening.poller,
+                port: listening.port,
+                backlog: Backlog::Empty,
+                lingering: listening.lingering,
+                hub,
+                has_garbage: false,
+                next: 0,
+                refused: 0,
+                turns: Turns::new(),
+                spare: None,
+                table: Slab::new(alloc),
+            }),
+            Err(error) => Err(Unbound { error, hub }),
+        }
     }
 
     /// The address that it listens at. A fault is the system's. Takes no memory.

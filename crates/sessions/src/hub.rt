@@ -137,6 +137,13 @@ impl<D: Sectors> Hub<D> {
         engine
     }
 
+    /// Gives the device of the engine back, and drops the rest. Takes no memory.
+    pub fn into_device(self) -> D
+        ensures { result ≡ device self }
+    {
+        self.engine.into_device()
+    }
+
     /// A session joins.
     fn join(&mut self, s: u64) -> Outcome
         ensures step { HubLeads self.old self.new (Joins s) result }

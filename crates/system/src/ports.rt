@@ -1,5 +1,5 @@
 //! Listening at addresses of the operating system, and the server that takes the turns of the loop.
-use commands::{Lines, Ports, Turns};
+use commands::{Lines, Ports, Turns, Unbound};
 use event_loop::EventLoop;
 use sector::FileSectors;
 use sessions::Hub;
@@ -36,12 +36,17 @@ impl<R: Net> Ports<Hub<FileSectors>> for SystemPorts<'_, R> {
         alloc: Global,
         address: SocketAddr,
         hub: Hub<FileSectors>,
-    ) -> io::Result<SystemServer>
+    ) -> Result<SystemServer, Unbound<Hub<FileSectors>>>
         requires { IsOpened hub }
         ensures { IfOk result (λ server. ServesAt server.events address hub) }
     {
-        let events = EventLoop::bind(self.rt, alloc, address, hub)?;
-        Ok(SystemServer { events })
+        match EventLoop::bind(self.rt, alloc, address, hub) {
+            Ok(events) => Ok(SystemServer { events }),
+            Err(unbound) => Err(Unbound {
+                error: unbound.error,
+                hub: unbound.hub,
+            }),
+        }
     }
 }
 
