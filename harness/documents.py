@@ -508,9 +508,9 @@ def sealed(tally):
             + [f"opened/OpenedFile/{name}" for name in ("make", "open", "open_to_read", "length", "sync_directory", "advise", "drop_copies")]
             + ["opened/is_link", "opened/without_links"]),
         ("socket_calls", "event_loop",
-            "fault|receive|send|send_at_once|ask_whether_there|register|reregister|end_writing|wait|listen|accepts_told|address",
+            "fault|receive|send|send_at_once|ask_whether_there|register|reregister|end_writing|wait|listen|accept|accepts_told|address",
             [f"counted/CountedSocket/{name}" for name in ("read", "write", "send_at_once", "ask_whether_there", "register", "reregister", "end_writing")]
-            + [f"listening/ListeningSocket/{name}" for name in ("bind", "register", "address")] + ["polled/CountedPoll/wait"]),
+            + [f"listening/ListeningSocket/{name}" for name in ("bind", "register", "accept", "address")] + ["polled/CountedPoll/wait"]),
     ):
         with tally.run(f"the lemmas of HappenedCalls in {crate}"):
             users = [line.partition(":")[0] for line in text_of("crates.txt").splitlines() if re.search(rf":.*\b{crate}\b", line)]

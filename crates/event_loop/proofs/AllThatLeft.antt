@@ -58,7 +58,7 @@ module _ {D : Type 0} {g : Ghosts D} where
   accepted_on : (driven accepted : EventLoop D g) (accepts : Bool) → Accepted accepts driven accepted → (lingerers : List Lingerer)
       → (s : Serving driven.hub driven.table.slots lingerers) → GoesOn s.served accepted.hub accepted.table.slots lingerers
   accepted_on driven accepted true accepts lingerers s =
-      accepts_goes driven.hub accepted.hub driven.next accepted.next accepts.accepted driven.refused accepted.refused driven.table.slots
+      accepts_goes driven.hub accepted.hub driven.next accepted.next accepts.came driven.refused accepted.refused driven.table.slots
       accepted.table.slots lingerers
       (record { stands = driven.stands; sessions = driven.sessions; numbers = driven.numbers; entries = driven.entries }) accepts.became s
   accepted_on driven accepted false same lingerers s = same_on same.hub (same_table driven accepted same.table) refl (stays s)

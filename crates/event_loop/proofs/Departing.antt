@@ -22,6 +22,7 @@ use Rattle.sessions.specs.SessionStreams.{HubState, HubEvent, Choice, SessionStr
 use Rattle.sessions.specs.SessionStreams.{stream_of}
 use Rattle.sessions.specs.StandsFor.{StandsFor, device}
 use Rattle.sessions.specs.declared.hub.Hub.{Hub}
+use Rattle.socket_calls.specs.declared.counted.AcceptedSocket.{AcceptedSocket}
 use Rattle.stream_driver.proofs.Carry.{run_then}
 use Rattle.stream_driver.proofs.Sends.{all_before, all_since, answered_since, answered_then, begins_through}
 use Rattle.stream_driver.proofs.States.{at_point, point_of}
@@ -419,23 +420,27 @@ module _ {D : Type 0} {g : Ghosts D} (hub : Hub D g) (slots : Slots) where
 
 -- ---- connections come
 
+-- the stream of a connection that was accepted
+abbrev IsSomeNew : (key session : ℕ) → BufferedStream Socket → Type 0
+IsSomeNew key session b = (accepted : AcceptedSocket) × IsNewSocket accepted key session b
+
 -- an entry was there, or it is new
 abbrev IsOldOrNew : Slots → ℕ → Connection → Type 0
-IsOldOrNew slots key entry = (slot_at slots key ≡ Some entry) ⊎ (IsNewSocket key entry.session entry.stream × (entry.state ≢ Gone))
+IsOldOrNew slots key entry = (slot_at slots key ≡ Some entry) ⊎ (IsSomeNew key entry.session entry.stream × (entry.state ≢ Gone))
 
 module _ {D : Type 0} {g : Ghosts D} where
-  each_from : {hub : Hub D g} {next : ℕ} {slots : Slots} {count : ℕ} {later : Hub D g} {then : ℕ} {new : Slots}
-      → AdmitsEach IsNewSocket hub next slots count later then new → (key : ℕ) (entry : Connection) → slot_at new key ≡ Some entry
+  each_from : {hub : Hub D g} {next : ℕ} {slots : Slots} {came : List AcceptedSocket} {later : Hub D g} {then : ℕ} {new : Slots}
+      → AdmitsEach IsNewSocket hub next slots came later then new → (key : ℕ) (entry : Connection) → slot_at new key ≡ Some entry
       → IsOldOrNew slots key entry
   each_from Nobody key entry e = inl e
-  each_from (OneMore count mid later number then between new each admits) key entry e = elim admits [
+  each_from (OneMore came accepted mid later number then between new each admits) key entry e = elim admits [
     | inl away ↦ each_from each key entry (ap (λ (l : Slots). slot_at l key) (sym away.slots_are) ∙ e)
     | inr within ↦ elim (cases_eq key within.key) [
       | inl at ↦
           let which : within.entry ≡ entry = some_same (sym within.changed ∙ ap (slot_at new) (sym at) ∙ e) in
           inr (
-            subst (λ (k : ℕ). IsNewSocket k entry.session entry.stream) (sym at)
-                (subst (λ (x : Connection). IsNewSocket within.key x.session x.stream) which within.fresh),
+            subst (λ (k : ℕ). IsSomeNew k entry.session entry.stream) (sym at)
+                (subst (λ (x : Connection). IsSomeNew within.key x.session x.stream) which (accepted, within.fresh)),
             λ gone. (let bad : Ready ≡ Gone = sym within.state ∙ ap (λ (x : Connection). x.state) which ∙ gone in cc),
           )
       | inr differs ↦ each_from each key entry (sym (within.others key differs) ∙ e)
@@ -444,9 +449,9 @@ module _ {D : Type 0} {g : Ghosts D} where
 
 -- nothing left over a new connection
 new_tells : {D : Type 0} {g : Ghosts D} {hub : Hub D g} (served : Served hub) (slots : Slots) → SocketsTell → HaveTheirBytes (present_state served) slots
-    → (key : ℕ) (entry : Connection) → slot_at slots key ≡ Some entry → IsNewSocket key entry.session entry.stream → entry.state ≢ Gone
+    → (key : ℕ) (entry : Connection) → slot_at slots key ≡ Some entry → IsSomeNew key entry.session entry.stream → entry.state ≢ Gone
     → Tells served (is_gone entry.state) entry.session (through entry.stream)
-new_tells served slots t has key entry e fresh alive =
+new_tells served slots t has key entry e (accepted, fresh) alive =
     let none : (through entry.stream).departed ≡ [] = ap (λ (x : Socket). (traffic_of x).departed) fresh.2.inner_is ∙ fresh.1.departed t in
     record {
       number = ap (λ (x : Socket). session_of x) fresh.2.inner_is ∙ fresh.1.counts.5;
@@ -458,8 +463,8 @@ new_tells served slots t has key entry e fresh alive =
       requested = λ is. absurd (alive (gone_at entry.state is));
     }
 
-module _ {D : Type 0} {g : Ghosts D} (hub later : Hub D g) (next then count refused counted : ℕ) (slots new : Slots) (lingerers : List Lingerer)
-    (holds : TableStands hub next slots) (come : ComeEach IsNewSocket hub next slots refused count later then new counted) where
+module _ {D : Type 0} {g : Ghosts D} (hub later : Hub D g) (next then : ℕ) (came : List AcceptedSocket) (refused counted : ℕ) (slots new : Slots)
+    (lingerers : List Lingerer) (holds : TableStands hub next slots) (come : ComeEach IsNewSocket hub next slots refused came later then new counted) where
   accepts_on : Serving hub slots lingerers → Serving later new lingerers
   accepts_on s =
       let h = present_state s.served in

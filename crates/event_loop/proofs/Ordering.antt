@@ -13,6 +13,7 @@ use Rattle.model.proofs.Lookups.{some_same}
 use Rattle.sector.specs.declared.device.Sectors.{Ghosts}
 use Rattle.sessions.specs.StandsFor.{device}
 use Rattle.sessions.specs.declared.hub.Hub.{Hub}
+use Rattle.socket_calls.specs.declared.counted.AcceptedSocket.{AcceptedSocket}
 use Rattle.stream_driver.proofs.States.{seen_after}
 use Rattle.stream_driver.specs.Buffers.{has_had_share, is_settled, traffic_through}
 use Rattle.stream_driver.specs.Entries.{DrivenAll, KeepSessions, DrivenIn, DrivenSlot, is_gone, is_over, state_at_end}
@@ -83,24 +84,24 @@ module _ {T : Type 0} where
   pub places_after : (old new : Slots T) → KeepSessions old new → HavePlaces old → HavePlaces new
   places_after old new keep places key entry e = let b = keep key entry e in places key b.0 b.1
 
-  module _ {D : Type 0} {g : Ghosts D} {IsNew : ℕ → ℕ → T → Type 0} {hub : Hub D g} {next : ℕ} {slots : Slots T} where
-    pub each_placed : {count : ℕ} {later : Hub D g} {then : ℕ} {new : Slots T} → AdmitsEach IsNew hub next slots count later then new → HavePlaces slots
-        → HavePlaces new
+  module _ {D : Type 0} {g : Ghosts D} {IsNew : AcceptedSocket → ℕ → ℕ → T → Type 0} {hub : Hub D g} {next : ℕ} {slots : Slots T} where
+    pub each_placed : {came : List AcceptedSocket} {later : Hub D g} {then : ℕ} {new : Slots T} → AdmitsEach IsNew hub next slots came later then new
+        → HavePlaces slots → HavePlaces new
     each_placed Nobody places key entry e = places key entry e
-    each_placed (OneMore count mid later number then between new each (inl away)) places key entry e =
+    each_placed (OneMore came accepted mid later number then between new each (inl away)) places key entry e =
         each_placed each places key entry (ap (λ l. slot_at l key) (sym away.slots_are) ∙ e)
-    each_placed (OneMore count mid later number then between new each (inr l)) places key entry e = elim (cases_eq key l.key) [
+    each_placed (OneMore came accepted mid later number then between new each (inr l)) places key entry e = elim (cases_eq key l.key) [
       | inl same ↦ subst (λ k. k < 128) (sym same) l.key_is
       | inr differs ↦ each_placed each places key entry (sym (l.others key differs) ∙ e)
     ]
 
     -- who is there stays as connections come
-    pub each_stays : {count : ℕ} {later : Hub D g} {then : ℕ} {new : Slots T} → AdmitsEach IsNew hub next slots count later then new
+    pub each_stays : {came : List AcceptedSocket} {later : Hub D g} {then : ℕ} {new : Slots T} → AdmitsEach IsNew hub next slots came later then new
         → (key : ℕ) (entry : Entry T) → slot_at slots key ≡ Some entry → slot_at new key ≡ Some entry
     each_stays Nobody key entry e = e
-    each_stays (OneMore count mid later number then between new each (inl away)) key entry e =
+    each_stays (OneMore came accepted mid later number then between new each (inl away)) key entry e =
         ap (λ l. slot_at l key) away.slots_are ∙ each_stays each key entry e
-    each_stays (OneMore count mid later number then between new each (inr l)) key entry e =
+    each_stays (OneMore came accepted mid later number then between new each (inr l)) key entry e =
         let there = each_stays each key entry e in
         l.others key (λ same. absurd (let bad : None ≡ Some entry = sym l.vacant ∙ ap (slot_at between) (sym same) ∙ there in cc)) ∙ there
 

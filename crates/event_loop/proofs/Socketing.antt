@@ -1,11 +1,11 @@
 -- One call of a socket, under the premise that sockets tell the bytes that they move.
-use Rattle.std.proofs.Common.{◌≡◌, ◌≢◌, inl, inr, ℕ, ◌-◌, ◌^◌, List, [], ◌∷◌, ◌++◌, map, take, refl, Option, Some}
-use Rattle.std.proofs.Common.{None, Result, Ok, Err, IfOk, IfSome, IsErr, OnOk, sym, ap, subst, ◌∙◌, arith}
+use Rattle.std.proofs.Common.{◌≡◌, ◌≢◌, inl, inr, ℕ, ◌-◌, ◌^◌, List, [], ◌∷◌, ◌++◌, map, take, refl}
+use Rattle.std.proofs.Common.{Result, Ok, Err, IsErr, MatchResult, sym, ap, subst, ◌∙◌, arith}
 use Rattle.std.proofs.lemmas.Bool.{cases_eq}
 use Rattle.std.proofs.lemmas.List.{append-nil, map-append}
-use Rattle.std.specs.Result.{result_ok}
 use Rattle.socket_calls.specs.HappenedCalls.{WasReceived, WasSent}
-use Rattle.socket_calls.specs.OpenFacts.{departed, bytes_received, latest, moved, next, bytes_sent}
+use Rattle.socket_calls.specs.OpenFacts.{IsOf, departed, bytes_received, latest, moved, next, bytes_sent}
+use Rattle.socket_calls.specs.declared.counted.AcceptedSocket.{AcceptedSocket}
 use Rattle.socket_calls.specs.declared.counted.CountedSocket.{CountedSocket}
 use Rattle.stream_driver.proofs.Buffering.{none_departed}
 use Rattle.stream_driver.specs.Buffers.{IsNew}
@@ -13,7 +13,10 @@ use Rattle.stream_driver.specs.Traffic.{DepartAt, IsUncalled, Traffic, bytes_rea
 use Rattle.stream_driver.specs.declared.answers.ReadAnswer.{ReadAnswer}
 use Rattle.stream_driver.specs.declared.answers.WriteAnswer.{WriteAnswer}
 use Rattle.stream_driver.specs.declared.buffered.BufferedStream.{BufferedStream}
-use Rattle.event_loop.specs.Sockets.{HasItsOptions, HasItsPlace, IsNewSocket, SocketsTell, departure_of, traffic_of}
+use Rattle.event_loop.specs.Sockets.{IsNewSocket, IsSetUp, SocketsTell, departure_of, traffic_of}
+use Rattle.event_loop.specs.Tables.{IsFromOutside}
+use Rattle.event_loop.specs.declared.connections.Refusal.{Refusal}
+use Rattle.event_loop.specs.declared.connections.Refusal.TheVariants.{Room}
 use Rattle.event_loop.specs.declared.socket.Socket.{Socket}
 
 latest-append : (none : List ℕ) (ds : List (List ℕ × ℕ)) (d : List ℕ × ℕ) → latest none (ds ++ d ∷ []) ≡ d.0
@@ -81,15 +84,9 @@ module _ {E : Type 0} (old mid new : CountedSocket) (bytes : List ℕ) (outcome 
         ++ take (bytes_written answer) bytes
     sent_written answer count tells = all_sent tells ∙ ap (λ n. bytes_sent old ++ take n bytes) (sym count)
 
--- a stream that was made for a new connection
-pub prepared : {E : Type 0} (key session : ℕ) (inner : Socket) (made : Result (BufferedStream Socket) E) (result : Option (BufferedStream Socket))
-    → result ≡ result_ok made → IfOk made (λ b. IsNew inner b) → IsUncalled SocketsTell session (traffic_of inner)
-    → HasItsOptions inner.socket → HasItsPlace key inner.socket → IfSome result (IsNewSocket key session)
-prepared key session inner (Ok b) result is new uncalled has placed =
-    subst (λ o. IfSome o (IsNewSocket key session)) (sym is) (inner, uncalled, new, has, placed)
-prepared key session inner (Err e) result is new uncalled has placed = subst (λ o. IfSome o (IsNewSocket key session)) (sym is) tt
-
--- a call agreed
-pub agreed : {A E : Type 0} (answer : Result A E) (a : A) (P : Type 0) → Some a ≡ result_ok answer → OnOk answer P → P
-agreed (Ok x) a P is agrees = agrees
-agreed (Err e) a P is agrees = absurd (let bad : Some a ≡ None = is in cc)
+-- a stream was made for a new connection, or memory was refused for it
+pub prepared : (accepted : AcceptedSocket) (key session : ℕ) (inner : Socket) (made : Result (BufferedStream Socket) Refusal)
+    → MatchResult made (IsNew inner) (λ refusal. refusal ≡ Room) → IsUncalled SocketsTell session (traffic_of inner)
+    → IsSetUp (record { 0 = key }) inner.socket → IsOf accepted inner.socket → MatchResult made (IsNewSocket accepted key session) IsFromOutside
+prepared accepted key session inner (Ok stream) new uncalled ready is = (inner, uncalled, new, ready.options, ready.place, is)
+prepared accepted key session inner (Err refusal) room uncalled ready is = subst IsFromOutside (sym room) tt

@@ -1,8 +1,10 @@
 -- The table keeps a session of its own for each entry, under a number that is below the next, as a connection comes too; and what leads a hub on as they come.
 use Rattle.std.proofs.Common.{◌≡◌, ◌≢◌, ◌⊎◌, inl, inr, ℕ, ◌+◌, ◌<◌, get_or, sym, ap, subst, ◌∙◌, arith, Some, None}
-use Rattle.std.proofs.Common.{◌≤◌, ◌-◌, ◌^◌, min, max, Bool, false, cond, [], ◌∷◌, ◌++◌, count_by, is_some, refl}
+use Rattle.std.proofs.Common.{◌≤◌, ◌-◌, ◌^◌, min, max, List, [], ◌∷◌, ◌++◌, refl, Result, Ok, Err, IfOk}
 use Rattle.std.proofs.Math.Logic.{∥∥₁_elim}
 use Rattle.std.proofs.lemmas.Bool.{cases_eq}
+use Rattle.std.specs.declared.io.Error.{Error}
+use Rattle.std.specs.declared.net.SocketAddr.{SocketAddr}
 use Rattle.slab.specs.Slab.{Slab, Updates}
 use denote.Struct.Props.{props}
 use Rattle.model.proofs.Lookups.{some_same}
@@ -16,7 +18,9 @@ use Rattle.sessions.specs.declared.events.Outcome.{Outcome}
 use Rattle.sessions.specs.declared.events.Outcome.TheVariants.{Done}
 use Rattle.sessions.specs.declared.events.Status.TheVariants.{Absent, Open}
 use Rattle.sessions.specs.declared.hub.Hub.{Hub}
+use Rattle.socket_calls.specs.HappenedCalls.{WasAccepted}
 use Rattle.socket_calls.specs.declared.counted.AcceptedSocket.{AcceptedSocket}
+use Rattle.socket_calls.specs.declared.listening.ListeningSocket.{ListeningSocket}
 use Rattle.stream_driver.proofs.Carry.{adds_then}
 use Rattle.stream_driver.proofs.Events.{adds_none}
 use Rattle.stream_driver.proofs.States.{Follow, leads_event, leads_none, leads_then}
@@ -27,11 +31,15 @@ use Rattle.stream_driver.specs.declared.entries.Entry.{Entry}
 use Rattle.stream_driver.specs.declared.entries.EntryState.TheVariants.{Ready, Gone}
 use Rattle.event_loop.proofs.Present.{joins_other, joins_same, joins_not}
 use Rattle.event_loop.proofs.Slots.{Slots}
-use Rattle.event_loop.specs.Accepts.{Accepts, after_accept, after_accepted, more}
+use Rattle.event_loop.specs.Accepts.{Accepts, IsGiven, after_accept, after_accepted, more}
 use Rattle.event_loop.specs.Numbers.{AreBelow}
-use Rattle.event_loop.specs.Tables.{Admits, LetsIn, IsTried, IsWithoutEntry, slot_at, ComeEach, Comes}
-use Rattle.event_loop.specs.Tables.{TableStands, join_of, joins_of, refusals_in, refusals_of}
+use Rattle.event_loop.specs.Outcomes.{AcceptsAs}
+use Rattle.event_loop.specs.Tables.{Admits, LetsIn, IsCause, IsFromOutside, IsTried, IsWithoutEntry, slot_at}
+use Rattle.event_loop.specs.Tables.{ComeEach, Comes, ComesAs, TableStands}
+use Rattle.event_loop.specs.Tables.{join_of, joins_of, refusals_as, refusals_in, refusals_of}
 use Rattle.event_loop.specs.Tables.AdmitsEach.{Nobody, OneMore}
+use Rattle.event_loop.specs.declared.connections.Refusal.{Refusal}
+use Rattle.event_loop.specs.declared.connections.Refusal.TheVariants.{Full, Numbers, Room, Session, System}
 use Rattle.event_loop.specs.declared.listener.AcceptAnswer.{AcceptAnswer}
 use Rattle.event_loop.specs.declared.listener.AcceptAnswer.TheVariants.{Accepted, Blocked, Failed}
 
@@ -203,39 +211,62 @@ pub leads_one : {D : Type 0} {g : Ghosts D} (old new : Hub D g) (e : HubEvent) (
 leads_one old new e outcome q alone counted =
     leads_event old new _ e outcome q alone counted (λ h stands happens is after. record { run_is = refl; events_are = refl })
 
-module _ {T D : Type 0} {g : Ghosts D} (IsNew : ℕ → ℕ → T → Type 0) (hub : Hub D g) (next : ℕ) (slots : Slots T) (refused : ℕ) where
-  pub none_come : NoneRuns hub → ComeEach IsNew hub next slots refused 0 hub next slots refused
+module _ {T D : Type 0} {g : Ghosts D} (IsNew : AcceptedSocket → ℕ → ℕ → T → Type 0) (hub : Hub D g) (next : ℕ) (slots : Slots T) (refused : ℕ) where
+  pub none_come : NoneRuns hub → ComeEach IsNew hub next slots refused [] hub next slots refused
   none_come none = (Nobody, leads_none hub none _ (λ h stands. adds_none h), more_none refused)
 
-  pub one_comes : Follow D g → (count : ℕ) (mid later : Hub D g) (number then : ℕ) (between new : Slots T) (so_far counted : ℕ)
-      → ComeEach IsNew hub next slots refused count mid number between so_far
-      → Comes IsNew mid number between so_far later then new counted → ComeEach IsNew hub next slots refused (count + 1) later then new counted
-  one_comes follow count mid later number then between new so_far counted each comes = (
-    OneMore count mid later number then between new each.0 comes.0,
-    leads_then follow hub mid later _ _ (λ h k. Adds h (joins_of each.0 ++ join_of IsNew mid number between later then new comes.0) k) each.1 comes.1
-        (λ h k l last p q. adds_then h k l (joins_of each.0) (join_of IsNew mid number between later then new comes.0) p q),
-    comes.2 ∙ ap (more (refusals_in IsNew mid number between later then new comes.0)) each.2
-        ∙ more_more (refusals_of each.0) (refusals_in IsNew mid number between later then new comes.0) refused,
+  pub one_comes : Follow D g → (came : List AcceptedSocket) (accepted : AcceptedSocket) (mid later : Hub D g) (number then : ℕ) (between new : Slots T)
+      (so_far counted : ℕ)
+      → ComeEach IsNew hub next slots refused came mid number between so_far
+      → Comes (IsNew accepted) mid number between so_far later then new counted
+      → ComeEach IsNew hub next slots refused (came ++ accepted ∷ []) later then new counted
+  one_comes follow came accepted mid later number then between new so_far counted each comes = (
+    OneMore came accepted mid later number then between new each.0 comes.0,
+    leads_then follow hub mid later _ _ (λ h k. Adds h (joins_of each.0 ++ join_of (IsNew accepted) mid number between later then new comes.0) k) each.1
+        comes.1
+        (λ h k l last p q. adds_then h k l (joins_of each.0) (join_of (IsNew accepted) mid number between later then new comes.0) p q),
+    comes.2 ∙ ap (more (refusals_in (IsNew accepted) mid number between later then new comes.0)) each.2
+        ∙ more_more (refusals_of each.0) (refusals_in (IsNew accepted) mid number between later then new comes.0) refused,
   )
 
 -- ---- one that comes
 
-module _ {T D : Type 0} {g : Ghosts D} (IsNew : ℕ → ℕ → T → Type 0) (hub : Hub D g) (next : ℕ) (slots new : Slots T) (same : new ≡ slots) (refused : ℕ) where
+module _ {T D : Type 0} {g : Ghosts D} (IsNew : ℕ → ℕ → T → Type 0) (hub : Hub D g) (next : ℕ) (slots new : Slots T) (same : new ≡ slots) where
   -- it is turned away before its session is to join
-  pub away : NoneRuns hub → (is_refused : Bool) → (is_refused ≡ false → (128 ≤ count_by is_some slots) ⊎ ((next ≡ 2 ^ 64 - 1) ⊎ IsTried hub hub next))
-      → Comes IsNew hub next slots refused hub next new (more (cond is_refused 1 0) refused)
-  away none is_refused why = (
-    inl (record { slots_are = same; next_is = refl; hub_is = inl refl; is_refused = is_refused; why = why }),
-    leads_none hub none _ (λ h stands. adds_none h),
+  pub away : NoneRuns hub → (cause : Refusal) → IsCause hub next slots hub cause → ComesAs IsNew hub next slots (Err cause) hub next new
+  away none cause why = (
+    inl (record { slots_are = same; next_is = refl; hub_is = inl refl; cause = cause; why = why }),
     refl,
+    leads_none hub none _ (λ h stands. adds_none h),
   )
+
+  -- so for memory, or by the system
+  pub away_outside : NoneRuns hub → (cause : Refusal) → IsFromOutside cause → ComesAs IsNew hub next slots (Err cause) hub next new
+  away_outside none Room why = away none Room why
+  away_outside none System why = away none System why
+  away_outside none Numbers why = elim why [ ]
+  away_outside none Full why = elim why [ ]
+  away_outside none Session why = elim why [ ]
 
   -- its session could not join
   pub away_tried : (later : Hub D g) (outcome : Outcome) → outcome ≢ Done → HubLeads hub later (Joins next) outcome → RunsAlone hub later (Joins next)
       → failures hub ≤ failures later
-      → Comes IsNew hub next slots refused later next new refused
+      → ComesAs IsNew hub next slots (Err Session) later next new
   away_tried later outcome differs q alone counted = (
-    inl (record { slots_are = same; next_is = refl; hub_is = inr (outcome, differs, q); is_refused = false; why = λ is. inr (inr (outcome, differs, q)) }),
+    inl (record { slots_are = same; next_is = refl; hub_is = inr (outcome, differs, q); cause = Session; why = (outcome, differs, q) }),
+    refl,
     leads_one hub later (Joins next) outcome q alone counted,
-    more_none refused,
   )
+
+-- it came, and was counted
+pub come_counted : {T D : Type 0} {g : Ghosts D} (IsNew : ℕ → ℕ → T → Type 0) (hub later : Hub D g) (next then refused counted : ℕ) (slots new : Slots T)
+    (answer : Result (Unit {0}) Refusal) → ComesAs IsNew hub next slots answer later then new → counted ≡ more (refusals_as answer) refused
+    → Comes IsNew hub next slots refused later then new counted
+come_counted IsNew hub later next then refused counted slots new answer comes is = (comes.0, comes.2, is ∙ ap (λ a. more (refusals_as a) refused) comes.1)
+
+-- a connection that an accept gave is the one that the system gave
+pub given : (listener : ListeningSocket) (outcome : Result (AcceptedSocket × SocketAddr) Error) (answer : AcceptAnswer) → AcceptsAs outcome answer
+    → IfOk outcome (λ g. WasAccepted listener g.0) → IsGiven listener answer
+given listener (Ok accepted) answer is gave = subst (IsGiven listener) (sym is) gave
+given listener (Err error) answer (inl (kind, is)) gave = subst (IsGiven listener) (sym is) tt
+given listener (Err error) answer (inr (kind, is)) gave = subst (IsGiven listener) (sym is) tt

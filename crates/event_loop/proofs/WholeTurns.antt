@@ -17,6 +17,7 @@ use Rattle.sessions.specs.StandsFor.{StandsFor, HubLeads}
 use Rattle.sessions.specs.declared.events.Outcome.{Outcome}
 use Rattle.sessions.specs.declared.events.Outcome.TheVariants.{Done}
 use Rattle.sessions.specs.declared.hub.Hub.{Hub}
+use Rattle.socket_calls.specs.declared.counted.AcceptedSocket.{AcceptedSocket}
 use Rattle.stream_driver.proofs.Carry.{run_then}
 use Rattle.stream_driver.proofs.Events.{test, adds_none}
 use Rattle.stream_driver.proofs.States.{Follow, leads_map, leads_two_at, leads_then}
@@ -79,27 +80,31 @@ module _ {T D : Type 0} {g : Ghosts D} (tells : Type 0) (traffic : T → Traffic
         tried_bytes away.hub_is in (r.0, subst (λ l. HaveBytes tells traffic (run h (join_tried hub later next away.hub_is)) l) (sym away.slots_are) r.1)
     come_bytes (inr within) = ((reached hub later (Joins next) Done within.joined h stands).stands, in_bytes within)
 
-  -- and more of them
-  pub each_bytes : {hub : Hub D g} {next : ℕ} {slots : Slots T} {count : ℕ} {later : Hub D g} {then : ℕ} {new : Slots T}
-      (each : AdmitsEach IsNew hub next slots count later then new) (h : HubState)
+-- and more of them
+module _ {T D : Type 0} {g : Ghosts D} (tells : Type 0) (traffic : T → Traffic) (IsNew : AcceptedSocket → ℕ → ℕ → T → Type 0)
+    (begins : (accepted : AcceptedSocket) (key s : ℕ) (stream : T) → IsNew accepted key s stream → tells
+    → ((traffic stream).received ≡ []) × ((traffic stream).sent ≡ [])) where
+  pub each_bytes : {hub : Hub D g} {next : ℕ} {slots : Slots T} {came : List AcceptedSocket} {later : Hub D g} {then : ℕ} {new : Slots T}
+      (each : AdmitsEach IsNew hub next slots came later then new) (h : HubState)
       → StandsFor hub h → TableStands hub next slots → HaveBytes tells traffic h slots
       → StandsFor later (run h (joins_of each)) × TableStands later then new × HaveBytes tells traffic (run h (joins_of each)) new
   each_bytes Nobody h stands holds has = (stands, holds, has)
-  each_bytes (OneMore count mid later number then between new each admits) h stands holds has =
+  each_bytes (OneMore came accepted mid later number then between new each admits) h stands holds has =
       let before = each_bytes each h stands holds has in
-      let now = come_bytes mid later number then between new (run h (joins_of each)) before.0 before.1.numbers before.2 admits in
-      let joined = run_then h (joins_of each) (join_of IsNew mid number between later then new admits) in (
+      let now = come_bytes tells traffic (IsNew accepted) (begins accepted) mid later number then between new (run h (joins_of each)) before.0 before.1.numbers
+      before.2 admits in
+      let joined = run_then h (joins_of each) (join_of (IsNew accepted) mid number between later then new admits) in (
         subst (λ (x : HubState). StandsFor later x) (sym joined) now.0,
-        admits_table mid later number then between new IsNew admits before.1,
+        admits_table mid later number then between new (IsNew accepted) admits before.1,
         subst (λ (x : HubState). HaveBytes tells traffic x new) (sym joined) now.1,
       )
 
 -- ---- sockets
 
 -- nothing has moved through a new connection
-pub new_begins : (key s : ℕ) (b : BufferedStream Socket) → IsNewSocket key s b → SocketsTell
+pub new_begins : (accepted : AcceptedSocket) (key s : ℕ) (b : BufferedStream Socket) → IsNewSocket accepted key s b → SocketsTell
     → ((traffic_through traffic_of b).received ≡ []) × ((traffic_through traffic_of b).sent ≡ [])
-new_begins key s b n t = (
+new_begins accepted key s b n t = (
   ap (λ (s : Socket). (traffic_of s).received) n.2.inner_is ∙ n.1.received t,
   ap (λ l. (traffic_of b.inner).sent ++ l) n.2.nothing ∙ append-nil (traffic_of b.inner).sent ∙ ap (λ (s : Socket). (traffic_of s).sent) n.2.inner_is
       ∙ n.1.sent t,

@@ -1,10 +1,15 @@
 -- What a listener has answered so far, and what a turn's accepts come to.
-use Rattle.std.specs.Prelude.{◌≡◌, ℕ, ◌+◌, ◌<◌, ◌-◌, ◌^◌, min, max}
+use Rattle.std.specs.Prelude.{◌≡◌, ℕ, ◌+◌, ◌<◌, ◌-◌, ◌^◌, min, max, List, [], ◌∷◌, ◌++◌, length}
+use Rattle.socket_calls.specs.HappenedCalls.{WasAccepted}
+use Rattle.socket_calls.specs.OpenFacts.{asked_once}
+use Rattle.socket_calls.specs.declared.counted.AcceptedSocket.{AcceptedSocket}
+use Rattle.socket_calls.specs.declared.listening.ListeningSocket.{ListeningSocket}
 use Rattle.stream_driver.specs.Traffic.{one_more}
 use Rattle.event_loop.specs.declared.connections.Backlog.{Backlog}
 use Rattle.event_loop.specs.declared.connections.Backlog.TheVariants.{Empty, More, Failed as BacklogFailed}
 use Rattle.event_loop.specs.declared.listener.AcceptAnswer.{AcceptAnswer}
 use Rattle.event_loop.specs.declared.listener.AcceptAnswer.TheVariants.{Accepted, Blocked, Failed}
+use Rattle.event_loop.specs.declared.listener.Port.{Port}
 
 -- how often it was asked, and how often each answer was given
 pub record Accepts : Type 0 where
@@ -34,9 +39,37 @@ WhyStopped n old new More = (n ≡ 128) × (new ≡ after_accepted n old)
 WhyStopped n old new Empty = (n < 128) × (new ≡ after_accept Blocked (after_accepted n old))
 WhyStopped n old new BacklogFailed = (n < 128) × (new ≡ after_accept Failed (after_accepted n old))
 
--- the accepts of a turn: what became of the connections that were accepted is said of their number
-pub record TurnAccepts (Became : ℕ → Type 0) (old : Accepts) (backlog : Backlog) (new : Accepts) : Type 0 where
-  -- so many connections were accepted
-  pub accepted : ℕ
-  pub why : WhyStopped accepted old new backlog
-  pub became : Became accepted
+-- the answer gives no connection but the one that the system gave
+abbrev pub IsGiven : ListeningSocket → AcceptAnswer → Type 0
+IsGiven listener (Accepted accepted) = WasAccepted listener accepted
+IsGiven listener Blocked = Unit {0}
+IsGiven listener Failed = Unit {0}
+
+-- a listening socket was asked once; a connection that came is the one that the system gave
+pub record AsksOnce (old : Port) (answer : AcceptAnswer) (new : Port) : Type 0 where
+  pub once : new.listener ≡ asked_once old.listener
+  pub gave : IsGiven old.listener answer
+
+-- accepts of a listener, one after another, which gave these connections in this order
+pub data GivesEach {L : Type 0} (answers : L → AcceptAnswer → L → Type 0) (first : L) : List AcceptedSocket → L → Type 0
+  where
+    NoneCame : GivesEach answers first [] first
+    OneCame : (came : List AcceptedSocket) (accepted : AcceptedSocket) (before after : L)
+        → GivesEach answers first came before → answers before (Accepted accepted) after
+        → GivesEach answers first (came ++ accepted ∷ []) after
+
+-- what was asked of it then: nothing where as many came as a turn accepts, else an accept that gave none
+abbrev pub EndsAsking : {L : Type 0} → (L → AcceptAnswer → L → Type 0) → Backlog → L → L → Type 0
+EndsAsking answers More before last = last ≡ before
+EndsAsking answers Empty before last = answers before Blocked last
+EndsAsking answers BacklogFailed before last = answers before Failed last
+
+-- the accepts of a turn: what became of the connections that came is said of these, in the order of the accepts
+pub record TurnAccepts {L : Type 0} (answers : L → AcceptAnswer → L → Type 0) (counts : L → Accepts)
+    (Became : List AcceptedSocket → Type 0) (first : L) (backlog : Backlog) (last : L) : Type 0 where
+  pub came : List AcceptedSocket
+  pub before : L
+  pub gave : GivesEach answers first came before
+  pub ended : EndsAsking answers backlog before last
+  pub why : WhyStopped (length came) (counts first) (counts last) backlog
+  pub became : Became came

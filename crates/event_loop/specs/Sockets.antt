@@ -6,7 +6,8 @@ use Rattle.mio.specs.declared.interest.Interest.{Interest}
 use Rattle.mio.specs.declared.token.Token.{Token}
 use Rattle.socket_calls.specs.HappenedCalls.{AsksWhetherThere, EndedWriting, SendsAtOnce, WasAnswered}
 use Rattle.socket_calls.specs.HappenedCalls.{WasReceived, WasRegistered, WasReregistered, WasSent}
-use Rattle.socket_calls.specs.OpenFacts.{departed, bytes_received, bytes_sent, next}
+use Rattle.socket_calls.specs.OpenFacts.{IsOf, departed, bytes_received, bytes_sent, next}
+use Rattle.socket_calls.specs.declared.counted.AcceptedSocket.{AcceptedSocket}
 use Rattle.socket_calls.specs.declared.counted.CountedSocket.{CountedSocket}
 use Rattle.stream_driver.specs.Buffers.{IsNew}
 use Rattle.stream_driver.specs.Counts.{counted_with}
@@ -52,12 +53,17 @@ all_interests = record { priority = true; writable = true; readable = true }
 abbrev pub HasItsPlace : ℕ → CountedSocket → Type 0
 HasItsPlace key s = WasRegistered s (record { 0 = key }) all_interests
 
--- the stream at this place of the table of a connection for this session, of which no call was made, which buffers
--- nothing, and which has its options
-abbrev pub IsNewSocket : (key session : ℕ) → BufferedStream Socket → Type 0
-IsNewSocket key session b =
+-- It has its options, and the poll reports it under this token.
+pub record IsSetUp (token : Token) (s : CountedSocket) : Type 0 where
+  pub options : HasItsOptions s
+  pub place : WasRegistered s token all_interests
+
+-- the stream at this place of the table of this connection, for this session: no call was made of it, it buffers
+-- nothing, and has its options
+abbrev pub IsNewSocket : AcceptedSocket → (key session : ℕ) → BufferedStream Socket → Type 0
+IsNewSocket accepted key session b =
     (inner : Socket) × IsUncalled SocketsTell session (traffic_of inner) × IsNew inner b × HasItsOptions inner.socket
-    × HasItsPlace key inner.socket
+    × HasItsPlace key inner.socket × IsOf accepted inner.socket
 
 -- what comes in alone
 abbrev pub read_interests : Interest

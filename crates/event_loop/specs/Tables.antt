@@ -2,11 +2,13 @@
 use Rattle.std.proofs.Common.{inl, inr}
 use Rattle.std.specs.List.{list_any}
 use Rattle.std.specs.Prelude.{◌≡◌, ◌≢◌, ◌⊎◌, ℕ, ◌+◌, ◌-◌, ◌^◌, ◌<◌, ◌≤◌, ◌==◌, ◌||◌, Bool, true, false, cond, List}
-use Rattle.std.specs.Prelude.{[], ◌∷◌, ◌++◌, Option, Some, None, count_by, is_some, slice_index_or}
+use Rattle.std.specs.Prelude.{[], ◌∷◌, ◌++◌, Option, Some, None, count_by, is_some, slice_index_or, Result, Ok}
+use Rattle.std.specs.Prelude.{Err}
 use Rattle.mio.specs.Event.{event_token, is_priority, is_read_closed}
 use Rattle.mio.specs.declared.event.event.Event.{Event}
 use Rattle.slab.specs.Slab.{Slab, entries}
 use Rattle.sector.specs.declared.device.Sectors.{Ghosts}
+use Rattle.socket_calls.specs.declared.counted.AcceptedSocket.{AcceptedSocket}
 use Rattle.sessions.specs.SessionStreams.{HubEvent, Joins, Choice}
 use Rattle.sessions.specs.StandsFor.{HubLeads, status_of}
 use Rattle.sessions.specs.declared.events.Outcome.{Outcome}
@@ -22,7 +24,11 @@ use Rattle.stream_driver.specs.declared.entries.EntryState.{EntryState}
 use Rattle.stream_driver.specs.declared.entries.EntryState.TheVariants.{Idle, Ready, Gone}
 use Rattle.event_loop.specs.Accepts.{Accepts, TurnAccepts, more}
 use Rattle.event_loop.specs.Numbers.{AreBelow}
+use Rattle.event_loop.specs.Sockets.{IsRefused}
 use Rattle.event_loop.specs.declared.connections.Backlog.{Backlog}
+use Rattle.event_loop.specs.declared.connections.Refusal.{Refusal}
+use Rattle.event_loop.specs.declared.connections.Refusal.TheVariants.{Full, Numbers, Room, Session, System}
+use Rattle.event_loop.specs.declared.listener.AcceptAnswer.{AcceptAnswer}
 
 -- no session is present, and none has joined
 abbrev pub HasNobody : {D : Type 0} {g : Ghosts D} → Hub D g → Type 0
@@ -43,6 +49,23 @@ abbrev pub readied : EntryState → EntryState
 readied Idle = Ready
 readied Ready = Ready
 readied Gone = Gone
+
+-- memory was refused, of which a call leaves no trace that could be asked for; or the system answered an error
+abbrev pub IsFromOutside : Refusal → Type 0
+IsFromOutside Room = Unit {0}
+IsFromOutside System = IsRefused
+IsFromOutside Numbers = ⊥
+IsFromOutside Full = ⊥
+IsFromOutside Session = ⊥
+
+-- how many refusals are counted: one for memory, or by the system
+abbrev pub refusals_as : Result (Unit {0}) Refusal → ℕ
+refusals_as (Ok done) = 0
+refusals_as (Err Room) = 1
+refusals_as (Err System) = 1
+refusals_as (Err Numbers) = 0
+refusals_as (Err Full) = 0
+refusals_as (Err Session) = 0
 
 module _ {D : Type 0} {g : Ghosts D} where
   -- a session was to join, and the hub refused it
@@ -77,15 +100,23 @@ module _ {T : Type 0} where
       pub numbers : AreBelow next slots
       pub entries : HaveEntries hub slots
 
-    -- A connection that was turned away: the table is as it was, and no session has joined. Memory, registration or an
-    -- option of its socket was refused; or there are 128 entries, or no number is left, or the hub refused its session.
+    -- There is this cause to turn a connection away: no number is left; there are 128 entries; memory was refused, or
+    -- the system answered an error; or the hub refused its session.
+    abbrev pub IsCause : Hub D g → ℕ → List (Option (Entry T)) → Hub D g → Refusal → Type 0
+    IsCause hub next slots later Numbers = next ≡ 2 ^ 64 - 1
+    IsCause hub next slots later Full = 128 ≤ count_by is_some slots
+    IsCause hub next slots later Room = IsFromOutside Room
+    IsCause hub next slots later System = IsFromOutside System
+    IsCause hub next slots later Session = IsTried hub later next
+
+    -- a connection that was turned away, for a cause: the table is as it was, and no session has joined
     pub record TurnsAway (hub : Hub D g) (next : ℕ) (slots : List (Option (Entry T))) (later : Hub D g) (then : ℕ)
         (new : List (Option (Entry T))) : Type 0 where
       pub slots_are : new ≡ slots
       pub next_is : then ≡ next
       pub hub_is : (later ≡ hub) ⊎ IsTried hub later next
-      pub is_refused : Bool
-      pub why : is_refused ≡ false → (128 ≤ count_by is_some slots) ⊎ ((next ≡ 2 ^ 64 - 1) ⊎ IsTried hub later next)
+      pub cause : Refusal
+      pub why : IsCause hub next slots later cause
 
     module _ (IsNew : (key session : ℕ) → T → Type 0) where
       -- a connection that was let in: its session, the next number, has joined, and has an entry of its own that is
@@ -114,11 +145,24 @@ module _ {T : Type 0} where
       join_of hub next slots later then new (inl away) = join_tried hub later next away.hub_is
       join_of hub next slots later then new (inr within) = (Joins next, within.joined.0) ∷ []
 
-      -- how many connections were turned away as memory, registration or an option was refused
+      -- what is answered: why it was turned away, if it was
+      abbrev pub answer_of : (hub : Hub D g) (next : ℕ) (slots : List (Option (Entry T))) (later : Hub D g) (then : ℕ)
+          (new : List (Option (Entry T))) → Admits hub next slots later then new → Result (Unit {0}) Refusal
+      answer_of hub next slots later then new (inl away) = Err away.cause
+      answer_of hub next slots later then new (inr within) = Ok tt
+
+      -- a connection came, with this answer, and nothing else happened to the hub
+      abbrev pub ComesAs : Hub D g → ℕ → List (Option (Entry T)) → Result (Unit {0}) Refusal → Hub D g → ℕ
+          → List (Option (Entry T)) → Type 0
+      ComesAs hub next slots answer later then new =
+          (admits : Admits hub next slots later then new) × (answer ≡ answer_of hub next slots later then new admits)
+          × Leads hub later (λ h k. Adds h (join_of hub next slots later then new admits) k)
+
+      -- how many refusals for memory or by the system there were
       abbrev pub refusals_in : (hub : Hub D g) (next : ℕ) (slots : List (Option (Entry T))) (later : Hub D g) (then : ℕ)
           (new : List (Option (Entry T))) → Admits hub next slots later then new → ℕ
-      refusals_in hub next slots later then new (inl away) = cond away.is_refused 1 0
-      refusals_in hub next slots later then new (inr within) = 0
+      refusals_in hub next slots later then new admits =
+          refusals_as (answer_of hub next slots later then new admits)
 
       -- a connection came, and nothing else happened to the hub; a refusal was counted
       abbrev pub Comes : Hub D g → ℕ → List (Option (Entry T)) → ℕ → Hub D g → ℕ → List (Option (Entry T)) → ℕ → Type 0
@@ -127,46 +171,50 @@ module _ {T : Type 0} where
           × Leads hub later (λ h k. Adds h (join_of hub next slots later then new admits) k)
           × (counted ≡ more (refusals_in hub next slots later then new admits) refused)
 
--- so many connections came one after another, and each was let in or turned away
-pub data AdmitsEach {T D : Type 0} {g : Ghosts D} (IsNew : (key session : ℕ) → T
-    → Type 0) (hub : Hub D g) (next : ℕ) (slots : List (Option (Entry T))) : ℕ → Hub D g → ℕ → List (Option (Entry T))
-    → Type 0 where
-  Nobody : AdmitsEach IsNew hub next slots 0 hub next slots
-  OneMore : (count : ℕ) (mid later : Hub D g) (number then : ℕ) (between new : List (Option (Entry T)))
-      → AdmitsEach IsNew hub next slots count mid number between
-      → Admits IsNew mid number between later then new → AdmitsEach IsNew hub next slots (count + 1) later then new
+-- these connections came one after another, and each was let in or turned away
+pub data AdmitsEach {T D : Type 0} {g : Ghosts D} (IsNew : AcceptedSocket → (key session : ℕ) → T
+    → Type 0) (hub : Hub D g) (next : ℕ) (slots : List (Option (Entry T))) : List AcceptedSocket → Hub D g → ℕ
+    → List (Option (Entry T)) → Type 0 where
+  Nobody : AdmitsEach IsNew hub next slots [] hub next slots
+  OneMore : (came : List AcceptedSocket) (accepted : AcceptedSocket) (mid later : Hub D g) (number then : ℕ)
+      (between new : List (Option (Entry T)))
+      → AdmitsEach IsNew hub next slots came mid number between
+      → Admits (IsNew accepted) mid number between later then new
+      → AdmitsEach IsNew hub next slots (came ++ accepted ∷ []) later then new
 
 module _ {T D : Type 0} {g : Ghosts D} where
   -- what happened to the hub as they came
-  abbrev pub joins_of : {IsNew : (key session : ℕ) → T
-      → Type 0} {hub : Hub D g} {next : ℕ} {slots : List (Option (Entry T))} {count : ℕ} {later : Hub D g} {then : ℕ}
-      {new : List (Option (Entry T))}
-      → AdmitsEach IsNew hub next slots count later then new → List (HubEvent × Choice)
+  abbrev pub joins_of : {IsNew : AcceptedSocket → (key session : ℕ) → T
+      → Type 0} {hub : Hub D g} {next : ℕ} {slots : List (Option (Entry T))} {came : List AcceptedSocket}
+      {later : Hub D g} {then : ℕ} {new : List (Option (Entry T))}
+      → AdmitsEach IsNew hub next slots came later then new → List (HubEvent × Choice)
   joins_of Nobody = []
-  joins_of {IsNew} (OneMore count mid later number then between new each admits) =
-      joins_of each ++ join_of IsNew mid number between later then new admits
+  joins_of {IsNew} (OneMore came accepted mid later number then between new each admits) =
+      joins_of each ++ join_of (IsNew accepted) mid number between later then new admits
 
-  -- how many of them were refused
-  abbrev pub refusals_of : {IsNew : (key session : ℕ) → T
-      → Type 0} {hub : Hub D g} {next : ℕ} {slots : List (Option (Entry T))} {count : ℕ} {later : Hub D g} {then : ℕ}
-      {new : List (Option (Entry T))}
-      → AdmitsEach IsNew hub next slots count later then new → ℕ
+  -- how many of them were refused for memory or by the system
+  abbrev pub refusals_of : {IsNew : AcceptedSocket → (key session : ℕ) → T
+      → Type 0} {hub : Hub D g} {next : ℕ} {slots : List (Option (Entry T))} {came : List AcceptedSocket}
+      {later : Hub D g} {then : ℕ} {new : List (Option (Entry T))}
+      → AdmitsEach IsNew hub next slots came later then new → ℕ
   refusals_of Nobody = 0
-  refusals_of {IsNew} (OneMore count mid later number then between new each admits) =
-      refusals_of each + refusals_in IsNew mid number between later then new admits
+  refusals_of {IsNew} (OneMore came accepted mid later number then between new each admits) =
+      refusals_of each + refusals_in (IsNew accepted) mid number between later then new admits
 
-  -- so many connections came, and nothing else happened to the hub; the refusals were counted
-  abbrev pub ComeEach : (ℕ → ℕ → T → Type 0) → Hub D g → ℕ → List (Option (Entry T)) → ℕ → ℕ → Hub D g → ℕ
-      → List (Option (Entry T)) → ℕ → Type 0
-  ComeEach IsNew hub next slots refused count later then new counted =
-      (each : AdmitsEach IsNew hub next slots count later then new) × Leads hub later (λ h k. Adds h (joins_of each) k)
+  -- these connections came, and nothing else happened to the hub; the refusals were counted
+  abbrev pub ComeEach : (AcceptedSocket → ℕ → ℕ → T → Type 0) → Hub D g → ℕ → List (Option (Entry T)) → ℕ
+      → List AcceptedSocket → Hub D g → ℕ → List (Option (Entry T)) → ℕ → Type 0
+  ComeEach IsNew hub next slots refused came later then new counted =
+      (each : AdmitsEach IsNew hub next slots came later then new) × Leads hub later (λ h k. Adds h (joins_of each) k)
       × (counted ≡ more (refusals_of each) refused)
 
-  -- so it is of the connections that one turn accepts
-  abbrev pub AcceptsInto : (ℕ → ℕ → T → Type 0) → Hub D g → ℕ → List (Option (Entry T)) → ℕ → Accepts → Backlog
-      → Hub D g → ℕ → List (Option (Entry T)) → ℕ → Accepts → Type 0
-  AcceptsInto IsNew hub next slots refused old backlog later then new counted accepts =
-      TurnAccepts (λ n. ComeEach IsNew hub next slots refused n later then new counted) old backlog accepts
+  -- so it is of the connections that one turn accepts of a listener
+  abbrev pub AcceptsInto : {L : Type 0} → (AcceptedSocket → ℕ → ℕ → T → Type 0) → (L → AcceptAnswer → L → Type 0)
+      → (L → Accepts) → Hub D g → ℕ → List (Option (Entry T)) → ℕ → L → Backlog → Hub D g → ℕ
+      → List (Option (Entry T)) → ℕ → L → Type 0
+  AcceptsInto IsNew answers counts hub next slots refused first backlog later then new counted last =
+      TurnAccepts answers counts (λ came. ComeEach IsNew hub next slots refused came later then new counted) first
+      backlog last
 
 module _ {T : Type 0} where
   -- an entry that the poll reported: one that waited is to be driven, and is it to be read until its stream blocks?

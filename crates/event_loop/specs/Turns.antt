@@ -20,7 +20,7 @@ use Rattle.stream_driver.specs.Sessions.{Adds, Leads, Point}
 use Rattle.stream_driver.specs.Traffic.{Traffic}
 use Rattle.stream_driver.specs.declared.buffered.BufferedStream.{BufferedStream}
 use Rattle.stream_driver.specs.declared.entries.Entry.{Entry}
-use Rattle.event_loop.specs.Accepts.{Accepts}
+use Rattle.event_loop.specs.Accepts.{Accepts, AsksOnce}
 use Rattle.event_loop.specs.Leavings.{EndAll, LingerOn}
 use Rattle.event_loop.specs.Lingerings.{lingers_in, unless_failed}
 use Rattle.event_loop.specs.Order.{AreNext, after_turn, behind, is_passed, is_ready_slot}
@@ -91,8 +91,8 @@ pub record IsGivenBack {D : Type 0} {g : Ghosts D} (old new : EventLoop D g) : T
 -- where a turn accepts, each connection that it accepted was let in or turned away, and no other event came to the hub
 abbrev pub Accepted : {D : Type 0} {g : Ghosts D} → Bool → EventLoop D g → EventLoop D g → Type 0
 Accepted true old new =
-    AcceptsInto IsNewSocket old.hub old.next old.table.slots old.refused (answers_of old.port) new.backlog new.hub
-    new.next new.table.slots new.refused (answers_of new.port)
+    AcceptsInto IsNewSocket AsksOnce answers_of old.hub old.next old.table.slots old.refused old.port new.backlog
+    new.hub new.next new.table.slots new.refused new.port
 Accepted false old new = IsUntouched old new
 
 -- what happened to the hub as it accepted

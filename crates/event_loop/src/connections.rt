@@ -1,12 +1,15 @@
 //! The table of connections: which are admitted, which become ready, and which are taken out.
-ghost use Rattle.std.specs.Prelude.{◌≡◌, ◌<◌, ◌||◌, ℕ, IfSome, OnSome};
+ghost use Rattle.std.specs.Prelude.{◌≡◌, ◌<◌, ◌||◌, ℕ, MatchResult, OnOk};
 ghost use Rattle.mio.specs.Event.{is_priority, is_read_closed};
 ghost use Rattle.mio.specs.Events.{items};
 ghost use Rattle.slab.specs.Slab.{HasRoomFor};
+ghost use Rattle.stream_driver.specs.Buffers.{IsNew};
+ghost use Rattle.event_loop.specs.Accepts.{more};
 ghost use Rattle.event_loop.specs.Leavings.{EndAll, EndsAt};
 ghost use Rattle.event_loop.specs.Lingerings.{lingers_in};
 ghost use Rattle.event_loop.specs.Sockets.{IsNewSocket, SocketsTell, traffic_of};
-ghost use Rattle.event_loop.specs.Tables.{AcceptsInto, Comes, EachEnds, TableStands, after_poll, is_any_ready};
+ghost use Rattle.event_loop.specs.Tables.{AcceptsInto, Comes, ComesAs, EachEnds, IsFromOutside, TableStands};
+ghost use Rattle.event_loop.specs.Tables.{after_poll, is_any_ready, refusals_as};
 ghost use Rattle.event_loop.specs.Tables.{is_ready as is_ready_in, slot_at, reported};
 
 use crate::lingering::Lingering;
@@ -126,9 +129,10 @@ pub(crate) fn end_drives<D: Sectors>(
 /// Accepts at most `SESSIONS_MAX` connections of a listener, each under the next number, and says what the listener may still hold: `More`
 /// where it accepted that many, `Empty` where none waits, `Failed` where a call failed.
 ///
-/// Each connection that it accepts is let in with a session that joins, and registered with the poll under its key in the table, or turned
-/// away, and nothing else happens to the hub and the table. One for which there is no place, or that memory or registration is refused for,
-/// is closed, and the refusals are counted. It may grow the table, and takes the memory of the sessions and of their streams.
+/// Each connection that an accept gave, in the order of the accepts, is let in with a session that joins, and registered with the poll
+/// under its key in the table, or turned away, and nothing else happens to the hub and the table. One for which there is no place, or that
+/// is refused for memory or by the system, is closed, and these refusals are counted. It may grow the table, and takes the memory of the
+/// sessions and of their streams.
 pub fn accept_some<D: Sectors, L: Listener>(
     alloc: Global,
     poll: &CountedPoll,
@@ -139,8 +143,8 @@ pub fn accept_some<D: Sectors, L: Listener>(
     table: &mut Slab<Entry<BufferedStream<Socket>>>,
 ) -> Backlog
     requires { TableStands hub.old next.old table.old.slots }
-    ensures accepts { AcceptsInto IsNewSocket hub.old next.old table.old.slots refused.old (L.accepts listener.old) result
-        hub.new next.new table.new.slots refused.new (L.accepts listener.new) }
+    ensures accepts { AcceptsInto IsNewSocket L.answers L.accepts hub.old next.old table.old.slots refused.old listener.old result
+        hub.new next.new table.new.slots refused.new listener.new }
     ensures table { TableStands hub.new next.new table.new.slots }
 {
     hub.law_runs_follow();
@@ -156,47 +160,115 @@ pub fn accept_some<D: Sectors, L: Listener>(
     Backlog::More
 }
 
+/// Why a connection is turned away.
+#[derive(Clone, Copy, PartialEq, Eq, Debug)]
+pub enum Refusal {
+    /// No number is left for its session.
+    Numbers,
+    /// There are as many entries as may be.
+    Full,
+    /// There was no memory for it, or the next place of the table is none that an entry may have.
+    Room,
+    /// The system refused to report it, or to set an option of it.
+    System,
+    /// The hub refused its session.
+    Session,
+}
+
+// A stream of a connection, which buffers nothing. It is refused for memory alone.
+fn buffered(alloc: Global, socket: Socket) -> Result<BufferedStream<Socket>, Refusal>
+    ensures { MatchResult result (IsNew socket) (λ refusal. refusal ≡ Refusal.Room) }
+{
+    match BufferedStream::new(alloc, socket) {
+        Ok(stream) => Ok(stream),
+        Err(_) => Err(Refusal::Room),
+    }
+}
+
 // The stream of a connection under this number, which the poll reports under this key. It wasn't read or written, sends what is written at
-// once, and ends where its peer vanishes. None where memory, registration or a socket's option is refused.
+// once, and ends where its peer vanishes. It is refused for memory, or by the system.
 fn prepare(
     alloc: Global,
     poll: &CountedPoll,
     accepted: AcceptedSocket,
     number: u64,
     key: usize,
-) -> Option<BufferedStream<Socket>>
-    ensures { IfSome result (IsNewSocket key number) }
+) -> Result<BufferedStream<Socket>, Refusal>
+    ensures { MatchResult result (IsNewSocket accepted key number) IsFromOutside }
 {
     let mut socket = Socket::new(accepted, number);
-    socket.register(poll, Token(key)).ok()?;
-    socket.send_at_once().ok()?;
-    socket.ask_whether_there().ok()?;
-    BufferedStream::new(alloc, socket).ok()
+    match socket.set_up(poll, Token(key)) {
+        Ok(()) => buffered(alloc, socket),
+        Err(_) => Err(Refusal::System),
+    }
 }
 
-// A place in the table for the stream of a connection under this number, which the poll reports under the key of that place. None where
-// memory, registration or a socket's option is refused.
+// A place in the table for the stream of a connection under this number, which the poll reports under the key of that place. It is refused
+// for memory, or by the system.
 fn make_place(
     alloc: Global,
     poll: &CountedPoll,
     accepted: AcceptedSocket,
     number: u64,
     table: &mut Slab<Entry<BufferedStream<Socket>>>,
-) -> Option<BufferedStream<Socket>>
-    ensures fresh { IfSome result (IsNewSocket table.new.vacant_key number) }
-    ensures place { OnSome result (HasRoomFor table.new 1 × (table.new.vacant_key < 128)) }
+) -> Result<BufferedStream<Socket>, Refusal>
+    ensures fresh { MatchResult result (IsNewSocket accepted table.new.vacant_key number) IsFromOutside }
+    ensures place { OnOk result (HasRoomFor table.new 1 × (table.new.vacant_key < 128)) }
     ensures slots { table.new.slots ≡ table.old.slots }
 {
     let key = table.vacant_key();
-    if key >= SESSIONS_MAX {
-        return None;
+    if key >= SESSIONS_MAX || table.reserve(1).is_err() {
+        return Err(Refusal::Room);
     }
-    table.reserve(1).ok()?;
     prepare(alloc, poll, accepted, number, key)
 }
 
-// A connection becomes a session. One for which there is no place, or that memory, registration or a socket's option is refused for, is
-// closed.
+// A connection becomes a session, or it is closed, for the cause that is answered.
+fn let_in<D: Sectors>(
+    alloc: Global,
+    poll: &CountedPoll,
+    accepted: AcceptedSocket,
+    hub: &mut Hub<D>,
+    next: &mut u64,
+    table: &mut Slab<Entry<BufferedStream<Socket>>>,
+) -> Result<(), Refusal>
+    ensures { ComesAs (IsNewSocket accepted) hub.old next.old table.old.slots result hub.new next.new table.new.slots }
+{
+    hub.law_runs_follow();
+    let session = *next;
+    if session == u64::MAX {
+        return Err(Refusal::Numbers);
+    }
+    if table.len() >= SESSIONS_MAX {
+        return Err(Refusal::Full);
+    }
+    let stream = match make_place(alloc, poll, accepted, session, table) {
+        Ok(stream) => stream,
+        Err(refusal) => return Err(refusal),
+    };
+    match hub.step(&Event::Joined(session)) {
+        Outcome::Done => {}
+        _ => return Err(Refusal::Session),
+    }
+    *next = session + 1;
+    table.insert_reserved(Entry {
+        session,
+        stream,
+        state: EntryState::Ready,
+    });
+    Ok(())
+}
+
+// Counts a refusal for memory or by the system.
+fn count_refusal(answer: Result<(), Refusal>, refused: &mut u64)
+    ensures { refused.new ≡ more (refusals_as answer) refused.old }
+{
+    if let Err(Refusal::Room | Refusal::System) = answer {
+        *refused = refused.saturating_add(1);
+    }
+}
+
+// A connection comes. It becomes a session, or it is closed; a refusal for memory or by the system is counted.
 fn admit<D: Sectors>(
     alloc: Global,
     poll: &CountedPoll,
@@ -206,25 +278,8 @@ fn admit<D: Sectors>(
     refused: &mut u64,
     table: &mut Slab<Entry<BufferedStream<Socket>>>,
 )
-    ensures { Comes IsNewSocket hub.old next.old table.old.slots refused.old hub.new next.new table.new.slots refused.new }
+    ensures { Comes (IsNewSocket accepted) hub.old next.old table.old.slots refused.old hub.new next.new table.new.slots refused.new }
 {
-    hub.law_runs_follow();
-    let session = *next;
-    if session == u64::MAX || table.len() >= SESSIONS_MAX {
-        return;
-    }
-    let Some(stream) = make_place(alloc, poll, accepted, session, table) else {
-        *refused = refused.saturating_add(1);
-        return;
-    };
-    match hub.step(&Event::Joined(session)) {
-        Outcome::Done => {}
-        _ => return,
-    }
-    *next = session + 1;
-    table.insert_reserved(Entry {
-        session,
-        stream,
-        state: EntryState::Ready,
-    });
+    let answer = let_in(alloc, poll, accepted, hub, next, table);
+    count_refusal(answer, refused);
 }

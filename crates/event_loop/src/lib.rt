@@ -17,7 +17,7 @@ mod server;
 mod socket;
 mod waiting;
 
-pub use connections::{Backlog, accept_some};
+pub use connections::{Backlog, Refusal, accept_some};
 pub use lingering::{Dropped, LINGERING_BYTES, LINGERING_BYTES_A_TURN, LINGERING_MAX, drop_input};
 pub use listener::{AcceptAnswer, Listener, Port};
 pub use listening::Unbound;

@@ -24,17 +24,23 @@ pub enum AcceptAnswer {
 /// How often it was asked is counted, and what it has answered by three counts, one of each answer. A count is a u64: once it stands at
 /// 2^64 - 1 it stays.
 pub trait Listener {
+    ghost use Rattle.std.specs.Prelude.{⊤};
     ghost use Rattle.event_loop.specs.Accepts.{Accepts, after_accept};
+    ghost use Rattle.event_loop.specs.declared.listener.AcceptAnswer.{AcceptAnswer};
 
     /// How often it was asked, and how often each answer was given.
     ghost accepts: { Self → Accepts };
 
+    /// `answers before answer after`: one call of `accept`.
+    ghost answers: { Self → AcceptAnswer → Self → Type 0 } = { λ _ _ _. ⊤ };
+
     /// Accepts the next connection that waits, or answers why none came. Takes no memory.
     fn accept(&mut self) -> AcceptAnswer
-        ensures { accepts self.new ≡ after_accept result (accepts self.old) };
+        ensures counted { accepts self.new ≡ after_accept result (accepts self.old) }
+        ensures answers { answers self.old result self.new };
 }
 
-/// A listening TCP socket. It leaves open which connections it gives.
+/// A listening TCP socket. Each accept is one call of the system, and gives the connection that this gave.
 #[derive(Drop)]
 pub struct Port {
     listener: ListeningSocket,
@@ -76,6 +82,10 @@ impl Port {
 }
 
 impl Listener for Port {
+    ghost use Rattle.event_loop.specs.Accepts.{AsksOnce};
+
+    ghost answers = { AsksOnce };
+
     ghost accepts = { λ p. record { asked = p.listener.accepts; accepted = p.accepted; blocked = p.blocked; failed = p.failed } };
 
     fn accept(&mut self) -> AcceptAnswer {

@@ -34,12 +34,14 @@ impl Socket {
     ghost use Rattle.stream_driver.specs.Traffic.{IsUncalled};
     ghost use Rattle.std.specs.Prelude.{IfErr, OnOk};
     ghost use Rattle.socket_calls.specs.HappenedCalls.{AsksWhetherThere, SendsAtOnce, WasAnswered, WasRegistered};
+    ghost use Rattle.socket_calls.specs.OpenFacts.{IsOf};
     ghost use Rattle.event_loop.specs.Lingerings.{IsInOrder};
-    ghost use Rattle.event_loop.specs.Sockets.{IsHalfClosed, SocketsTell, all_interests, traffic_of};
+    ghost use Rattle.event_loop.specs.Sockets.{IsHalfClosed, IsSetUp, SocketsTell, all_interests, traffic_of};
 
     /// The connection under this number, of which nothing has been counted. Takes no memory.
     pub fn new(accepted: AcceptedSocket, connection: u64) -> Socket
-        ensures { IsUncalled SocketsTell connection (traffic_of result) }
+        ensures uncalled { IsUncalled SocketsTell connection (traffic_of result) }
+        ensures connection { IsOf accepted result.socket }
     {
         Socket {
             socket: CountedSocket::new(accepted, connection),
@@ -51,6 +53,7 @@ impl Socket {
     pub(crate) fn register(&mut self, poll: &CountedPoll, token: Token) -> io::Result<()>
         ensures same { self.new ≡ self.old }
         ensures registered { OnOk result (WasRegistered self.old.socket token all_interests) }
+        ensures error { IfErr result (λ e. WasAnswered e) }
     {
         let interests = Interest::READABLE | Interest::WRITABLE | Interest::PRIORITY;
         self.socket.register(poll, token, interests)
@@ -58,7 +61,8 @@ impl Socket {
 
     /// Has the system send at once what is written. Answers the system's error.
     pub(crate) fn send_at_once(&self) -> io::Result<()>
-        ensures { OnOk result (SendsAtOnce self.now.socket) }
+        ensures sends { OnOk result (SendsAtOnce self.now.socket) }
+        ensures error { IfErr result (λ e. WasAnswered e) }
     {
         self.socket.send_at_once()
     }
@@ -66,7 +70,8 @@ impl Socket {
     /// Has the system ask the peer whether it is still there once it was silent for two minutes, and again each half minute: a peer that
     /// vanished is gone for good at the fourth probe without an answer, four minutes after its last byte. Answers the system's error.
     pub(crate) fn ask_whether_there(&self) -> io::Result<()>
-        ensures { OnOk result (AsksWhetherThere self.now.socket 120 30 4) }
+        ensures asks { OnOk result (AsksWhetherThere self.now.socket 120 30 4) }
+        ensures error { IfErr result (λ e. WasAnswered e) }
     {
         self.socket
             .ask_whether_there(SILENT_SECONDS, SECONDS_BETWEEN_PROBES, PROBES)
@@ -78,6 +83,18 @@ impl Socket {
     {
         let counts = &self.counts;
         counts.read_failed == 0 && counts.read_ended == 0 && counts.write_failed == 0
+    }
+
+    /// Has the poll report it under this token, has the system send at once what is written, and ask a silent peer whether it is still
+    /// there. Answers the system's error, the first that comes.
+    pub(crate) fn set_up(&mut self, poll: &CountedPoll, token: Token) -> io::Result<()>
+        ensures same { self.new ≡ self.old }
+        ensures set_up { OnOk result (IsSetUp token self.old.socket) }
+        ensures error { IfErr result (λ e. WasAnswered e) }
+    {
+        self.register(poll, token)?;
+        self.send_at_once()?;
+        self.ask_whether_there()
     }
 
     /// Shuts the connection down for writing once what was written has gone, and has the poll report under this token what still comes.

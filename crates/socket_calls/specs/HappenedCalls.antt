@@ -7,6 +7,7 @@ use Rattle.std.specs.declared.net.SocketAddr.{SocketAddr}
 use Rattle.std.specs.declared.time.Duration.{Duration}
 use Rattle.mio.specs.declared.interest.Interest.{Interest}
 use Rattle.mio.specs.declared.token.Token.{Token}
+use Rattle.socket_calls.specs.declared.counted.AcceptedSocket.{AcceptedSocket}
 use Rattle.socket_calls.specs.declared.counted.CountedSocket.{CountedSocket}
 use Rattle.socket_calls.specs.declared.listening.ListeningSocket.{ListeningSocket}
 use Rattle.socket_calls.specs.declared.polled.CountedPoll.{CountedPoll}
@@ -52,6 +53,10 @@ WasAskedToWait poll timeout = Unit {0}
 -- it was made to listen at this address
 pub ListensAt : ListeningSocket → SocketAddr → Type 0
 ListensAt listener address = Unit {0}
+
+-- its next accept gave this connection
+pub WasAccepted : ListeningSocket → AcceptedSocket → Type 0
+WasAccepted listener accepted = Unit {0}
 
 -- a poll was asked to report it under this token, for what these interests name, and agreed
 pub TellsOfAccepts : ListeningSocket → Token → Interest → Type 0
@@ -104,6 +109,12 @@ real_wait poll timeout = tt
 pub real_listen : (listener : ListeningSocket) (address : SocketAddr) → ListensAt listener address
 unfolding ListensAt
 real_listen listener address = tt
+
+pub real_accept : (listener : ListeningSocket) (answer : Result (AcceptedSocket × SocketAddr) Error)
+    → IfOk answer (λ given. WasAccepted listener given.0)
+unfolding WasAccepted
+real_accept listener (Ok given) = tt
+real_accept listener (Err error) = tt
 
 pub real_accepts_told : (listener : ListeningSocket) (token : Token) (interests : Interest)
     → TellsOfAccepts listener token interests

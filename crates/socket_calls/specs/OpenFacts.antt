@@ -1,8 +1,10 @@
 -- The facts of a connection as it stands after so many calls: the bytes that came over it and those that went. They are
 -- left open: no definition here but `next`, `moved`, `latest` and `bytes_sent` unfolds, and no lemma is about one, so
 -- that nothing can be shown of them nor refuted.
-use Rattle.std.specs.Prelude.{ℕ, ◌+◌, ◌-◌, ◌^◌, List, [], ◌∷◌, Result, Ok, Err, min}
+use Rattle.std.specs.Prelude.{◌≡◌, ℕ, ◌+◌, ◌-◌, ◌^◌, List, [], ◌∷◌, Result, Ok, Err, max, min}
+use Rattle.socket_calls.specs.declared.counted.AcceptedSocket.{AcceptedSocket}
 use Rattle.socket_calls.specs.declared.counted.CountedSocket.{CountedSocket}
+use Rattle.socket_calls.specs.declared.listening.ListeningSocket.{ListeningSocket}
 
 -- the bytes that were received over it so far
 pub bytes_received : CountedSocket → List ℕ
@@ -29,3 +31,11 @@ next socket = record socket { calls = min (socket.calls + 1) (2 ^ 64 - 1) }
 abbrev pub moved : {E : Type 0} → Result ℕ E → ℕ
 moved (Ok n) = n
 moved (Err error) = 0
+
+-- its connection is the one that was accepted
+abbrev pub IsOf : AcceptedSocket → CountedSocket → Type 0
+IsOf accepted socket = socket.stream ≡ accepted.stream
+
+-- a listener after one accept more was asked of it
+abbrev pub asked_once : ListeningSocket → ListeningSocket
+asked_once listener = record listener { accepts = max listener.accepts (min (listener.accepts + 1) (2 ^ 64 - 1)) }

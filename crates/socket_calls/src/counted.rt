@@ -39,10 +39,11 @@ impl CountedSocket {
     ghost use Rattle.std.specs.Prelude.{IfErr, OnOk};
     ghost use Rattle.socket_calls.specs.HappenedCalls.{AsksWhetherThere, EndedWriting, SendsAtOnce, WasAnswered};
     ghost use Rattle.socket_calls.specs.HappenedCalls.{WasReceived, WasRegistered, WasReregistered, WasSent};
-    ghost use Rattle.socket_calls.specs.OpenFacts.{moved, next};
+    ghost use Rattle.socket_calls.specs.OpenFacts.{IsOf, moved, next};
 
     /// The connection under this number, of which no call was made. Takes no memory.
     pub fn new(accepted: AcceptedSocket, connection: u64) -> CountedSocket
+        ensures stream { IsOf accepted result }
         ensures calls { result.calls ≡ 0 }
         ensures connection { result.connection ≡ connection }
     {
@@ -62,6 +63,7 @@ impl CountedSocket {
     ) -> io::Result<()>
         ensures same { self.new ≡ self.old }
         ensures registered { OnOk result (WasRegistered self.old token interests) }
+        ensures error { IfErr result (λ e. WasAnswered e) }
     {
         poll.registry().register(&mut self.stream, token, interests)
     }
@@ -85,7 +87,8 @@ impl CountedSocket {
     /// Has the system send at once what is written, also where something is still to be acknowledged (TCP_NODELAY). Answers the system's
     /// error. It is no counted call.
     pub fn send_at_once(&self) -> io::Result<()>
-        ensures { OnOk result (SendsAtOnce self.now) }
+        ensures sends { OnOk result (SendsAtOnce self.now) }
+        ensures error { IfErr result (λ e. WasAnswered e) }
     {
         self.stream.set_nodelay(true)
     }
@@ -94,7 +97,8 @@ impl CountedSocket {
     /// many more. Where it answers none of so many probes, the connection ends with an error. Answers the system's error. It is no counted
     /// call.
     pub fn ask_whether_there(&self, silent: u32, between: u32, probes: u32) -> io::Result<()>
-        ensures { OnOk result (AsksWhetherThere self.now silent between probes) }
+        ensures asks { OnOk result (AsksWhetherThere self.now silent between probes) }
+        ensures error { IfErr result (λ e. WasAnswered e) }
     {
         self.set_option(c::IPPROTO_TCP, c::TCP_KEEPIDLE, silent)?;
         self.set_option(c::IPPROTO_TCP, c::TCP_KEEPINTVL, between)?;

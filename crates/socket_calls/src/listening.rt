@@ -1,5 +1,5 @@
 //! A listening socket, with the accepts that were asked of it counted.
-ghost use Rattle.std.specs.Prelude.{◌≡◌, ◌+◌, ◌-◌, ◌^◌, max, min, IfOk, OnOk};
+ghost use Rattle.std.specs.Prelude.{◌≡◌, IfOk, OnOk};
 
 use crate::counted::AcceptedSocket;
 use crate::polled::CountedPoll;
@@ -16,7 +16,8 @@ pub struct ListeningSocket {
 }
 
 impl ListeningSocket {
-    ghost use Rattle.socket_calls.specs.HappenedCalls.{IsAddressOf, ListensAt, TellsOfAccepts};
+    ghost use Rattle.socket_calls.specs.HappenedCalls.{IsAddressOf, ListensAt, TellsOfAccepts, WasAccepted};
+    ghost use Rattle.socket_calls.specs.OpenFacts.{asked_once};
 
     /// Listens at an address. Port 0 stands for one that the system picks. Answers the system's error. Takes no memory.
     pub fn bind<R: Net>(rt: &R, address: SocketAddr) -> io::Result<ListeningSocket>
@@ -46,7 +47,8 @@ impl ListeningSocket {
     /// Takes the next connection that waits, with the address of its peer. Answers the system's error, also where none waits. Takes no
     /// memory.
     pub fn accept(&mut self) -> io::Result<(AcceptedSocket, SocketAddr)>
-        ensures { self.new ≡ record self.old { accepts = max self.old.accepts (min (self.old.accepts + 1) (2 ^ 64 - 1)) } }
+        ensures once { self.new ≡ asked_once self.old }
+        ensures gave { IfOk result (λ given. WasAccepted self.old given.0) }
     {
         self.accepts = self.accepts.saturating_add(1);
         let (stream, address) = self.listener.accept()?;

@@ -6,7 +6,7 @@ use Rattle.event_loop.specs.Lingerings.{Lingerers}
 
 pub invariant_of-self-clause-serving : goal.invariant_of-self-clause-serving
 invariant_of-self-clause-serving g c = closed_serves _ _ _ _ (ap (λ (l : Lingerers). l.all) c.close.ensures) (
-    accepts_serve c.args.self.now.hub c.accept_some-self.new.hub c.args.self.now.next c.accept_some-self.new.next c.accept_some-self.ensures.accepts.accepted
+    accepts_serve c.args.self.now.hub c.accept_some-self.new.hub c.args.self.now.next c.accept_some-self.new.next c.accept_some-self.ensures.accepts.came
     c.args.self.now.refused c.accept_some-self.new.refused
     c.args.self.now.table.slots c.accept_some-self.new.table.slots c.args.self.now.lingering.queue.items
     (record { stands = c.args.self.now.stands; sessions = c.args.self.now.sessions; numbers = c.args.self.now.numbers; entries = c.args.self.now.entries })
@@ -14,7 +14,7 @@ invariant_of-self-clause-serving g c = closed_serves _ _ _ _ (ap (λ (l : Linger
 
 pub invariant_of-self-else-eq-clause-serving : goal.invariant_of-self-else-eq-clause-serving
 invariant_of-self-else-eq-clause-serving g c =
-    accepts_serve c.args.self.now.hub c.accept_some-self.new.hub c.args.self.now.next c.accept_some-self.new.next c.accept_some-self.ensures.accepts.accepted
+    accepts_serve c.args.self.now.hub c.accept_some-self.new.hub c.args.self.now.next c.accept_some-self.new.next c.accept_some-self.ensures.accepts.came
     c.args.self.now.refused c.accept_some-self.new.refused
     c.args.self.now.table.slots c.accept_some-self.new.table.slots c.args.self.now.lingering.queue.items
     (record { stands = c.args.self.now.stands; sessions = c.args.self.now.sessions; numbers = c.args.self.now.numbers; entries = c.args.self.now.entries })

@@ -3,8 +3,8 @@ use Rattle.std.proofs.Common.{ap, [], map}
 use Rattle.socket_calls.specs.OpenFacts.{latest}
 use Rattle.event_loop.specs.Sockets.{departure_of}
 
-pub returns : goal.returns
-returns c = let none = c.new-2.ensures in record {
+pub returns-clause-uncalled : goal.returns-clause-uncalled
+returns-clause-uncalled c = let none = c.new-2.ensures in record {
   received = λ tells. (tells.begins c.new.result c.new.ensures.calls).0;
   sent = λ tells. ap (λ l. latest [] l) (tells.begins c.new.result c.new.ensures.calls).1;
   departed = λ tells. ap (λ l. map departure_of l) (tells.begins c.new.result c.new.ensures.calls).1;
