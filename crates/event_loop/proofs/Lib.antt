@@ -15,3 +15,5 @@ mod Committed
 mod FoundCommits
 mod Departing
 mod AllThatLeft
+mod Peers
+mod Shorts

@@ -31,7 +31,7 @@ why_same : (s : ℕ) (last : HubState) (before after : Traffic) (served : ℕ) (
 why_same s last before after served answer why = grind arith
 
 -- each entry that isn't gone has its own session
-abbrev AreOwn : {T : Type 0} → Slots T → Type 0
+abbrev pub AreOwn : {T : Type 0} → Slots T → Type 0
 AreOwn {T} slots =
     (key other : ℕ) (entry another : Entry T) → slot_at slots key ≡ Some entry → slot_at slots other ≡ Some another → entry.state ≢ EntryGone
     → another.state ≢ EntryGone → entry.session ≡ another.session → key ≡ other
@@ -39,14 +39,14 @@ AreOwn {T} slots =
 module _ {T : Type 0} (tells : Type 0) (traffic : T → Traffic) where
   -- ---- one entry is driven
 
-  same_numbers : (state : EntryState) (earlier : Point) (old : Entry T) (later : Point) (new : Entry T) → DrivenIn tells traffic state earlier old later new
+  pub same_numbers : (state : EntryState) (earlier : Point) (old : Entry T) (later : Point) (new : Entry T) → DrivenIn tells traffic state earlier old later new
       → (new.session ≡ old.session) × ((traffic new.stream).connection ≡ (traffic old.stream).connection)
   same_numbers Ready earlier old later new d =
       (d.session, why_same old.session d.drove.last.hub (traffic old.stream) (traffic new.stream) _ d.answer d.drove.why)
   same_numbers _ earlier old later new d = (ap (λ (x : Entry T). x.session) d.0, ap (λ (x : Entry T). (traffic x.stream).connection) d.0)
 
   -- it was not gone before
-  was_alive : (state : EntryState) (earlier : Point) (old : Entry T) (later : Point) (new : Entry T) → old.state ≡ state
+  pub was_alive : (state : EntryState) (earlier : Point) (old : Entry T) (later : Point) (new : Entry T) → old.state ≡ state
       → DrivenIn tells traffic state earlier old later new → new.state ≢ EntryGone → old.state ≢ EntryGone
   was_alive state earlier old later new is d alive = grind arith
 
@@ -71,7 +71,7 @@ module _ {T : Type 0} (tells : Type 0) (traffic : T → Traffic) where
 
   -- ---- all are driven
 
-  slot_driven : (earlier : Point) (slot : Option (Entry T)) (later : Point) (after : Option (Entry T)) → DrivenSlot tells traffic earlier slot later after
+  pub slot_driven : (earlier : Point) (slot : Option (Entry T)) (later : Point) (after : Option (Entry T)) → DrivenSlot tells traffic earlier slot later after
       → (was entry : Entry T) → slot ≡ Some was → after ≡ Some entry
       → DrivenEntry tells traffic earlier was later entry
   slot_driven earlier None later after d was entry e f = absurd (let bad : None ≡ Some was = e in cc)
@@ -80,10 +80,10 @@ module _ {T : Type 0} (tells : Type 0) (traffic : T → Traffic) where
       (subst (λ (x : Entry T). DrivenEntry tells traffic earlier old later x) (some_same (sym is ∙ f)) d)
 
   -- each entry was driven between some two points
-  abbrev WasDriven : Option (Entry T) → Entry T → Type 0
+  abbrev pub WasDriven : Option (Entry T) → Entry T → Type 0
   WasDriven slot entry = (was : Entry T) × (slot ≡ Some was) × (h : Point) × (k : Point) × DrivenEntry tells traffic h was k entry
 
-  driven_at : (earlier : Point) (slots : Slots T) (later : Point) (new : Slots T) → DrivenAll tells traffic earlier slots later new
+  pub driven_at : (earlier : Point) (slots : Slots T) (later : Point) (new : Slots T) → DrivenAll tells traffic earlier slots later new
       → (key : ℕ) (entry : Entry T) → slot_at new key ≡ Some entry → WasDriven (slot_at slots key) entry
   driven_at earlier [] later new d key entry e = absurd (no_entry new d.0 key entry e)
   driven_at earlier (None ∷ slots) later new (first, mid, others, is, d, rest) zero entry e =
@@ -102,12 +102,13 @@ module _ {T : Type 0} (tells : Type 0) (traffic : T → Traffic) where
       let same = same_numbers w.0.state w.2 w.0 w.3 entry w.4 in
       (w.0, w.1, same.0, same.1)
 
-  slot_other : (earlier : Point) (slot : Option (Entry T)) (later : Point) (new : Option (Entry T)) → DrivenSlot tells traffic earlier slot later new → (s : ℕ)
-      → ((entry : Entry T) → slot ≡ Some entry → entry.state ≢ EntryGone → s ≢ entry.session) → stream_of later.hub s ≡ stream_of earlier.hub s
+  pub slot_other : (earlier : Point) (slot : Option (Entry T)) (later : Point) (new : Option (Entry T)) → DrivenSlot tells traffic earlier slot later new
+      → (s : ℕ) → ((entry : Entry T) → slot ≡ Some entry → entry.state ≢ EntryGone → s ≢ entry.session)
+      → stream_of later.hub s ≡ stream_of earlier.hub s
   slot_other earlier None later new d s apart = ap (λ (p : Point). stream_of p.hub s) d.1
   slot_other earlier (Some old) later new d s apart = entry_other tells traffic old.state earlier old later d.0 refl d.2 s (apart old refl)
 
-  all_other : (earlier : Point) (slots : Slots T) (later : Point) (new : Slots T) → DrivenAll tells traffic earlier slots later new → (s : ℕ)
+  pub all_other : (earlier : Point) (slots : Slots T) (later : Point) (new : Slots T) → DrivenAll tells traffic earlier slots later new → (s : ℕ)
       → ((key : ℕ) (entry : Entry T) → slot_at slots key ≡ Some entry → entry.state ≢ EntryGone → s ≢ entry.session)
       → stream_of later.hub s ≡ stream_of earlier.hub s
   all_other earlier [] later new d s apart = ap (λ (p : Point). stream_of p.hub s) d.1

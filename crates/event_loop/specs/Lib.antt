@@ -14,3 +14,4 @@ pub mod Tables
 pub mod TableBytes
 pub mod Turns
 pub mod Waits
+pub mod Peers

@@ -39,6 +39,10 @@ traffic_of s = counted_with s.counts (bytes_received s.socket) (bytes_sent s.soc
     (map departure_of (departed s.socket))
     s.socket.connection
 
+-- the last of its reads that moved bytes gave fewer than it asked for
+abbrev pub CameShort : Socket → Type 0
+CameShort s = s.came_short ≡ true
+
 -- It sends at once what is written. A peer that is silent for two minutes is probed, and again each half minute, and
 -- where it answers none of four probes the connection ends.
 pub record HasItsOptions (s : CountedSocket) : Type 0 where

@@ -5,6 +5,7 @@ ghost use Rattle.stream_driver.specs.Sessions.{Stands};
 ghost use Rattle.stream_driver.specs.Entries.{HaveSessions};
 ghost use Rattle.event_loop.specs.Departures.{IsServing};
 ghost use Rattle.event_loop.specs.Numbers.{AreBelow, HavePlaces};
+ghost use Rattle.event_loop.specs.Peers.{AreRested, LackNothing};
 ghost use Rattle.event_loop.specs.Tables.{HaveEntries};
 
 use crate::connections::{
@@ -61,6 +62,8 @@ pub struct EventLoop<D: Sectors> {
     ghost entries: { HaveEntries hub table.slots },
     ghost numbers: { AreBelow next table.slots },
     ghost places: { HavePlaces table.slots },
+    ghost peers: { LackNothing hub table.slots },
+    ghost rested: { AreRested table.slots },
     ghost next_place: { turns.next < 128 },
     ghost beside_place: { turns.beside < 128 },
 }
@@ -213,6 +216,14 @@ impl<D: Sectors> EventLoop<D> {
     {
         law_each_comes_nearer();
     }
+
+    /// Does nothing, and takes no memory. Its contract says that no wake-up is lost: between two turns each connection that isn't to be
+    /// driven waits for its peer, and lacks nothing that the loop could do. Either its last call was a write, which blocked, and a reply is
+    /// pending or buffered. Or all was read that the peer has sent, since the last read blocked or came short; no reply is pending or
+    /// buffered, and the inbox holds only the beginning of a request.
+    pub fn law_who_waits_lacks_nothing(&self)
+        ensures waits { LackNothing (hub_of self.now) self.now.table.slots }
+    {}
 
     /// Does nothing, and takes no memory. Its contract is one law of all connections that ever were, under the premise that sockets tell
     /// the bytes that they move. For whatever turns are taken from here there is one run from the opening to the hub after them, and so one

@@ -4,6 +4,7 @@ ghost use Rattle.std.specs.Prelude.{◌≡◌, ◌≤◌, ◌↔◌, ℕ, true};
 ghost use Rattle.std.specs.IoError.{error_kind};
 ghost use Rattle.std.specs.declared.io.ErrorKind.TheVariants.{WouldBlock};
 ghost use Rattle.stream_driver.specs.Traffic.{ReadsWithin, WritesWithin, bytes_read, bytes_written};
+ghost use Rattle.stream_driver.specs.Waits.{ComesShort};
 ghost use Rattle.socket_calls.specs.OpenFacts.{moved};
 ghost use Rattle.event_loop.specs.Outcomes.{ReadsAs, WritesAs};
 
@@ -28,6 +29,8 @@ const PROBES: u32 = 4;
 pub struct Socket {
     socket: CountedSocket,
     counts: CallCounts,
+    /// The last of its reads that moved bytes gave fewer than it asked for. Nothing but clauses reads it.
+    came_short: bool,
 }
 
 impl Socket {
@@ -46,6 +49,7 @@ impl Socket {
         Socket {
             socket: CountedSocket::new(accepted, connection),
             counts: CallCounts::new(),
+            came_short: false,
         }
     }
 
@@ -129,6 +133,16 @@ fn read_answer(outcome: io::Result<usize>) -> ReadAnswer
     }
 }
 
+// Did the last read that moved bytes come short, after one of so many bytes that answers so?
+fn comes_short(before: bool, asked: usize, answer: ReadAnswer) -> bool
+    ensures { ComesShort (λ b. b ≡ true) before asked answer result }
+{
+    match answer {
+        ReadAnswer::Moved(n) => n < asked,
+        _ => before,
+    }
+}
+
 // What a write answers where the system answers so.
 fn write_answer(outcome: io::Result<usize>) -> WriteAnswer
     ensures answers { WritesAs outcome result }
@@ -145,7 +159,7 @@ fn write_answer(outcome: io::Result<usize>) -> WriteAnswer
 
 impl Stream for Socket {
     ghost use Rattle.std.specs.Prelude.{false};
-    ghost use Rattle.event_loop.specs.Sockets.{SocketsTell, traffic_of};
+    ghost use Rattle.event_loop.specs.Sockets.{CameShort, SocketsTell, traffic_of};
 
     ghost tells = { SocketsTell };
 
@@ -155,12 +169,20 @@ impl Stream for Socket {
 
     ghost has_ended_share = { λ s. false };
 
+    ghost came_short = { CameShort };
+
+    ghost is_sound = { λ s. Unit {0} };
+
+    ghost waits = { λ s. Unit {0} };
+
     ghost traffic = { traffic_of };
 
     fn read<D: Sectors>(&mut self, device: &D, into: &mut [u8]) -> ReadAnswer {
         // Shown for the contract alone: a read moves nothing to the peer.
         let _ = device;
+        let asked = into.len();
         let answer = read_answer(self.socket.read(into));
+        self.came_short = comes_short(self.came_short, asked, answer);
         self.counts.note_read(answer);
         answer
     }

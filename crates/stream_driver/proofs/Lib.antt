@@ -10,3 +10,4 @@ pub mod Buffering
 pub mod Sends
 pub mod OneEntry
 pub mod Appends
+pub mod Waiting

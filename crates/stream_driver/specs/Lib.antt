@@ -2,6 +2,7 @@ pub mod Types
 pub mod Traffic
 pub mod Counts
 pub mod Buffers
+pub mod Waits
 pub mod Sessions
 pub mod Drives
 pub mod Calls

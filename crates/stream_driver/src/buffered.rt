@@ -64,11 +64,12 @@ pub struct BufferedStream<S: Stream> {
 }
 
 impl<S: Stream> BufferedStream<S> {
-    ghost use Rattle.std.specs.Prelude.{◌≡◌, ◌≢◌, ◌≤◌, ◌||◌, [], IfOk, true, false};
+    ghost use Rattle.std.specs.Prelude.{◌≡◌, ◌≢◌, ◌≤◌, ◌||◌, [], IfOk, length, true, false};
     ghost use Rattle.stream_driver.specs.Buffers.{IsNew, fresh, has_had_share, buffered_in, is_settled};
     ghost use Rattle.stream_driver.specs.Buffers.{Finishes, Flushes, KeepsBytes, RoomFails, WhyRoom, WritesBuffered};
     ghost use Rattle.stream_driver.specs.Buffers.{GivesSome, TakesSome, WhyGave, WhyGaveSome, WhyTook, WhyTookSome};
     ghost use Rattle.stream_driver.specs.Traffic.{bytes_written};
+    ghost use Rattle.stream_driver.specs.Waits.{GivesSoundly};
 
     /// A stream over this one, which buffers nothing. Takes the memory for `BUFFERED_MAX` bytes, and none later.
     pub fn new(alloc: Global, inner: S) -> Result<BufferedStream<S>, AllocError>
@@ -158,7 +159,8 @@ impl<S: Stream> BufferedStream<S> {
     // One write of what is buffered.
     fn write_buffered<D: Sectors>(&mut self, device: &D) -> WriteAnswer
         requires { buffered_in self.old.buffered ≢ [] }
-        ensures { WritesBuffered S.tells S.traffic (D.moment device.now) self.old result self.new }
+        ensures wrote { WritesBuffered S.tells S.traffic (D.moment device.now) self.old result self.new }
+        ensures short { S.came_short self.old.inner → S.came_short self.new.inner }
     {
         let answer = self.inner.write(device, self.buffered.as_slice());
         match answer {
@@ -174,7 +176,9 @@ impl<S: Stream> BufferedStream<S> {
 
     /// Writes what is buffered, as far as the inner stream takes it. Takes no memory that a caller sees.
     pub fn flush<D: Sectors>(&mut self, device: &D) -> Flushed
-        ensures { Flushes S.tells S.traffic (D.moment device.now) self.old result self.new }
+        ensures flushed { Flushes S.tells S.traffic (D.moment device.now) self.old result self.new }
+        ensures some { result ≡ Flushed.Blocked → buffered_in self.new.buffered ≢ [] }
+        ensures short { S.came_short self.old.inner → S.came_short self.new.inner }
     {
         while !self.buffered.is_empty() {
             match self.write_buffered(device) {
@@ -200,6 +204,7 @@ impl<S: Stream> BufferedStream<S> {
         ensures kept { KeepsBytes S.tells S.traffic (D.moment device.now) self.old self.new }
         ensures why { WhyRoom S.traffic self.old result self.new }
         ensures failed { RoomFails self.old result self.new }
+        ensures short { S.came_short self.old.inner → S.came_short self.new.inner }
     {
         if self.buffered.room() > 0 {
             return Flushed::All;
@@ -212,6 +217,7 @@ impl<S: Stream> BufferedStream<S> {
         requires { from.now ≢ [] }
         ensures takes { TakesSome S.tells S.traffic (D.moment device.now) self.old from.now result self.new }
         ensures why { WhyTookSome S.traffic self.old result self.new }
+        ensures short { S.came_short self.old.inner → S.came_short self.new.inner }
     {
         match self.make_room(device) {
             Flushed::All => {}
@@ -230,6 +236,7 @@ impl<S: Stream> BufferedStream<S> {
         ensures takes { TakesSome S.tells S.traffic (D.moment device.now) self.old from.now result self.new }
         ensures why { WhyTook S.traffic self.old result self.new }
         ensures share { bytes_written result ≤ self.old.share }
+        ensures short { S.came_short self.old.inner → S.came_short self.new.inner }
     {
         let most = from.len().min(self.share);
         if most == 0 {
@@ -246,6 +253,7 @@ impl<S: Stream> BufferedStream<S> {
         requires { into.old ≢ [] }
         ensures gives { GivesSome S.tells S.traffic (D.moment device.now) self.old into.old result self.new into.new }
         ensures why { WhyGaveSome S.traffic self.old result self.new }
+        ensures sound { GivesSoundly S.came_short S.traffic self.old (length into.old) result self.new }
     {
         match self.flush(device) {
             Flushed::All => {}
@@ -267,6 +275,7 @@ impl<S: Stream> BufferedStream<S> {
         requires { into.old ≢ [] }
         ensures gives { GivesSome S.tells S.traffic (D.moment device.now) self.old into.old result self.new into.new }
         ensures why { WhyGave S.traffic self.old result self.new }
+        ensures sound { GivesSoundly S.came_short S.traffic self.old (length into.old) result self.new }
     {
         if self.share == 0 {
             ReadAnswer::Blocked
@@ -283,6 +292,7 @@ impl<S: Stream> Stream for BufferedStream<S> {
     ghost use Rattle.stream_driver.specs.Traffic.{ReadsWithin, WritesWithin, bytes_read, bytes_written, EndsWith};
     ghost use Rattle.stream_driver.specs.Buffers.{AfterRead, AfterWrite, GivesMore, LeavesAt, TakesAtMost, TakesMore};
     ghost use Rattle.stream_driver.specs.Buffers.{share_ended, traffic_through};
+    ghost use Rattle.stream_driver.specs.Waits.{IsSound, ReadStays, Waits, WriteStays};
 
     ghost tells = { S.tells };
 
@@ -291,6 +301,12 @@ impl<S: Stream> Stream for BufferedStream<S> {
     ghost keeps_share = { Unit {0} };
 
     ghost has_ended_share = { λ b. b.appended };
+
+    ghost came_short = { λ b. S.came_short b.inner };
+
+    ghost is_sound = { IsSound S.came_short };
+
+    ghost waits = { Waits S.came_short S.traffic };
 
     ghost traffic = { traffic_through S.traffic };
 
@@ -302,6 +318,8 @@ impl<S: Stream> Stream for BufferedStream<S> {
         ensures departed { S.tells → LeavesAt (D.moment device.now) S.traffic self.old self.new }
         ensures answered { EndsWith (Call.Read result) (traffic_through S.traffic self.old) (traffic_through S.traffic self.new) }
         ensures buffer { AfterRead S.traffic self.old (length into.old) result self.new }
+        ensures stays { ReadStays (λ b. S.came_short b.inner) (IsSound S.came_short) (Waits S.came_short S.traffic) self.old
+            (length into.old) result self.new }
     {
         let answer = self.give_in_share(device, into);
         self.counts.note_read(answer);
@@ -316,6 +334,7 @@ impl<S: Stream> Stream for BufferedStream<S> {
         ensures departed { S.tells → LeavesAt (D.moment device.now) S.traffic self.old self.new }
         ensures answered { EndsWith (Call.Write result) (traffic_through S.traffic self.old) (traffic_through S.traffic self.new) }
         ensures buffer { AfterWrite S.traffic self.old result self.new }
+        ensures stays { WriteStays (λ b. S.came_short b.inner) (IsSound S.came_short) (Waits S.came_short S.traffic) self.old self.new }
     {
         let answer = self.take_in_share(device, from);
         if let WriteAnswer::Moved(n) = answer {

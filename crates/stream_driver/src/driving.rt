@@ -7,6 +7,7 @@ ghost use Rattle.stream_driver.specs.Sends.{LeadsAs};
 ghost use Rattle.stream_driver.specs.Drives.{Drove, Departs};
 ghost use Rattle.stream_driver.specs.Calls.{ReadsInTurn, WritesSome, Flushes, Exchanges};
 ghost use Rattle.stream_driver.specs.Traffic.{ReadsWithin, WritesWithin};
+ghost use Rattle.stream_driver.specs.Waits.{StaysSound};
 
 use crate::answers::{Progress, ReadAnswer, WriteAnswer};
 use crate::stream::Stream;
@@ -45,6 +46,7 @@ fn write_some<D: Sectors, S: Stream>(hub: &mut Hub<D>, s: u64, stream: &mut S) -
     ensures within { WritesWithin result (length (pending_of hub.old s)) }
     ensures written { LeadsAs s S.tells WritesSome result hub.old (S.traffic stream.old) hub.new (S.traffic stream.new) }
     ensures spends { Stands hub.old → SpendsShare S.keeps_share S.takes_at_most S.has_ended_share s hub.old stream.old hub.new stream.new }
+    ensures stays { StaysSound S.is_sound S.waits (result ≡ WriteAnswer.Blocked) stream.old stream.new }
 {
     hub.law_runs_follow();
     let answer = stream.write(hub.device(), hub.pending(s));
@@ -65,6 +67,7 @@ fn write_out<D: Sectors, S: Stream>(
     requires pending { pending ≡ length (pending_of hub.old s) }
     ensures written { LeadsAs s S.tells Flushes result hub.old (S.traffic stream.old) hub.new (S.traffic stream.new) }
     ensures spends { SpendsShare S.keeps_share S.takes_at_most S.has_ended_share s hub.old stream.old hub.new stream.new }
+    ensures stays { StaysSound S.is_sound S.waits (result ≡ OutputState.Blocked) stream.old stream.new }
 {
     hub.law_runs_follow();
     let mut owed = pending;
@@ -90,6 +93,7 @@ fn read_some<D: Sectors, S: Stream>(
     ensures within { ReadsWithin result room }
     ensures read { LeadsAs s S.tells (ReadsInTurn room) result hub.old (S.traffic stream.old) hub.new (S.traffic stream.new) }
     ensures keeps { Stands hub.old → KeepsShare S.keeps_share S.takes_at_most S.has_ended_share s hub.old stream.old hub.new stream.new }
+    ensures stays { StaysSound S.is_sound S.waits (result ≡ ReadAnswer.Blocked) stream.old stream.new }
 {
     hub.law_runs_follow();
     let most = room.min(READ_MAX);
@@ -113,6 +117,7 @@ fn serve_one<D: Sectors, S: Stream>(
     requires nothing { pending_of hub.old s ≡ [] }
     ensures served { LeadsAs s S.tells Exchanges result hub.old (S.traffic stream.old) hub.new (S.traffic stream.new) }
     ensures once { ServesOnce S.keeps_share S.takes_at_most S.has_ended_share s hub.old stream.old result hub.new stream.new }
+    ensures stays { StaysSound S.is_sound S.waits (result ≡ Exchange.Blocked) stream.old stream.new }
 {
     hub.law_runs_follow();
     let mut room = hub.room(s);
@@ -150,6 +155,7 @@ fn serve_in_share<D: Sectors, S: Stream>(
     ensures ended { records_of hub.new ≢ records_of hub.old → S.takes_at_most (length (pending_of hub.new s)) stream.new }
     ensures ends { S.keeps_share → records_of hub.new ≢ records_of hub.old → S.has_ended_share stream.new ≡ true }
     ensures once { ServesOnce S.keeps_share S.takes_at_most S.has_ended_share s hub.old stream.old result hub.new stream.new }
+    ensures stays { StaysSound S.is_sound S.waits (result ≡ Exchange.Blocked) stream.old stream.new }
 {
     let records = hub.records();
     let exchange = serve_one(hub, s, stream, buffer);
@@ -179,6 +185,7 @@ pub(crate) fn drive_over<D: Sectors, S: Stream>(
     requires { IsPresent hub.old s }
     ensures driven { LeadsAs s S.tells Drove result hub.old (S.traffic stream.old) hub.new (S.traffic stream.new) }
     ensures appends { S.keeps_share → AppendsOnce S.has_ended_share hub.old stream.old hub.new stream.new }
+    ensures stays { StaysSound S.is_sound S.waits (result ≡ Progress.Waiting) stream.old stream.new }
 {
     hub.law_runs_follow();
     'requests: for _served in 0..REQUESTS_MAX {
@@ -228,12 +235,15 @@ pub(crate) fn drive_over<D: Sectors, S: Stream>(
 ///
 /// It may grow what the requests grow, and the output of the session.
 ///
+/// Where it answers `Waiting`, the stream can say why its last call blocked, if its notes were sound before.
+///
 /// Where the stream tells what it moves, what leaves for the peer had been answered: the run passes a hub whose device stood as it did
 /// when the bytes left, and by then the session had been answered them.
 pub fn drive<D: Sectors, S: Stream>(hub: &mut Hub<D>, s: u64, stream: &mut S) -> Progress
     requires { IsPresent hub.old s }
     ensures driven { LeadsAs s S.tells Drove result hub.old (S.traffic stream.old) hub.new (S.traffic stream.new) }
     ensures appends { S.keeps_share → AppendsOnce S.has_ended_share hub.old stream.old hub.new stream.new }
+    ensures stays { StaysSound S.is_sound S.waits (result ≡ Progress.Waiting) stream.old stream.new }
 {
     let mut buffer = [0u8; READ_MAX];
     drive_over(hub, s, stream, &mut buffer)

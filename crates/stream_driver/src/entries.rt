@@ -5,6 +5,7 @@ ghost use Rattle.stream_driver.specs.Sessions.{IsPresent};
 ghost use Rattle.stream_driver.specs.Buffers.{has_had_share};
 ghost use Rattle.stream_driver.specs.Entries.{LeadsAll, LeadsEntry, HaveSessions, KeepSessions, EndsDrive, is_over};
 ghost use Rattle.stream_driver.specs.Entries.{state_at_end};
+ghost use Rattle.stream_driver.specs.Waits.{EachWaits, WaitsSince};
 
 use crate::answers::Progress;
 use crate::buffered::BufferedStream;
@@ -44,6 +45,7 @@ fn drive_entry<D: Sectors, S: Stream>(
     ensures session { entry.new.session ≡ entry.old.session }
     ensures gone { entry.old.state ≡ EntryState.Gone → entry.new.state ≡ EntryState.Gone }
     ensures appends { S.keeps_share → AppendsAtMost (ready_of entry.old.state) hub.old hub.new }
+    ensures waits { WaitsSince S.is_sound S.waits entry.old entry.new }
 {
     hub.law_runs_follow();
     if let EntryState::Ready = entry.state {
@@ -60,7 +62,8 @@ fn drive_entry<D: Sectors, S: Stream>(
 ///
 /// Where the streams keep to what they take at most, each of these drives appends one record to the log at most.
 ///
-/// The session of each entry that isn't `Gone` is present, and no other entry has it.
+/// The session of each entry that isn't `Gone` is present, and no other entry has it. The stream of each that was driven and is `Idle` can
+/// say why its last call blocked.
 ///
 /// It may grow what the requests grow, and the outputs of the sessions.
 pub fn drive_ready<D: Sectors, S: Stream>(hub: &mut Hub<D>, table: &mut Slab<Entry<S>>)
@@ -69,6 +72,7 @@ pub fn drive_ready<D: Sectors, S: Stream>(hub: &mut Hub<D>, table: &mut Slab<Ent
     ensures sessions { HaveSessions hub.new table.new.slots }
     ensures numbers { KeepSessions table.old.slots table.new.slots }
     ensures appends { S.keeps_share → AppendsAtMost (ready_count table.old.slots) hub.old hub.new }
+    ensures waits { EachWaits S.is_sound S.waits table.old.slots table.new.slots }
 {
     hub.law_runs_follow();
     let mut buffer = [0u8; READ_MAX];

@@ -15,6 +15,7 @@ pub trait Stream: Drop {
     ghost use Rattle.std.specs.Prelude.{◌≡◌, ◌<◌, ◌++◌, ℕ, Bool, true, length, take};
     ghost use Rattle.stream_driver.specs.Traffic.{Traffic, DepartAt, ReadsWithin, WritesWithin, bytes_read};
     ghost use Rattle.stream_driver.specs.Traffic.{bytes_written, EndsWith, KeepsTo};
+    ghost use Rattle.stream_driver.specs.Waits.{ReadStays, WriteStays};
 
     /// The bytes of `traffic` are those that the calls moved: said of each call where this holds.
     ghost tells: { Type 0 };
@@ -28,6 +29,15 @@ pub trait Stream: Drop {
     /// Its share of a turn was ended with a reply (`end_share`), and it has kept that since.
     ghost has_ended_share: { Self → Bool };
 
+    /// The last of its reads that moved bytes gave fewer than it asked for.
+    ghost came_short: { Self → Type 0 };
+
+    /// What it has noted of its reads is so: said of each call where it was so before.
+    ghost is_sound: { Self → Type 0 };
+
+    /// If its last call blocked, this is why. A stream that buffers or keeps to a share may block though the system would not.
+    ghost waits: { Self → Type 0 };
+
     /// The bytes that were moved, how often each call gave each answer but `Moved`, and the last call with its answer.
     ghost traffic: { Self → Traffic };
 
@@ -40,7 +50,8 @@ pub trait Stream: Drop {
         ensures sent { tells → (traffic self.new).sent ≡ (traffic self.old).sent }
         ensures departed { tells → DepartAt (D.moment device.now) (traffic self.old) (traffic self.new) }
         ensures answered { EndsWith (Call.Read result) (traffic self.old) (traffic self.new) }
-        ensures share { keeps_share → KeepsTo takes_at_most has_ended_share self.old 0 self.new };
+        ensures share { keeps_share → KeepsTo takes_at_most has_ended_share self.old 0 self.new }
+        ensures stays { ReadStays came_short is_sound waits self.old (length into.old) result self.new };
 
     /// Writes at least one byte from the front of `from`, or answers why none went. Takes no memory that a caller sees.
     fn write<D: Sectors>(&mut self, device: &D, from: &[u8]) -> WriteAnswer
@@ -50,12 +61,15 @@ pub trait Stream: Drop {
         ensures sent { tells → (traffic self.new).sent ≡ (traffic self.old).sent ++ take (bytes_written result) from.now }
         ensures departed { tells → DepartAt (D.moment device.now) (traffic self.old) (traffic self.new) }
         ensures answered { EndsWith (Call.Write result) (traffic self.old) (traffic self.new) }
-        ensures share { keeps_share → KeepsTo takes_at_most has_ended_share self.old (bytes_written result) self.new };
+        ensures share { keeps_share → KeepsTo takes_at_most has_ended_share self.old (bytes_written result) self.new }
+        ensures stays { WriteStays came_short is_sound waits self.old self.new };
 
     /// The drive has appended a record to the log, and a reply of so many bytes reports it: with these bytes the stream's share of the turn
     /// ends, so that others have theirs before this session is served again. It moves no byte. Takes no memory.
     fn end_share(&mut self, reply: usize)
         ensures ended { takes_at_most reply self.new }
         ensures ends { keeps_share → has_ended_share self.new ≡ true }
-        ensures traffic { traffic self.new ≡ traffic self.old };
+        ensures traffic { traffic self.new ≡ traffic self.old }
+        ensures sound { is_sound self.old → is_sound self.new }
+        ensures waits { waits self.old → waits self.new };
 }

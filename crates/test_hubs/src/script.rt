@@ -81,6 +81,12 @@ impl Stream for Script {
 
     ghost has_ended_share = { λ s. false };
 
+    ghost came_short = { λ s. Unit {0} };
+
+    ghost is_sound = { λ s. Unit {0} };
+
+    ghost waits = { λ s. Unit {0} };
+
     ghost traffic = { λ s. counted_with s.counts (take s.at s.input.items) s.sent.items [] 0 };
 
     fn read<D: Sectors>(&mut self, device: &D, into: &mut [u8]) -> ReadAnswer {

@@ -5,13 +5,14 @@ use Rattle.stream_driver.proofs.Appends.{AddedNone, once_then, out, pending_none
 use Rattle.stream_driver.proofs.Loops.{again, driven_none, flushes_out, gone_closed, gone_serving, gone_writing}
 use Rattle.stream_driver.proofs.Loops.{leaves, out_broke, out_served, waits_to_read, waits_to_write}
 use Rattle.stream_driver.proofs.Sends.{tells_still, tells_three, tells_two_at}
+use Rattle.stream_driver.proofs.Waiting.{stays_last, stays_still}
 use Rattle.stream_driver.proofs.States.{leads_none, present_in, present_after, stands_after}
 
 pub requests-init : goal.requests-init
 requests-init g c =
     let told = tells_still (leads_none c.args.hub.now c.law_runs_follow.ensures.none _
     (λ h stands. driven_none (present_in c.args.s stands.state c.requires.1))) in
-    record { told = told; adds = λ keeps. AddedNone refl refl }
+    record { told = told; adds = λ keeps. AddedNone refl refl; sound = λ sound. sound }
 
 pub write_out-requires-clause-present : goal.write_out-requires-clause-present
 write_out-requires-clause-present g c =
@@ -23,6 +24,7 @@ returns-in-Blocked g c =
       driven = tells_two_at c.law_runs_follow.ensures.follow c.requests.invariant.told c.in-Blocked.ensures.written (λ h k p. p.driven.carried)
           (λ h k l was stands p q. waits_to_write p (omega arith) q);
       appends = λ keeps. spent keeps (c.requests.invariant.adds keeps) c.in-Blocked.ensures.spends;
+      stays = stays_last g.S.Stream.is_sound g.S.Stream.waits _ _ _ c.requests.invariant.sound c.in-Blocked.ensures.stays (λ waiting. refl);
     }
 
 pub returns-in-Failed : goal.returns-in-Failed
@@ -32,6 +34,9 @@ returns-in-Failed g c =
       driven = leaves c.law_runs_follow.ensures.follow c.requests.invariant.told c.depart.ensures.answer c.in-Failed.ensures.written c.depart.ensures.left
           (λ h k l m stands p q r. gone_writing p (omega arith) q r);
       appends = λ keeps. once_then (spent keeps (c.requests.invariant.adds keeps) c.in-Failed.ensures.spends) (c.depart.ensures.records some);
+      stays = stays_still g.S.Stream.is_sound g.S.Stream.waits _ c.write_out.new.stream _
+          (λ sound. c.in-Failed.ensures.stays.sound (c.requests.invariant.sound sound))
+          (λ waiting. (let gone = c.depart.ensures.answer in cc));
     }
 
 pub returns-in_default : goal.returns-in_default
@@ -42,6 +47,9 @@ returns-in_default g c =
           c.depart-in_default.ensures.left
           (λ h k l m stands p q r. gone_closed p (omega arith) q (λ e. c.in_default.not-Open (c.status.ensures ∙ status_seen _ _ stands c.args.s ∙ e)) r);
       appends = λ keeps. once_then (spent keeps (c.requests.invariant.adds keeps) c.in-Empty.ensures.spends) (c.depart-in_default.ensures.records some);
+      stays = stays_still g.S.Stream.is_sound g.S.Stream.waits _ c.write_out.new.stream _
+          (λ sound. c.in-Empty.ensures.stays.sound (c.requests.invariant.sound sound))
+          (λ waiting. (let gone = c.depart-in_default.ensures.answer in cc));
     }
 
 pub serve_in_share-requires : goal.serve_in_share-requires
@@ -63,6 +71,9 @@ returns-in-Blocked-serve_in_share g c =
       appends = λ keeps. served_once keeps
           (out keeps (c.requests.invariant.adds keeps) c.in-Empty.ensures.spends (pending_none some c.in-Empty.ensures.written))
           c.in-Blocked-serve_in_share.ensures.once (c.in-Blocked-serve_in_share.ensures.ends keeps);
+      stays = stays_last g.S.Stream.is_sound g.S.Stream.waits _ c.write_out.new.stream _
+          (λ sound. c.in-Empty.ensures.stays.sound (c.requests.invariant.sound sound)) c.in-Blocked-serve_in_share.ensures.stays
+          (λ waiting. refl);
     }
 
 pub returns-in_default-serve_in_share : goal.returns-in_default-serve_in_share
@@ -82,6 +93,9 @@ returns-in_default-serve_in_share g c =
           c.serve_in_share.ensures.once (c.serve_in_share.ensures.ends keeps))
           (c.depart-in_default-serve_in_share.ensures.records (stands_after (stands_after some c.in-Empty.ensures.written.leads)
           c.serve_in_share.ensures.served.leads));
+      stays = stays_still g.S.Stream.is_sound g.S.Stream.waits _ c.serve_in_share.new.stream _
+          (λ sound. c.serve_in_share.ensures.stays.sound (c.in-Empty.ensures.stays.sound (c.requests.invariant.sound sound)))
+          (λ waiting. (let gone = c.depart-in_default-serve_in_share.ensures.answer in cc));
     }
 
 pub write_out-requires-2-clause-present : goal.write_out-requires-2-clause-present
@@ -94,6 +108,7 @@ returns-in-Blocked-write_out g c =
       driven = tells_two_at c.law_runs_follow.ensures.follow c.requests.invariant.told c.in-Blocked-write_out.ensures.written (λ h k p. p.driven.carried)
           (λ h k l was stands p q. waits_to_write p (omega arith) q);
       appends = λ keeps. spent keeps (c.requests.invariant.adds keeps) c.in-Blocked-write_out.ensures.spends;
+      stays = stays_last g.S.Stream.is_sound g.S.Stream.waits _ _ _ c.requests.invariant.sound c.in-Blocked-write_out.ensures.stays (λ waiting. refl);
     }
 
 pub returns-in-Failed-write_out : goal.returns-in-Failed-write_out
@@ -105,6 +120,9 @@ returns-in-Failed-write_out g c =
           c.depart-in-Failed-write_out.ensures.left (λ h k l m stands p q r. gone_writing p (omega arith) q r);
       appends = λ keeps. once_then (spent keeps (c.requests.invariant.adds keeps) c.in-Failed-write_out.ensures.spends)
           (c.depart-in-Failed-write_out.ensures.records some);
+      stays = stays_still g.S.Stream.is_sound g.S.Stream.waits _ c.write_out-2.new.stream _
+          (λ sound. c.in-Failed-write_out.ensures.stays.sound (c.requests.invariant.sound sound))
+          (λ waiting. (let gone = c.depart-in-Failed-write_out.ensures.answer in cc));
     }
 
 pub returns-in-Open-status : goal.returns-in-Open-status
@@ -113,6 +131,9 @@ returns-in-Open-status g c =
       driven = tells_two_at c.law_runs_follow.ensures.follow c.requests.invariant.told c.in-Empty-write_out.ensures.written (λ h k p. p.driven.carried)
           (λ h k l was stands p q. again p (omega arith) q (sym (c.in-Open-status.ensures ∙ status_seen _ _ stands c.args.s)));
       appends = λ keeps. spent keeps (c.requests.invariant.adds keeps) c.in-Empty-write_out.ensures.spends;
+      stays = stays_still g.S.Stream.is_sound g.S.Stream.waits _ c.write_out-2.new.stream _
+          (λ sound. c.in-Empty-write_out.ensures.stays.sound (c.requests.invariant.sound sound))
+          (λ waiting. cc);
     }
 
 pub returns-in_default-status : goal.returns-in_default-status
@@ -125,6 +146,9 @@ returns-in_default-status g c =
           r);
       appends = λ keeps. once_then (spent keeps (c.requests.invariant.adds keeps) c.in-Empty-write_out.ensures.spends)
           (c.depart-in_default-status.ensures.records some);
+      stays = stays_still g.S.Stream.is_sound g.S.Stream.waits _ c.write_out-2.new.stream _
+          (λ sound. c.in-Empty-write_out.ensures.stays.sound (c.requests.invariant.sound sound))
+          (λ waiting. (let gone = c.depart-in_default-status.ensures.answer in cc));
     }
 
 pub requests-preserved : goal.requests-preserved
@@ -138,11 +162,13 @@ requests-preserved g c =
             (λ h l m stands last p r. out_served p (sym (c.in-Open.ensures ∙ status_seen _ _ stands c.args.s)) r);
         adds = λ keeps. served keeps (ready keeps) (rw e at c.serve_in_share.ensures.once) c.serve_in_share.ensures.ended
             (c.serve_in_share.ensures.ends keeps) (rw e at c.serve_in_share.ensures.once).replied;
+        sound = λ sound. c.serve_in_share.ensures.stays.sound (c.in-Empty.ensures.stays.sound (c.requests.invariant.sound sound));
       }
       | inr e ↦ record {
         told = tells_two_at c.law_runs_follow.ensures.follow flushed (rw e at c.serve_in_share.ensures.served) (λ h l p. p.0.driven.carried)
             (λ h l m stands last p r. out_broke p r);
         adds = λ keeps. served keeps (ready keeps) (rw e at c.serve_in_share.ensures.once) c.serve_in_share.ensures.ended
             (c.serve_in_share.ensures.ends keeps) (rw e at c.serve_in_share.ensures.once).replied;
+        sound = λ sound. c.serve_in_share.ensures.stays.sound (c.in-Empty.ensures.stays.sound (c.requests.invariant.sound sound));
       }
     ]

@@ -12,4 +12,5 @@ invariant-requests g l =
       adds : g.S.Stream.keeps_share
           → SoFar g.S.Stream.takes_at_most g.S.Stream.has_ended_share l.fn.s (records_of l.fn.hub) (g.S.Stream.has_ended_share l.fn.stream)
           l.hub l.stream;
+      sound : g.S.Stream.is_sound l.fn.stream → g.S.Stream.is_sound l.stream;
     }

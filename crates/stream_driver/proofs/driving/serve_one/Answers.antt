@@ -1,5 +1,5 @@
 use Rattle.stream_driver.proofs.driving.serve_one.Goals as goal
-use Rattle.std.proofs.Common.{arith, sym, ◌∙◌}
+use Rattle.std.proofs.Common.{arith, refl, sym, ◌∙◌}
 use Rattle.std.proofs.Math.Bridge.{le_prop}
 use Rattle.sessions.proofs.EventSteps.{pending_seen, room_seen, status_seen}
 use Rattle.stream_driver.proofs.Appends.{keeps_idle, keeps_none, replied_now, serves_none, serves_not, serves_one}
@@ -7,6 +7,7 @@ use Rattle.stream_driver.proofs.Appends.{serves_then}
 use Rattle.stream_driver.proofs.Loops.{read_nothing, read_then, read_stopped, serve_starved, serve_open, serve_closed}
 use Rattle.stream_driver.proofs.Loops.{serve_replied, waits}
 use Rattle.stream_driver.proofs.Sends.{tells_step, tells_still, tells_two_at}
+use Rattle.stream_driver.proofs.Waiting.{stays_last, stays_still}
 use Rattle.stream_driver.proofs.States.{leads_none, seen_after, stands_after}
 
 pub loop-hub-init : goal.loop-hub-init
@@ -16,7 +17,7 @@ loop-hub-init g c =
     let told = tells_still (leads_none c.args.hub.now c.law_runs_follow.ensures.none _
     (λ h stands. read_nothing (sym (status_seen hub h.hub stands.state s) ∙ c.requires.opened) (sym (pending_seen hub h.hub stands.state s)
     ∙ c.requires.nothing) (c.room-room.ensures ∙ room_seen hub h.hub stands.state s))) in
-    record { told = told; keeps = keeps_none hub c.args.stream.now }
+    record { told = told; keeps = keeps_none hub c.args.stream.now; sound = λ sound. sound }
 
 pub returns-in-Memory : goal.returns-in-Memory
 returns-in-Memory g c =
@@ -25,6 +26,7 @@ returns-in-Memory g c =
       served = tells_step c.law_runs_follow.ensures.follow c.loop-hub.invariant.told c.step.ensures.step c.step.ensures.ran c.step.ensures.device
           (λ h k p. p.moves.carried) (λ h k choice happens is stands p. serve_starved p happens is c.in-Memory.is);
       once = serves_then c.loop-hub.invariant.keeps (serves_one some c.step.ensures.records) tt;
+      stays = stays_still g.S.Stream.is_sound g.S.Stream.waits _ c.loop-hub.stream _ c.loop-hub.invariant.sound (λ blocked. cc);
     }
 
 pub returns-in-Open : goal.returns-in-Open
@@ -37,6 +39,7 @@ returns-in-Open g c =
           (λ h k p. p.moves.carried)
           (λ h k choice happens is stands p. serve_open p happens is c.in-Done.is (sym (c.in-Open.ensures ∙ status_seen _ _ stands c.args.s)));
       once = serves_then c.loop-hub.invariant.keeps (serves_one some c.step.ensures.records) (replied_now c.requires.stands replied);
+      stays = stays_still g.S.Stream.is_sound g.S.Stream.waits _ c.loop-hub.stream _ c.loop-hub.invariant.sound (λ blocked. cc);
     }
 
 pub returns-in_default-status : goal.returns-in_default-status
@@ -51,6 +54,7 @@ returns-in_default-status g c =
           (λ h k choice happens is stands p. serve_closed p happens is c.in-Done.is
           (λ e. c.in_default-status.not-Open (c.status.ensures ∙ status_seen _ _ stands c.args.s ∙ e)));
       once = serves_then c.loop-hub.invariant.keeps (serves_one some c.step.ensures.records) (replied_now c.requires.stands replied);
+      stays = stays_still g.S.Stream.is_sound g.S.Stream.waits _ c.loop-hub.stream _ c.loop-hub.invariant.sound (λ blocked. cc);
     }
 
 pub read_some-requires : goal.read_some-requires
@@ -74,6 +78,7 @@ loop-hub-preserved g c =
       told = tells_two_at c.law_runs_follow.ensures.follow waited c.in-Moved.ensures.read (λ h k p. p.0.moves.carried)
           (λ h k l was stands p q. read_then p.0 c.in-Moved.n (q p.1 p.0.room_is));
       keeps = keeps_idle c.loop-hub.invariant.keeps idle (c.in-Moved.ensures.keeps (stands_after c.requires.stands waited.leads));
+      sound = λ sound. c.in-Moved.ensures.stays.sound (c.loop-hub.invariant.sound sound);
     }
 
 pub returns-in-Blocked : goal.returns-in-Blocked
@@ -87,6 +92,7 @@ returns-in-Blocked g c =
       served = tells_two_at c.law_runs_follow.ensures.follow waited c.in-Blocked.ensures.read (λ h k p. p.0.moves.carried)
           (λ h k l was stands p q. (let read = q p.1 p.0.room_is in read_stopped p.0 _ _ p.1 read read.why (λ served why. why)));
       once = serves_not (keeps_idle c.loop-hub.invariant.keeps idle (c.in-Blocked.ensures.keeps (stands_after c.requires.stands waited.leads))) tt;
+      stays = stays_last g.S.Stream.is_sound g.S.Stream.waits _ _ _ c.loop-hub.invariant.sound c.in-Blocked.ensures.stays (λ blocked. refl);
     }
 
 pub returns-in-Failed : goal.returns-in-Failed
@@ -100,6 +106,7 @@ returns-in-Failed g c =
       served = tells_two_at c.law_runs_follow.ensures.follow waited c.in-Failed.ensures.read (λ h k p. p.0.moves.carried)
           (λ h k l was stands p q. (let read = q p.1 p.0.room_is in read_stopped p.0 _ _ p.1 read read.why (λ served why. why)));
       once = serves_not (keeps_idle c.loop-hub.invariant.keeps idle (c.in-Failed.ensures.keeps (stands_after c.requires.stands waited.leads))) tt;
+      stays = stays_last g.S.Stream.is_sound g.S.Stream.waits _ _ _ c.loop-hub.invariant.sound c.in-Failed.ensures.stays (λ blocked. absurd (cc));
     }
 
 pub returns-in-Ended : goal.returns-in-Ended
@@ -113,4 +120,5 @@ returns-in-Ended g c =
       served = tells_two_at c.law_runs_follow.ensures.follow waited c.in-Ended.ensures.read (λ h k p. p.0.moves.carried)
           (λ h k l was stands p q. (let read = q p.1 p.0.room_is in read_stopped p.0 _ _ p.1 read read.why (λ served why. why)));
       once = serves_not (keeps_idle c.loop-hub.invariant.keeps idle (c.in-Ended.ensures.keeps (stands_after c.requires.stands waited.leads))) tt;
+      stays = stays_last g.S.Stream.is_sound g.S.Stream.waits _ _ _ c.loop-hub.invariant.sound c.in-Ended.ensures.stays (λ blocked. absurd (cc));
     }

@@ -9,6 +9,7 @@ invariant-loop-hub g l =
       told : LeadsTelling l.fn.s g.S.Stream.tells l.fn.hub (g.S.Stream.traffic l.fn.stream) l.hub (g.S.Stream.traffic l.stream)
           (λ h k. ReadSoFar l.fn.s g.S.Stream.tells h (g.S.Stream.traffic l.fn.stream) k (g.S.Stream.traffic l.stream) l.room);
       keeps : KeepsShare g.S.Stream.keeps_share g.S.Stream.takes_at_most g.S.Stream.has_ended_share l.fn.s l.fn.hub l.fn.stream l.hub l.stream;
+      sound : g.S.Stream.is_sound l.fn.stream → g.S.Stream.is_sound l.stream;
     }
 
 abbrev pub decreases-loop-hub : goal.decreases-loop-hub

@@ -1,10 +1,11 @@
 use Rattle.stream_driver.proofs.driving.write_out.Goals as goal
-use Rattle.std.proofs.Common.{◌≡◌, ◌∙◌, length, sym, ap, arith}
+use Rattle.std.proofs.Common.{◌≡◌, ◌∙◌, length, refl, sym, ap, arith}
 use Rattle.std.proofs.lemmas.List.{nil_from_length}
 use Rattle.sessions.proofs.EventSteps.{pending_seen}
 use Rattle.stream_driver.proofs.Appends.{spends_none, spends_then}
 use Rattle.stream_driver.proofs.Loops.{owed_now, written_none, written_then, written_stopped}
 use Rattle.stream_driver.proofs.Sends.{tells_map, tells_still, tells_two_at}
+use Rattle.stream_driver.proofs.Waiting.{stays_last, stays_still}
 use Rattle.stream_driver.proofs.States.{leads_none, present_in, present_after, stands_after}
 
 pub loop-owed-init : goal.loop-owed-init
@@ -12,7 +13,7 @@ loop-owed-init g c =
     let told = tells_still (leads_none c.args.hub.now c.law_runs_follow.ensures.none _
     (λ h stands. written_none (present_in c.args.s stands.state c.requires.present.1) (c.requires.pending
     ∙ ap length (pending_seen c.args.hub.now h.hub stands.state c.args.s)))) in
-    record { told = told; spends = spends_none c.args.hub.now c.args.stream.now }
+    record { told = told; spends = spends_none c.args.hub.now c.args.stream.now; sound = λ sound. sound }
 
 pub write_some-requires : goal.write_some-requires
 write_some-requires g c = record {
@@ -33,6 +34,7 @@ loop-owed-preserved g c =
       told = tells_two_at c.law_runs_follow.ensures.follow c.loop-owed.invariant.told c.in-Moved.ensures.written (λ h k p. p.moves.carried)
           (λ h k l was stands p q. written_then p c.in-Moved.n q);
       spends = spends_then c.loop-owed.invariant.spends (c.in-Moved.ensures.spends some);
+      sound = λ sound. c.in-Moved.ensures.stays.sound (c.loop-owed.invariant.sound sound);
     }
 
 pub returns-in-Blocked : goal.returns-in-Blocked
@@ -42,6 +44,7 @@ returns-in-Blocked g c =
       written = tells_two_at c.law_runs_follow.ensures.follow c.loop-owed.invariant.told c.in-Blocked.ensures.written (λ h k p. p.moves.carried)
           (λ h k l was stands p q. written_stopped p _ _ c.loop-owed-test.true q q.why (λ why. why));
       spends = spends_then c.loop-owed.invariant.spends (c.in-Blocked.ensures.spends some);
+      stays = stays_last g.S.Stream.is_sound g.S.Stream.waits _ _ _ c.loop-owed.invariant.sound c.in-Blocked.ensures.stays (λ blocked. refl);
     }
 
 pub returns-in-Failed : goal.returns-in-Failed
@@ -51,6 +54,7 @@ returns-in-Failed g c =
       written = tells_two_at c.law_runs_follow.ensures.follow c.loop-owed.invariant.told c.in-Failed.ensures.written (λ h k p. p.moves.carried)
           (λ h k l was stands p q. written_stopped p _ _ c.loop-owed-test.true q q.why (λ why. why));
       spends = spends_then c.loop-owed.invariant.spends (c.in-Failed.ensures.spends some);
+      stays = stays_last g.S.Stream.is_sound g.S.Stream.waits _ _ _ c.loop-owed.invariant.sound c.in-Failed.ensures.stays (λ blocked. absurd (cc));
     }
 
 pub returns : goal.returns
@@ -59,4 +63,5 @@ returns g c =
     record {
       written = tells_map c.loop-owed.invariant.told (λ h k stands p. record { moves = p.moves; why = (p.moved, nil_from_length _ (sym p.owed_is ∙ none)) });
       spends = c.loop-owed.invariant.spends;
+      stays = stays_still g.S.Stream.is_sound g.S.Stream.waits _ c.loop-owed.stream _ c.loop-owed.invariant.sound (λ blocked. cc);
     }

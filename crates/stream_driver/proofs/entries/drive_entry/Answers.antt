@@ -24,3 +24,11 @@ returns-after-drive_over-clause-appends g c keeps = at_most_one c.in-Ready.is (c
 
 pub returns-in_default-clause-appends : goal.returns-in_default-clause-appends
 returns-in_default-clause-appends g c keeps = at_most_none c.args.hub.now _
+
+pub returns-after-drive_over-clause-waits : goal.returns-after-drive_over-clause-waits
+returns-after-drive_over-clause-waits g c ready idle sound =
+    c.drive_over.ensures.stays.why sound (elim c.match-drive_over.branch [
+      | in-Waiting w ↦ w.in-Waiting.is
+      | in-Again w ↦ (let is = w.entry-is in absurd (cc))
+      | in-Gone w ↦ (let is = w.entry-is in absurd (cc))
+    ])

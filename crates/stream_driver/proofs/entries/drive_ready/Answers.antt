@@ -2,6 +2,8 @@ use Rattle.stream_driver.proofs.entries.drive_ready.Goals as goal
 use Rattle.std.proofs.Common.{◌≡◌, Some, None, take, sym, ◌∙◌, arith}
 use Rattle.std.proofs.lemmas.List.{take_all}
 use Rattle.stream_driver.proofs.Appends.{appends_more, at_most_none}
+use Rattle.stream_driver.proofs.OneEntry.{below}
+use Rattle.stream_driver.proofs.Waiting.{waits_all, waits_driven, waits_vacant}
 use Rattle.stream_driver.proofs.Turns.{entries_all, entries_driven, entries_none, entries_vacant, same_slot}
 use Rattle.stream_driver.proofs.entries.drive_ready.Goals.{in-Some, in_default}
 
@@ -10,7 +12,11 @@ drive_entry-requires g c = λ alive. c.loop-key.invariant.so_far.sessions.presen
 
 pub loop-key-init : goal.loop-key-init
 loop-key-init g c =
-    record { so_far = entries_none _ _ c.law_runs_follow.ensures.none c.requires; appends = λ keeps. at_most_none c.args.hub.now _ }
+    record {
+      so_far = entries_none _ _ c.law_runs_follow.ensures.none c.requires;
+      appends = λ keeps. at_most_none c.args.hub.now _;
+      waits = λ other was entry lt. absurd (omega (arith, lt));
+    }
 
 pub loop-key-preserved : goal.loop-key-preserved
 loop-key-preserved g c =
@@ -26,11 +32,15 @@ loop-key-preserved g c =
             so_far = rw (w.hub-is, w.table-is) driven;
             appends = λ keeps. rw w.hub-is (appends_more key slots (Some old) (was ∙ sym w.in-Some.ensures.value) (c.loop-key.invariant.appends keeps)
                 (w.drive_entry.ensures.appends keeps));
+            waits = rw w.table-is (waits_driven g.S.Stream.is_sound g.S.Stream.waits key slots c.loop-key.table.slots c.loop-key.invariant.waits old _
+                (was ∙ sym w.in-Some.ensures.value) (below c.loop-key.table.slots key old (sym w.in-Some.ensures.value)) w.drive_entry.ensures.waits);
           }
       | in_default w ↦ record {
         so_far = rw (w.hub-is, w.table-is) (entries_vacant _ _ c.loop-key.invariant.so_far (sym w.in_default.ensures.value));
         appends = λ keeps. rw w.hub-is (appends_more key slots None (was ∙ sym w.in_default.ensures.value) (c.loop-key.invariant.appends keeps)
             (at_most_none c.loop-key.hub _));
+        waits = rw w.table-is (waits_vacant g.S.Stream.is_sound g.S.Stream.waits key slots c.loop-key.table.slots c.loop-key.invariant.waits
+            (sym w.in_default.ensures.value));
       }
     ]
 
@@ -46,3 +56,9 @@ returns-clause-appends g c keeps =
     let slots = c.capacity-key-end.ensures.slots in
     let all : take c.loop-key.key c.args.table.now.slots ≡ c.args.table.now.slots = take_all c.loop-key.key c.args.table.now.slots (omega arith) in
     rw all at c.loop-key.invariant.appends keeps
+
+pub returns-clause-waits : goal.returns-clause-waits
+returns-clause-waits g c =
+    let ends = c.loop-key-test.false in
+    let slots = c.capacity-key-end.ensures.slots in
+    waits_all g.S.Stream.is_sound g.S.Stream.waits c.loop-key.key _ _ (omega arith) c.loop-key.invariant.waits

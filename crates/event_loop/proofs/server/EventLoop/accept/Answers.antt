@@ -2,6 +2,7 @@ use Rattle.event_loop.proofs.server.EventLoop.accept.Goals as goal
 use Rattle.std.proofs.Common.{ap}
 use Rattle.event_loop.proofs.Departing.{accepts_serve, closed_serves}
 use Rattle.event_loop.proofs.Ordering.{each_placed}
+use Rattle.event_loop.proofs.Peers.{accepted_lack, accepted_rested}
 use Rattle.event_loop.specs.Lingerings.{Lingerers}
 
 pub invariant_of-self-clause-serving : goal.invariant_of-self-clause-serving
@@ -25,3 +26,21 @@ invariant_of-self-clause-places g c = each_placed c.accept_some-self.ensures.acc
 
 pub invariant_of-self-else-eq-clause-places : goal.invariant_of-self-else-eq-clause-places
 invariant_of-self-else-eq-clause-places g c = each_placed c.accept_some-self.ensures.accepts.became.0 c.args.self.now.places
+
+pub invariant_of-self-clause-peers : goal.invariant_of-self-clause-peers
+invariant_of-self-clause-peers g c =
+    accepted_lack c.accept_some-self.ensures.accepts.became.0
+    (record { stands = c.args.self.now.stands; sessions = c.args.self.now.sessions; numbers = c.args.self.now.numbers; entries = c.args.self.now.entries })
+    c.args.self.now.peers
+
+pub invariant_of-self-clause-rested : goal.invariant_of-self-clause-rested
+invariant_of-self-clause-rested g c = accepted_rested c.accept_some-self.ensures.accepts.became.0 c.args.self.now.rested
+
+pub invariant_of-self-else-eq-clause-peers : goal.invariant_of-self-else-eq-clause-peers
+invariant_of-self-else-eq-clause-peers g c =
+    accepted_lack c.accept_some-self.ensures.accepts.became.0
+    (record { stands = c.args.self.now.stands; sessions = c.args.self.now.sessions; numbers = c.args.self.now.numbers; entries = c.args.self.now.entries })
+    c.args.self.now.peers
+
+pub invariant_of-self-else-eq-clause-rested : goal.invariant_of-self-else-eq-clause-rested
+invariant_of-self-else-eq-clause-rested g c = accepted_rested c.accept_some-self.ensures.accepts.became.0 c.args.self.now.rested

@@ -1,4 +1,5 @@
 use Rattle.event_loop.proofs.server.EventLoop.bind.Goals as goal
+use Rattle.std.proofs.Math.Logic.{∥∥₁_map}
 use Rattle.event_loop.proofs.Departing.{begins_serving}
 use Rattle.event_loop.proofs.Entries.{no_entry, nobody_entries}
 use Rattle.event_loop.proofs.Serving.{opened_nobody, opened_stands}
@@ -17,6 +18,8 @@ invariant_of-result g c = let nothing = no_entry c.new-in-Ok.result.slots c.new-
   entries = nobody_entries c.args.hub c.new-in-Ok.result.slots (opened_nobody c.args.hub c.requires);
   numbers = λ key entry e. absurd (nothing key entry e);
   places = λ key entry e. absurd (nothing key entry e);
+  peers = ∥∥₁_map (opened_stands c.args.hub c.requires) (λ w. (w.0, w.1, λ key entry e idle. absurd (nothing key entry e)));
+  rested = λ key entry e. absurd (nothing key entry e);
   next_place = c.new.ensures.0;
   beside_place = c.new.ensures.1;
 }

@@ -7,10 +7,12 @@ use Rattle.event_loop.proofs.Departing.{drives_serve}
 use Rattle.event_loop.proofs.Entries.{driven_entries, ended_entries, ended_remain, polled_entries, polled_remain}
 use Rattle.event_loop.proofs.Entries.{polled_sessions, remain_numbers, remain_sessions}
 use Rattle.event_loop.proofs.Ordering.{places_after, polled_next, polled_turned, remain_places}
+use Rattle.event_loop.proofs.Peers.{drives_wait, ended_rested, leads_lack}
 use Rattle.event_loop.proofs.Polled.{TakesTurns}
 use Rattle.event_loop.proofs.TableBytes.{drives_bytes}
 use Rattle.event_loop.proofs.Tables.{below_after}
 use Rattle.event_loop.specs.Order.{after_turn, is_passed}
+use Rattle.event_loop.specs.Sockets.{CameShort}
 use Rattle.event_loop.specs.Tables.{after_poll, slot_at}
 use Rattle.event_loop.specs.contracts.socket.SocketStream.TheImpl.{ghosts}
 
@@ -61,6 +63,10 @@ invariant_of-self g c =
       places = remain_places driven new (ended_remain driven new ghosts.tells ghosts.traffic _ ended)
           (places_after ready driven c.drive_ready.ensures.numbers
           (remain_places old.table.slots ready (polled_remain old.table.slots ready events turns) old.places));
+      peers = leads_lack old.hub later c.drive_ready.ensures.driven.leads old.table.slots new
+          (drives_wait ghosts.traffic CameShort ghosts.tells old.table.slots ready driven new events turns
+          (polled_sessions old.table.slots ready events turns old.hub old.sessions).own _ ended c.drive_ready.ensures.waits old.rested) old.peers;
+      rested = ended_rested ghosts.tells ghosts.traffic _ driven new ended;
       next_place = c.next_turns-self.ensures.places.0;
       beside_place = c.next_turns-self.ensures.places.1;
     }

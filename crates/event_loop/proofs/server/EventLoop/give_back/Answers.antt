@@ -5,7 +5,10 @@ use Rattle.sessions.proofs.EventSteps.{status_seen}
 use Rattle.stream_driver.proofs.States.{present_after, seen_after, stands_after}
 use Rattle.stream_driver.specs.Sessions.{IsPresentIn, Point, status_at}
 use Rattle.event_loop.proofs.Departing.{rest_serves}
+use Rattle.event_loop.proofs.Peers.{leads_lack}
 use Rattle.event_loop.proofs.WholeTurns.{leads_rest}
+use Rattle.event_loop.specs.Peers.{IdleWait}
+use Rattle.event_loop.specs.Sockets.{CameShort, traffic_of}
 
 pub invariant_of-self : goal.invariant_of-self
 invariant_of-self g c =
@@ -26,6 +29,9 @@ invariant_of-self g c =
           ∙ sym (status_seen old.hub h.hub was s) ∙ old.entries s without);
       numbers = old.numbers;
       places = old.places;
+      peers = leads_lack old.hub new rests old.table.slots old.table.slots
+          (λ h k same has. subst (λ (q : Point). IdleWait traffic_of CameShort q.hub old.table.slots) (sym same) has) old.peers;
+      rested = old.rested;
       next_place = old.next_place;
       beside_place = old.beside_place;
     }

@@ -1,5 +1,6 @@
 use Rattle.event_loop.proofs.socket.SocketStream.read.Goals as goal
-use Rattle.std.proofs.Common.{[], ap, refl}
+use Rattle.std.proofs.Common.{[], length, ap, refl}
+use Rattle.event_loop.proofs.Shorts.{notes_short}
 use Rattle.event_loop.proofs.Socketing.{departed_read, received_read, sent_read}
 use Rattle.event_loop.specs.Sockets.{traffic_of}
 
@@ -21,3 +22,13 @@ returns-clause-departed g c =
 
 pub returns-clause-answered : goal.returns-clause-answered
 returns-clause-answered g c = c.note_read.ensures _ _ [] [] _ [] _ _ (ap (λ s. s.connection) c.read.ensures.next)
+
+pub returns-clause-stays : goal.returns-clause-stays
+returns-clause-stays g c =
+    record {
+      short = notes_short c.args.self.now
+          (record c.args.self.now { socket = c.read.new.self; came_short = c.comes_short-self.result; counts = c.note_read.new.self })
+          (length c.args.into.now) c.read_answer-answer.result c.comes_short-self.ensures;
+      sound = λ sound. tt;
+      why = λ sound. tt;
+    }

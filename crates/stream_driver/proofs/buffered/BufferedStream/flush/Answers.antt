@@ -1,18 +1,32 @@
 use Rattle.stream_driver.proofs.buffered.BufferedStream.flush.Goals as goal
-use Rattle.std.proofs.Common.{rules, ◌≢◌, []}
+use Rattle.std.proofs.Common.{rules, ◌≢◌, [], sym, ◌∙◌}
 use Rattle.stream_driver.proofs.Buffering.{flushed_blocked, flushed_failed, flushed_more, flushed_none}
 use Rattle.stream_driver.specs.Buffers.{buffered_in}
 
 pub loop-self-init : goal.loop-self-init
-loop-self-init g c = flushed_none c.args.self.now
+loop-self-init g c = record { so_far = flushed_none c.args.self.now; short = λ short. short }
 
 pub loop-self-preserved : goal.loop-self-preserved
-loop-self-preserved g c = flushed_more c.loop-self.invariant c.in-Moved.ensures
+loop-self-preserved g c =
+    record {
+      so_far = flushed_more c.loop-self.invariant.so_far c.in-Moved.ensures.wrote;
+      short = λ short. c.in-Moved.ensures.short (c.loop-self.invariant.short short);
+    }
 
 pub returns-in-Blocked : goal.returns-in-Blocked
-returns-in-Blocked g c = flushed_blocked c.loop-self.invariant c.in-Blocked.ensures
+returns-in-Blocked g c =
+    let some : buffered_in c.loop-self.self.buffered ≢ [] = search rules in
+    record {
+      flushed = flushed_blocked c.loop-self.invariant.so_far c.in-Blocked.ensures.wrote;
+      some = λ blocked none. some (sym c.in-Blocked.ensures.wrote.why.0 ∙ none);
+      short = λ short. c.in-Blocked.ensures.short (c.loop-self.invariant.short short);
+    }
 
 pub returns-in-Failed : goal.returns-in-Failed
 returns-in-Failed g c =
     let some : buffered_in c.loop-self.self.buffered ≢ [] = search rules in
-    flushed_failed c.loop-self.invariant some c.in-Failed.ensures
+    record {
+      flushed = flushed_failed c.loop-self.invariant.so_far some c.in-Failed.ensures.wrote;
+      some = λ blocked none. some (sym c.in-Failed.ensures.wrote.why.0 ∙ none);
+      short = λ short. c.in-Failed.ensures.short (c.loop-self.invariant.short short);
+    }

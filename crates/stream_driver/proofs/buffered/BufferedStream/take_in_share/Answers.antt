@@ -18,6 +18,7 @@ returns-then-most-eq0 g c =
       takes = took_none c.args.self.now c.args.from.now;
       why = inl (record { none_left = none_left; inner_is = refl; buffered_is = refl }, refl);
       share = omega arith;
+      short = λ short. short;
     }
 
 pub returns : goal.returns
@@ -31,4 +32,5 @@ returns g c =
       takes = takes_front most (take most c.args.from.now) c.args.from.now refl le c.take_some.ensures.takes;
       why = inr (inr (record { some = some; failed = grind (arith, common_steps) }, c.take_some.ensures.why));
       share = omega arith;
+      short = c.take_some.ensures.short;
     }

@@ -11,6 +11,7 @@ returns-then-is_empty g c =
       takes = takes_on c.in-All.ensures.kept c.in-All.ensures.failed none c.write.ensures.within c.write.ensures.received c.write.ensures.sent
           c.write.ensures.departed;
       why = takes_why g.S.Stream.traffic c.args.self.now c.make_room.new.self c.write.result c.in-All.ensures.why.1 c.write.ensures.answered;
+      short = λ short. c.write.ensures.stays.short (c.in-All.ensures.short short);
     }
 
 pub returns : goal.returns
@@ -24,4 +25,5 @@ returns g c =
         grind (arith, common_steps),
       ) c.put.ensures.bytes;
       why = c.in-All.ensures.why.1;
+      short = c.in-All.ensures.short;
     }
