@@ -77,7 +77,11 @@ def served_pair(chance):
 def judge_copy(pair, found):
     """The tool ended well, and the copy has the map of the data file."""
     expect(found[0] == 0, f"it ended with {found}")
-    expect(map_of(log_of(pair.new)) == map_of(log_of(pair.data)), "the copy has another map")
+    try:
+        copied = map_of(log_of(pair.new))
+    except Damaged as damage:
+        raise Deviation(f"record {damage} of the copy is damaged") from None
+    expect(copied == map_of(log_of(pair.data)), "the copy has another map")
     records, _, sectors, count = check(pair.new)
     expect(found[1] == f"records {records} sectors {sectors} of {count}\n", f"it printed {found[1]!r}, check says {records}, {sectors}, {count}")
 
@@ -359,15 +363,16 @@ def fill(port, keys):
 # Tools with a fault
 
 WRONG = {
-    "a record that is left out": ("            target.append(record)\n", "            if target.log.records % 3:\n                target.append(record)\n"),
-    "an index that isn't its own": ("log.records.to_bytes(8, \"big\")", "record.index.to_bytes(8, \"big\")"),
-    "a digest of the other log": ("log.digest = hashlib.sha256(log.digest + index + record.payload).digest()", "log.digest = record.digest"),
+    "a record that is left out": ("            target.append(payload)\n", "            if target.log.records % 3:\n                target.append(payload)\n"),
+    "an index that isn't its own": ("pack(len(payload), log.records)", "pack(len(payload), log.records + 1)"),
+    "a digest without those before it": ("hashlib.sha256(log.digest + numbers[4:] + payload)", "hashlib.sha256(numbers[4:] + payload)"),
 }
+OTHER_BYTES = ("write(self.file, data, SECTOR", "write(self.file, data[:-1] + b\"\\1\", SECTOR")
 NO_CATCH_UP = '    line=$(ssikvd-follow --once --state "$data.new.state" "$data" "$data.new") || {'
 WRONG_COMPACTIONS = {
     "a copy that is taken as it is": (NO_CATCH_UP, NO_CATCH_UP.replace('ssikvd-follow --once --state "$data.new.state" "$data"', "ssikvd-used")),
-    "a place that is noted too late": ("    roomy_file\n    line=$(in_time", '    roomy_file\n    sleep 0.1\n    rm "$data.new.state"\n'
-                                       '    ssikvd-follow --state "$data.new.state" "$data"\n    line=$(in_time'),
+    "a place that is noted too late": ('    follow\n    "$program" check', '    sleep 0.1\n    rm "$data.new.state"\n'
+                                       '    ssikvd-follow --state "$data.new.state" "$data"\n    follow\n    "$program" check'),
 }
 
 
@@ -377,6 +382,13 @@ def wrong_tools(tally):
             script = planted(place, "ssikvd-follow", *texts)
             shutil.copy(os.path.join(DIST, "ssikvd-verify"), place)
             expect(any(is_refused(judge_wrong, seed, script) for seed in range(4)), f"{name} was not reported")
+    with tally.run("other bytes than were written are found by the tool itself"), folder() as place:
+        script = planted(place, "ssikvd-follow", *OTHER_BYTES)
+        shutil.copy(os.path.join(DIST, "ssikvd-verify"), place)
+        with served_pair(random.Random(1)) as (pair, port):
+            pair.copy(port, 3, behind=3)
+            found = pair.follow(pair.data, pair.new, script=script)
+            expect(found[0] == 2 and "what was appended isn't there" in found[2], f"it ended with {found}")
     for name, texts in WRONG_COMPACTIONS.items():
         with tally.run(f"{name} is reported"), in_memory() as place:
             expect(is_refused(judge_load, place, planted(place, "ssikvd-compact", *texts)), f"{name} was not reported")
