@@ -7,7 +7,7 @@ FROM ${BASE}
 RUN apt-get update && apt-get install -y --no-install-recommends iproute2 python3 tini && rm -rf /var/lib/apt/lists/* \
     && install -d -m 700 -o 65534 -g 65534 /data
 COPY bin/ssikvd dist/ssikvd-before dist/ssikvd-compact dist/ssikvd-export dist/ssikvd-follow dist/ssikvd-load dist/ssikvd-probe dist/ssikvd-restore \
-    dist/ssikvd-salvage dist/ssikvd-ship dist/ssikvd-stat dist/ssikvd-used dist/ssikvd-verify dist/ssikvd-why /usr/local/bin/
+    dist/ssikvd-salvage dist/ssikvd-ship dist/ssikvd-stat dist/ssikvd-used dist/ssikvd-verify dist/ssikvd-watch dist/ssikvd-why /usr/local/bin/
 VOLUME /data
 EXPOSE 7777
 USER 65534

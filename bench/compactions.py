@@ -1,13 +1,16 @@
 #!/usr/bin/env python3
-"""For how long clients aren't served while a data file is compacted, and how fast one is verified: what bench/sizing.py computes with.
+"""For how long clients aren't served while a data file is compacted, and how fast its gates are gone over and a copy follows it: what
+bench/sizing.py computes with.
 
     bench/compactions.py [--program PROGRAM] [--keys N].. [--runs R] [--out FILE]
 
 A server over N keys of 9 bytes with values of 100, 64 keys a record, in a folder in memory. One client commits 80 times a second, and connects again
 as soon as it can. Meanwhile dist/ssikvd-compact stops the server, swaps the files and starts it again. The figure is the longest time from one
-answered commit to the next, without the distance of two. Then ssikvd-verify reads a log of 100,000 commits of one key. Needs Python 3 and flock.
+answered commit to the next, without the distance of two. Then ssikvd-verify reads the gates of a log of 100,000 commits of one key, and all of it, and
+ssikvd-follow appends them to another log. Needs Python 3 and flock.
 """
 import contextlib
+import json
 import os
 import subprocess
 import sys
@@ -117,12 +120,20 @@ def compaction(options, folder, keys):
     return client.longest() - EACH_SECONDS, whole
 
 
-def rate_of_verifying(folder):
-    path = os.path.join(folder, "small")
-    write_log(path, small_commits(COMMITS, 10_000, 100))
+def rate_of(tool, *words):
+    """Small records that a tool goes over in a second."""
     begun = time.monotonic()
-    run([os.path.join(TOOLS, "ssikvd-verify"), path])
-    return COMMITS / (time.monotonic() - begun)
+    run([os.path.join(TOOLS, tool), *words])
+    return round(COMMITS / (time.monotonic() - begun))
+
+
+def rate_of_following(folder, path):
+    """Of a log whose beginning is the noted place, and an empty one."""
+    copy, state, begin = os.path.join(folder, "copy"), os.path.join(folder, "state"), {"place": 1, "records": 0, "last": 0, "digest": "0" * 64}
+    write_log(copy, [], free_sectors=os.path.getsize(path) // 512)
+    with open(state, "w", encoding="ascii") as file:
+        json.dump({"data": begin}, file)
+    return rate_of("ssikvd-follow", "--once", "--state", state, path, copy)
 
 
 def main():
@@ -141,8 +152,12 @@ def main():
         print(row)
         found["rows"].append(row)
     with tempfile.TemporaryDirectory(prefix="ssikvd-compactions-", dir=options.folder) as folder:
-        found["verified_a_second"] = [round(rate_of_verifying(folder)) for _ in range(options.runs)]
-    print(f"small records that are verified a second: {found['verified_a_second']}")
+        path = os.path.join(folder, "small")
+        write_log(path, small_commits(COMMITS, 10_000, 100))
+        found["gates_a_second"] = [rate_of("ssikvd-verify", "--gates", path) for _ in range(options.runs)]
+        found["verified_a_second"] = [rate_of("ssikvd-verify", path) for _ in range(options.runs)]
+        found["followed_a_second"] = [rate_of_following(folder, path) for _ in range(options.runs)]
+    print(", ".join(f"{name}: {found[name]}" for name in found if name.endswith("_a_second")))
     write_results(options.out, found)
 
 

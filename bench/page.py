@@ -286,8 +286,12 @@ def most_commits():
     return rounded(max(it["rate"] for (work, _, server, _), it in throughput().items() if (work, server) == ("write", "ssikvd")))
 
 
-def verified_a_second():
-    return float(f"{median(read('compactions')['verified_a_second']):.2g}")
+def gates_a_second():
+    return float(f"{median(read('compactions')['gates_a_second']):.2g}")
+
+
+def followed_a_second():
+    return float(f"{median(read('compactions')['followed_a_second']):.2g}")
 
 
 def read_a_second():
@@ -314,10 +318,11 @@ QUOTED = (
     ("docs/PERFORMANCE.md", r"writes and two syncs of a commit take ([\d.]+) ms", lambda: [two_syncs_ms()]),
     ("docs/OPERATIONS.md", r"A disk that took ([\d.]+) milliseconds to write a small record with its two syncs gave ([\d,]+) commits", lambda: [
         two_syncs_ms(), rate_of("BEGIN, SET, COMMIT, 16 connections, one request at a time", "the device, two syncs")]),
-    ("docs/OPERATIONS.md", r"takes any rate that was measured, up to ([\d,]+) a second", lambda: [most_commits()]),
+    ("docs/OPERATIONS.md", r"takes any rate that was measured over a disk, up to ([\d,]+) a second", lambda: [most_commits()]),
     ("docs/OPERATIONS.md", r"A million keys took ([\d.]+) seconds, and 100,000 commits of one key ([\d.]+) seconds", lambda: [
         opening_s(1_000_000), rounded(100_000 / read_a_second())]),
-    ("docs/OPERATIONS.md", r"verified, at ([\d,]+) small records a second", lambda: [f"{verified_a_second():,.0f}"]),
+    ("docs/OPERATIONS.md", r"gone over, at ([\d,]+) small records a second", lambda: [f"{gates_a_second():,.0f}"]),
+    ("docs/OPERATIONS.md", r"the copy has followed, at (\d[\d,]*\d)", lambda: [f"{followed_a_second():,.0f}"]),
     ("docs/OPERATIONS.md", r"served for ([\d.]+) seconds in a compaction of 100,000 keys, and for ([\d.]+) in one of a million", lambda: [
         f"{stopped_s()[keys]:.1f}" for keys in (100_000, 1_000_000)]),
     ("docs/OPERATIONS.md", r"A million keys take ([\d.]+) to ([\d.]+) seconds", lambda: sorted(

@@ -1,39 +1,52 @@
-"""Looks at a log that fills, as the timer of `ssikvd-compact` makes them, on a clock that runs faster: a full log is never met.
+"""Looks at a log that fills, as the timer of `ssikvd-compact` makes them, and `ssikvd-watch` between two of them: a full log is never met.
 
-Clients write as fast as the program answers them. A minute is over once they have filled 10 of 100 sectors, and a tenth of that is filled while
-a look is under way; then they fill 60 of 100 in a minute, then 80. By the rate each look compacts, also the first one after a compaction, and no
-COMMIT is answered `FULL log`. Each that was acknowledged is there at the end. So it is at the highest rate over a disk, where a look comes before the file
-could be full, as each minute where the largest file is served. By the fill alone the looks before the rise do nothing, and it is met.
-What a look says after few and after many commits, and after a compaction, is what the rule asks for.
+Clients write as fast as the program answers them. On a clock that runs faster a minute is over once they have filled 10 of 100 sectors, and a tenth
+of that is filled while a look is under way; then they fill 60 of 100 in a minute, then 80. By the rate each look compacts, also the first one after a
+compaction, and no COMMIT is answered `FULL log`. Each that was acknowledged is there at the end. By the fill alone the looks before the rise do
+nothing, and it is met. What a look says after few and after many commits, and after a compaction, is what the rule asks for.
+
+`ssikvd-watch` ends where its rule asks for it, over logs that grow, stand still, are replaced, absent or damaged, and where a compaction has failed,
+on a clock of the harness's. Tools with a planted fault are reported. In the long form the largest file is served from memory, with small commits as
+fast as the program can, and with the largest at a quarter of that, while the timer's looks and the watch begin compactions as their units do: no full
+log is met. It is met where the watch begins too late.
 """
 import contextlib
+import json
 import math
 import os
 import re
 import socket
+import subprocess
 import threading
 import time
+from types import ModuleType
 
 from ssikvd_harness.arguments import is_long, run_harness
 from ssikvd_harness.cases import Harness
-from ssikvd_harness.deviations import expect
+from ssikvd_harness.deviations import expect, is_refused
+from ssikvd_harness.examples import simple_client
 from ssikvd_harness.frames import frame
-from ssikvd_harness.log_format import log_of, map_of
-from ssikvd_harness.server import check, create
-from ssikvd_harness.settings import PATIENCE, PROGRAM
-from ssikvd_harness.tools import DIST, in_memory, tool
+from ssikvd_harness.limits import VALUE_MAX, WRITES_MAX
+from ssikvd_harness.log_format import log_image, log_of, map_of
+from ssikvd_harness.server import check, create, folder
+from ssikvd_harness.settings import PATIENCE, PROGRAM, text_of
+from ssikvd_harness.tools import DIST, ENVIRONMENT, in_memory, loaded, tool
 from ssikvd_harness.trials import Trial
 
 CLIENTS, AT_ONCE = 4, 16
+BEGIN, COMMIT, FULL = frame("BEGIN"), frame("COMMIT"), b"-FULL log\r\n"
 
 
 class Load:
     """Clients of which each counts in a key of its own, some transactions at once, and comes again where its connection is lost. Together they
-    begin no more transactions than they are allowed, or than this many a second; one that had to wait doesn't catch up."""
+    begin no more transactions than they are allowed, or than this many a second; one that had to wait doesn't catch up. Each transaction also sets
+    this many further keys, to values of the longest size."""
 
-    def __init__(self, port, rate=0):
+    def __init__(self, port, further=0, rate=0.0):
         self.rate, self.since = rate, time.monotonic()
         self.port, self.is_over, self.lock = port, threading.Event(), threading.Lock()
+        self.further = [b"".join(frame("SET", f"client {number} {key}", b"v" * VALUE_MAX) for key in range(further)) for number in range(CLIENTS)]
+        self.replies, self.at_once = 3 + further, 1 if further else AT_ONCE
         self.acknowledged, self.full, self.other = [0] * CLIENTS, 0, set()
         self.begun = self.allowed = 0
         self.threads = [threading.Thread(target=self._work, args=(number,), daemon=True) for number in range(CLIENTS)]
@@ -45,18 +58,18 @@ class Load:
     def wait(self):
         """Waits until they have begun."""
         end = time.monotonic() + 3 * PATIENCE
-        while self.begun + AT_ONCE <= self.allowed and time.monotonic() < end:
+        while self.begun + self.at_once <= self.allowed and time.monotonic() < end:
             time.sleep(0.002)
 
     def _take(self):
         with self.lock:
             if self.rate:
                 now = time.monotonic()
-                self.allowed = min(self.allowed + self.rate * (now - self.since), self.begun + self.rate / 10)
+                self.allowed = min(self.allowed + self.rate * (now - self.since), self.begun + max(self.rate / 10, 1.0))
                 self.since = now
-            if self.begun + AT_ONCE > self.allowed:
+            if self.begun + self.at_once > self.allowed:
                 return False
-            self.begun += AT_ONCE
+            self.begun += self.at_once
             return True
 
     def __enter__(self):
@@ -83,15 +96,16 @@ class Load:
             time.sleep(0.002)
             return True
         first = self.acknowledged[number] + 1
-        requests = [frame("BEGIN") + frame("SET", f"client {number}", str(value)) + frame("COMMIT") for value in range(first, first + AT_ONCE)]
+        last = first + self.at_once
+        requests = [BEGIN + frame("SET", f"client {number}", str(value)) + self.further[number] + COMMIT for value in range(first, last)]
         connection.sendall(b"".join(requests))
-        for value in range(first, first + AT_ONCE):
-            replies = [lines.readline() for _ in range(3)]
-            if not replies[2].endswith(b"\n"):
+        for value in range(first, last):
+            reply = [lines.readline() for _ in range(self.replies)][-1]
+            if not reply.endswith(b"\n"):
                 return False
-            if replies[2].startswith(b"-"):
-                self.full += replies[2] == b"-FULL log\r\n"
-                self.other |= {replies[2]} - {b"-FULL log\r\n"}
+            if reply.startswith(b"-"):
+                self.full += reply == FULL
+                self.other |= {reply} - {FULL}
                 return True
             self.acknowledged[number] = value
         return True
@@ -109,6 +123,18 @@ class Looks:
         starts = ["--stop", self.trial.bin + "/stops", "--start", self.trial.bin + "/starts"]
         return tool("ssikvd-compact", *starts, "--above", "50", "--within", str(within), "--state", self.state, *words, self.trial.data,
                     seconds=6 * PATIENCE)
+
+    def watch(self, above, seconds):
+        """Waits as long for `ssikvd-watch`: has it ended?"""
+        words = ["ssikvd-watch", "--above", str(above), "--state", self.state, self.trial.data]
+        with subprocess.Popen(words, stdout=subprocess.DEVNULL, stderr=subprocess.PIPE, env=ENVIRONMENT) as process:
+            try:
+                process.wait(max(seconds, 0.0))
+            except subprocess.TimeoutExpired:
+                process.kill()
+                return False
+            expect(process.returncode == 0, f"ssikvd-watch ended with {process.returncode}: {process.stderr.read()}")
+            return True
 
 
 @contextlib.contextmanager
@@ -158,34 +184,53 @@ def keeps_up(tally):
         expect(load.full > 0, "no full log was met")
 
 
-# So many commits a second are the most that was measured over a disk; a file of 2 GiB is full in 2.4 minutes then. (In memory there are three times as
-# many: then the largest file lasts for less than the minute between two looks.)
-HIGHEST, LARGE, PACE = 14_400, 262_144, 2.4
+# The default size, which is the largest. Looks come each minute, a watch begins again a second after a compaction.
+LARGE, MINUTE, AGAIN = 4_194_304, 60.0, 1.0
+COMPACTIONS = 12
+LARGEST_SHARE = 0.25    # of the highest rate of commits of 1 MiB, what is sustained
 
 
-def highest_rate():
-    """Looks while clients write at the highest rate over a disk, at the pace at which a minute's looks come where the largest file is served:
-    the load, the seconds between two looks, and what the compactions said."""
-    with looks_at(LARGE) as looks, Load(looks.trial.port, HIGHEST) as load:
-        looks.look(within=0)
-        first, begun = check_used(looks.trial.data), time.monotonic()
-        time.sleep(1.0)
-        interval = LARGE / ((check_used(looks.trial.data) - first) / (time.monotonic() - begun)) / PACE
-        said = []
-        for turn in range(1, 25):
-            status, out, err = looks.look(within=math.ceil(10 * interval))
-            expect(status == 0 and not err, f"a look ended with {status}: {out}{err}")
-            said.append(out)
-            time.sleep(max(begun + turn * interval - time.monotonic(), 0.0))
-        load.allow(0)
-        looks.trial.stop()
-        judge_kept(load, map_of(log_of(looks.trial.data)))
-        return load, interval, said
+def highest_rate(further, above=50, compactions=COMPACTIONS, share=1):
+    """The timer's looks and the watch, as their units begin them, over the largest file in memory, while clients write as fast as they are
+    answered, or at a share of that: the load, its rate, and what the compactions said."""
+    with looks_at(LARGE) as looks:
+        limit = share * measured_rate(looks.trial.port, further) if share < 1 else 0.0
+        with Load(looks.trial.port, further, limit) as load:
+            load.allow(0 if limit else 1 << 60)
+            said, begun = [], time.monotonic()
+            next_look = begun + MINUTE
+            while sum(": compaction\n" in out for out in said) < compactions and not load.full:
+                looks.watch(above, next_look - time.monotonic())
+                if time.monotonic() >= next_look:
+                    next_look += MINUTE
+                status, out, err = looks.look(within=600)
+                expect(status == 0 and not err, f"a look ended with {status}: {out}{err}")
+                said.append(out)
+                time.sleep(AGAIN)
+            rate = sum(load.acknowledged) / (time.monotonic() - begun)
+        judge_kept(load, found_in(looks.trial))
+        return load, rate, said
 
 
-def check_used(data):
-    """The sectors of a served log that are used."""
-    return int(re.search(r"sectors (\d+) of", tool("ssikvd-used", data)[1])[1])
+def measured_rate(port, further):
+    """The highest rate of such commits, over some seconds."""
+    with Load(port, further) as load:
+        load.allow(1 << 60)
+        time.sleep(5.0)
+        return sum(load.acknowledged) / 5.0
+
+
+def found_in(trial):
+    """The counters of the clients, as a server has them that reads the file again."""
+    trial.stop()
+    trial.start()
+    store = simple_client.Client(trial.port)
+    found = {}
+    for key in (b"client %d" % number for number in range(CLIENTS)):
+        store.transact(lambda store, key=key: found.update({key: store.ask("GET", key) or 0}))
+    store.close()
+    trial.stop()
+    return found
 
 
 def judge_kept(load, found):
@@ -195,13 +240,17 @@ def judge_kept(load, found):
 
 
 def keeps_up_at_once(tally):
-    with tally.run("the highest rate"):
-        load, interval, said = highest_rate()
-        count = sum(": compaction\n" in out for out in said)
-        beside = sum("copied while the server ran" in out for out in said)
-        print(f"  {sum(load.acknowledged)} commits, {count} compactions, {beside} while the server ran, a look each {interval:.1f} s", flush=True)
-        expect(load.full == 0, f"{load.full} commits met a full log: {said}")
-        expect(count > 10, f"it was compacted {count} times")
+    """The highest rate of small commits. Of those of 1 MiB it is what docs/OPERATIONS.md calls sustained: `compact` reads them hardly faster than a
+    server writes them."""
+    for name, further, share in (("small commits", 0, 1), ("the largest commits", WRITES_MAX - 1, LARGEST_SHARE)):
+        with tally.run(f"the highest rate of {name}"):
+            load, rate, said = highest_rate(further, share=share)
+            beside = sum("copied while the server ran" in out for out in said)
+            print(f"  {name}: {sum(load.acknowledged)}, {rate:.0f} a second, {beside} compactions begun while the server ran", flush=True)
+            expect(load.full == 0, f"{load.full} commits met a full log: {said}")
+            expect(beside >= COMPACTIONS, f"it was compacted {beside} times")
+    with tally.run("a watch that begins too late is reported"):
+        expect(highest_rate(0, above=99, compactions=2)[0].full > 0, "no full log was met")
 
 
 def rule(tally):
@@ -232,10 +281,180 @@ def rule(tally):
             expect(due(0, 0), "it isn't compacted")
 
 
+# The watch, on a clock of the harness's
+
+WATCHED = 1_000    # sectors
+
+
+class Over(Exception):
+    """The watch hasn't ended when its time was over."""
+
+
+class Clock:
+    """What the watch takes for the time. In each pause the next of some steps is done."""
+
+    def __init__(self, steps):
+        self.steps, self.now, self.day, self.pauses = list(steps), 1_000.0, 1e9, []
+
+    def monotonic(self):
+        return self.now
+
+    def time(self):
+        return self.day
+
+    def sleep(self, seconds):
+        self.now, self.day = self.now + seconds, self.day + seconds
+        self.pauses.append(seconds)
+        if not self.steps:
+            raise Over
+        self.steps.pop(0)(self)
+
+
+def grown(data, records, first=b"0"):
+    """A step after which the log has this many records of two sectors. That of another first value is another log."""
+    def step(_):
+        with open(data, "wb") as file:
+            file.write(log_image([[(b"a", first)], *[[(b"a", b"1")]] * (records - 1)], WATCHED))
+    return step
+
+
+def changed_watch(right="", wrong=""):
+    """The watch as a module, with one text in the place of another."""
+    text = text_of(os.path.join("dist", "ssikvd-watch"))
+    expect(not right or text.count(right) == 1, f"{right!r} stands {text.count(right)} times in ssikvd-watch")
+    module = ModuleType("watch")
+    module.__file__ = os.path.join(DIST, "ssikvd-watch")
+    exec(compile(text.replace(right, wrong) if right else text, module.__file__, "exec"), module.__dict__)
+    return module
+
+
+def after_steps(module, data, state, steps):
+    """After how many seconds the watch ends, and how many sectors are used then, or None where it doesn't end while these steps are done; and what it
+    says."""
+    module.time, said = Clock(steps), []
+    watch = module.Watch(data, state)
+    watch.say = lambda text: said.extend([text] if text else [])
+    try:
+        used = watch.wait(50, 120)[0]
+    except Over:
+        used = None
+    return sum(module.time.pauses), used, said
+
+
+def set_back(state, seconds):
+    """A step after which the last look is this many seconds older."""
+    def step(_):
+        with open(state, encoding="utf-8") as file:
+            found = json.load(file)
+        for value in found.values():
+            value["time"] -= seconds
+        with open(state, "w", encoding="utf-8") as file:
+            json.dump(found, file)
+    return step
+
+
+def set_clock(seconds):
+    def step(clock):
+        clock.day += seconds
+    return step
+
+
+def nothing(_):
+    pass
+
+
+def both(*steps):
+    def step(clock):
+        for one in steps:
+            one(clock)
+    return step
+
+
+def forget(state):
+    with contextlib.suppress(FileNotFoundError):
+        os.remove(state)
+
+
+def judge_watch(module):
+    """What the watch does over each kind of log."""
+    with folder() as place:
+        data, state = os.path.join(place, "data"), os.path.join(place, "state")
+
+        def expect_end(what, due, *steps):
+            found = after_steps(module, data, state, steps)
+            expect(found == due, f"{what}: it gives {found}, expected {due}")
+
+        few, half, more = grown(data, 10), grown(data, 251), grown(data, 260)
+        few(None)
+        expect_end("a log that isn't half full", (4, None, []), grown(data, 100), grown(data, 249), grown(data, 249))
+        half(None)
+        expect_end("a log that doesn't grow", (3, None, []), nothing, nothing)
+        expect_end("one that is full in four minutes", (3, None, []), grown(data, 252), nothing)
+        expect_end("one that does so while the clock is set back", (2, None, []), both(set_clock(-0.99), grown(data, 253)))
+        expect_end("one that is half full and grows", (1, 522, []), both(set_clock(3_600), more))
+        expect_end("that one again", (3, None, []), both(set_clock(3_600), grown(data, 270)), grown(data, 280))
+        expect_end("that one, a minute later", (1, 582, []), both(set_back(state, 61), set_clock(3_600), grown(data, 290)))
+        expect_end("that one, once the clock was set", (1, 622, []), both(set_clock(-7_200), grown(data, 310)))
+        half(None)
+        expect_end("another log than the one that was reported", (1, 522, []), both(set_clock(-7_200), more))
+        forget(state)
+        few(None)
+        expect_end("another log", (3, None, []), grown(data, 300, b"2"), grown(data, 300, b"3"))
+        few(None)
+        expect_end("another log that grows", (2, 642, []), grown(data, 300, b"2"), grown(data, 320, b"2"))
+        forget(state)
+        os.remove(data)
+        expect_end("an absent file", (3, 504, [f"{data}: No such file or directory"] * 2), nothing, few, half)
+        forget(state)
+        few(None)
+        with open(data, "r+b") as file:
+            file.seek(2 * 512)
+            file.write(b"\xff")
+        expect_end("a damaged file", (61, 504, [f"{data}: damaged record 0"]), few, half)
+        forget(state)
+        half(None)
+        os.mkdir(state)
+        expect_end("a state that can't be written", (1, 522, [f"no state in {state}: Is a directory"]), more)
+
+
+WRONG_WATCHES = {
+    "a rate between two logs": ("if is_same and before is not None", "if before is not None"),
+    "a log that isn't half full": ("if 100 * count > above * sectors and ", "if "),
+    "a log that lasts": ("sectors - count < within * rate", "rate"),
+    "a compaction that has failed": (" and not self.has_failed()", ""),
+    "a compaction of another log": ("return log.goes_on(*used.end_of(found))", "return True"),
+    "a clock of the day": ("before, self.at = self.at, time.monotonic()", "before, self.at = self.at, time.time()"),
+    "a damaged file that is read each second": ("self.at, pause = None, AGAIN", "self.at = None"),
+    "no state": ("                    self.keep()\n", ""),
+}
+
+
+def watches(tally):
+    """What `ssikvd-watch` does, and what it reads at its start."""
+    with tally.run("the watch"):
+        judge_watch(changed_watch())
+    for name, texts in WRONG_WATCHES.items():
+        with tally.run(f"a watch with a fault, {name}, is reported"):
+            expect(is_refused(judge_watch, changed_watch(*texts)), "it was not reported")
+    with tally.run("a watch that begins reads new gates alone"), folder() as place:
+        data, state = os.path.join(place, "data"), os.path.join(place, "state")
+        with open(data, "wb") as file:
+            file.write(log_image([[(b"a", b"1" * 10_000)]] * 2_000, 65_536))
+        read = loaded("ssikvd-used")
+        tool("ssikvd-used", "--state", state, data)
+        counted, own = [], read.os.pread
+        read.os.pread = lambda *words: counted.append(len(own(*words))) or own(*words)
+        try:
+            read.read(data, read.load(state)[data])
+        finally:
+            read.os.pread = own
+        expect(sum(counted) < 1 << 20, f"it reads {sum(counted)} bytes")
+
+
 class LooksOfTheTimer(Harness):
     NAME = "looks"
     NEEDS = (PROGRAM,)
-    PARTS = (rule, keeps_up)
+    PARTS = (rule, watches, keeps_up)
     PARTS_OF_LONG = (keeps_up_at_once,)
 
 

@@ -3,8 +3,8 @@
 The machine is booted by systemd-nspawn from a copy of this system that is thrown away: what is written goes to a folder of its own, it has a network
 of its own, and of the units that are enabled here it starts none. The package is built, installed, upgraded, removed and purged there. Between these
 a server is started, killed, started twice and found again after the machine was killed; started without its file, over a damaged file and one that is
-full; compacted and shipped by the timers while clients write, compacted on a full disk and killed while it is compacted, and restored. A server that
-an operator stopped stays stopped. Each commit that was acknowledged must be there. Finally, units with a planted fault are shown to the same judges.
+full; compacted and shipped by the timers while clients write, and by the watch between their looks, compacted on a full disk and killed while it is
+compacted, and restored. A server that an operator stopped stays stopped. Each commit that was acknowledged must be there. Finally, units with a planted fault are shown to the same judges.
 
 It has no quick form. It needs root, systemd-nspawn (Debian's systemd-container), debhelper and an overlay file system, and says what it lacks.
 """
@@ -181,7 +181,7 @@ def install(machine, deb):
     machine.installed(deb)
     expect(machine.done("stat", "-c", "%U %G %a", FOLDER).strip() == "ssikvd ssikvd 700", "the folder is another's")
     known = dict(line.split()[:2] for line in machine.done("systemctl", "list-unit-files", "--no-legend", "ssikvd*").splitlines())
-    expect(len(known) == 8 and set(known.values()) == {"static", "disabled"}, f"it knows {known}")
+    expect(len(known) == 9 and set(known.values()) == {"static", "disabled"}, f"it knows {known}")
     expect(not machine.done("systemctl", "list-units", "--no-legend", "ssikvd*").strip(), "something was started")
 
 
@@ -305,7 +305,7 @@ def machine_killed(machine):
     machine.boot()
     wait_for(lambda: machine.run("ssikvd-probe", f"127.0.0.1:{PORTS['shop']}")[0] == 0, "it isn't served once the machine was booted", SLOWLY)
     committed(machine, "shop", 61, 62)
-    expect(machine.is_active("ssikvd-compact@shop.timer"), "its timer isn't active")
+    expect(machine.is_active("ssikvd-compact@shop.timer") and machine.is_active(WATCH), "its timer isn't active, or the watch")
 
 
 # Timers, compactions, backups
@@ -338,8 +338,30 @@ def is_told(machine, begun):
 KILLS = 6
 
 
-# The units of a compaction. The second is started by the first, and stops the server.
-LOOKS, SWAPS = "ssikvd-compact@shop", "ssikvd-swap@shop"
+# The units of a compaction. The second is started by the first, and stops the server. The third starts the first.
+LOOKS, SWAPS, WATCH = "ssikvd-compact@shop", "ssikvd-swap@shop", "ssikvd-watch@shop"
+
+
+def watched(machine):
+    """Without the timer's looks the watch begins a compaction, while clients write, and again after it was killed. It ends and starts with the timer."""
+    machine.changed("ssikvd-compact@shop.timer", "[Timer]\nOnCalendar=\nOnCalendar=2100-01-01\n")
+    machine.done("systemctl", "stop", "ssikvd-compact@shop.timer")
+    wait_for(lambda: not machine.is_active(WATCH), "the watch goes on without the timer", SLOWLY)
+    machine.done("systemctl", "start", "ssikvd-compact@shop.timer")
+    wait_for(lambda: machine.is_active(WATCH), "the timer doesn't start the watch", SLOWLY)
+    old = machine.path(FOLDER + "shop.data.old")
+    with writers(PORTS["shop"], 0.0, 40) as load:
+        for _ in range(2):
+            begun = time.time()
+            wait_for(lambda since=begun: os.path.exists(old) and os.path.getctime(old) > since and has_ended(machine, SWAPS),
+                     "the watch begins no compaction", 2 * SLOWLY, 0.5)
+            wait_for(lambda: machine.is_active("ssikvd@shop"), "it isn't served after a compaction", SLOWLY)
+            machine.run("systemctl", "kill", "--signal=KILL", WATCH)
+    judge_kept(load, machine.contents("shop"))
+    wait_for(lambda: machine.is_active(WATCH), "the watch isn't started again", SLOWLY)
+    os.remove(machine.path("/etc/systemd/system/ssikvd-compact@shop.timer.d/harness.conf"))
+    machine.done("systemctl", "daemon-reload")
+    machine.done("systemctl", "restart", "ssikvd-compact@shop.timer")
 
 
 def compactions(machine):
@@ -487,6 +509,7 @@ WRONG = {
     "a compaction without an end where all was killed": ("ssikvd-swap@.service", "OnFailure=ssikvd@%i.service\n", "", compactions),
     "a compaction of a server that was stopped": ("ssikvd-swap@.service", "+systemctl is-active --quiet", "+systemctl cat", stopped_by_hand),
     "a compaction that doesn't look": ("ssikvd-compact@.service", "ssikvd-compact --part prepare", "true", full_disk),
+    "a watch that begins nothing": ("ssikvd-watch@.service", " systemctl start ", " systemctl cat ", watched),
 }
 
 
@@ -514,7 +537,7 @@ def wrong_units(tally, machine):
 PARTS = (
     ("the first start", first_start), ("a kill", killed), ("a second start", started_twice), ("a missing file", missing_file),
     ("a damaged file", damaged_file), ("a full file", full_file), ("a machine that is killed", machine_killed), ("the timers", timers),
-    ("compactions", compactions), ("a server that is stopped by hand", stopped_by_hand), ("a backup and its restore", shipped_and_restored),
+    ("the watch", watched), ("compactions", compactions), ("a server that is stopped by hand", stopped_by_hand), ("a backup and its restore", shipped_and_restored),
     ("a full disk", full_disk), ("a disk that isn't mounted", unmounted_folder))
 
 

@@ -60,9 +60,10 @@ def judge_unit(unit: str) -> None:
 
 def judge_user(text: str) -> None:
     """A unit runs as the service's user, and what it runs with root's rights is systemctl, or a case that calls it."""
+    case = r"sh -c 'case \S+ in [\w-]+\)(| ;; \*\))( systemctl [^;|&]*;)+; esac'"
     expect("\nUser=ssikvd\n" in text, "it runs as root")
     for line in re.findall(r"(?m)^Exec\w+=[-@:]*[+!]+[-@:]*(.*)$", text):
-        expect(re.fullmatch(r"systemctl [^;|&]*|sh -c 'case \S+ in [\w-]+\) ;; \*\)( systemctl [^;|&]*;)+; esac'", line), f"root runs {line}")
+        expect(re.fullmatch(rf"systemctl [^;|&]*|{case}", line), f"root runs {line}")
 
 
 def judge_score(unit: str) -> None:
