@@ -350,11 +350,15 @@ def watched(machine):
     machine.done("systemctl", "start", "ssikvd-compact@shop.timer")
     wait_for(lambda: machine.is_active(WATCH), "the timer doesn't start the watch", SLOWLY)
     old = machine.path(FOLDER + "shop.data.old")
+
+    def is_compacted(load, since):
+        expect(all(writer.is_alive() for writer in load), "a commit met a full log")
+        return os.path.exists(old) and os.path.getctime(old) > since and has_ended(machine, SWAPS)
+
     with writers(PORTS["shop"], 0.0, 40) as load:
         for _ in range(2):
             begun = time.time()
-            wait_for(lambda since=begun: os.path.exists(old) and os.path.getctime(old) > since and has_ended(machine, SWAPS),
-                     "the watch begins no compaction", 2 * SLOWLY, 0.5)
+            wait_for(lambda since=begun: is_compacted(load, since), "the watch begins no compaction", 4 * SLOWLY, 0.5)
             wait_for(lambda: machine.is_active("ssikvd@shop"), "it isn't served after a compaction", SLOWLY)
             machine.run("systemctl", "kill", "--signal=KILL", WATCH)
     judge_kept(load, machine.contents("shop"))
