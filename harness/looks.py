@@ -331,14 +331,20 @@ def changed_watch(right="", wrong=""):
 def after_steps(module, data, state, steps):
     """After how many seconds the watch ends, and how many sectors are used then, or None where it doesn't end while these steps are done; and what it
     says."""
-    module.time, said = Clock(steps), []
+    module.time, said, before = Clock(steps), [], descriptors_of()
     watch = module.Watch(data, state)
     watch.say = lambda text: said.extend([text] if text else [])
     try:
         used = watch.wait(50, 120)[0]
     except Over:
         used = None
+    expect(descriptors_of() == before, "it leaves a file open")
     return sum(module.time.pauses), used, said
+
+
+def descriptors_of():
+    """How many descriptors this process has."""
+    return len(os.listdir("/proc/self/fd"))
 
 
 def set_back(state, seconds):
@@ -425,6 +431,7 @@ WRONG_WATCHES = {
     "a compaction of another log": ("return log.goes_on(*used.end_of(found))", "return True"),
     "a clock of the day": ("before, self.at = self.at, time.monotonic()", "before, self.at = self.at, time.time()"),
     "a damaged file that is read each second": ("self.at, pause = None, AGAIN", "self.at = None"),
+    "a file that stays open": ("with used.Log(self.name) as log:\n            is_same", "if log := used.Log(self.name):\n            is_same"),
     "no state": ("                    self.keep()\n", ""),
 }
 
