@@ -348,7 +348,7 @@ def pictures(tally):
 # Constants of the code, each with how documents say it: `#` stands for the number.
 CONSTANTS = (
     ("versions/src/reclaiming.rt", "LISTS_A_STEP", "looks at # (?:of the )?lists|(?:collects|looks at) what # commits"),
-    ("merging_runs/src/runs.rt", "GIVEN_BACK_MAX", "frees # written keys|freed, # keys at each end|does # of (?:the|that) work"),
+    ("merging_runs/src/runs.rt", "FREED_MAX", "frees # written keys|freed, # keys at each end|does # of (?:the|that) work"),
     ("merging_runs/src/runs.rt", "MOVES_EACH", "by # (?:keys |steps )?for each (?:key|step|written key)"),
     ("merging_runs/src/runs.rt", "MOVES_MORE", "for each (?:key that it wrote|written key|step of its marks) and #"),
     ("pivot_check/src/merges.rt", "MERGED_MAX", "merged, up to # keys|(?:of|has) # keys at most"),
@@ -508,7 +508,7 @@ def sealed(tally):
             + [f"opened/OpenedFile/{name}" for name in ("make", "open", "open_to_read", "length", "sync_directory", "advise", "drop_copies")]
             + ["opened/is_link", "opened/without_links"]),
         ("socket_calls", "event_loop",
-            "fault|receive|send|send_at_once|ask_whether_there|register|reregister|end_writing|wait|listen|accept|accepts_told|address",
+            "fault|receive|send|send_at_once|ask_whether_there|register|reregister|end_writing|wait|listen|accept|accepts_reported|address",
             [f"counted/CountedSocket/{name}" for name in ("read", "write", "send_at_once", "ask_whether_there", "register", "reregister", "end_writing")]
             + [f"listening/ListeningSocket/{name}" for name in ("bind", "register", "accept", "address")] + ["polled/CountedPoll/wait"]),
     ):

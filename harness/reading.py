@@ -64,15 +64,19 @@ def head_of(line):
 def parts_of(path):
     """The definitions of a file of specs/: the lines of each, with its comments; those before it at the margin are its own."""
     found, current, depth, before = {}, None, 0, []
-    for line in read(path).split("\n"):
+    # a module's parameters may take several lines
+    text = re.sub(r"^( *module _(?:(?!\bwhere$)[^\n])*)\n *([^\n]*\bwhere)$", r"\1 \2", read(path), flags=re.M)
+    for line in text.split("\n"):
         indent = len(line) - len(line.lstrip())
         if re.match(r" *module _.*where$", line):
-            depth = indent + 2
+            depth = None
             continue
+        if depth is None and line.strip():
+            depth = indent
         if not line.strip() or re.match(r"(?:pub )?(?:use|mod|syntax) ", line):
             before = []
             continue
-        depth = min(depth, indent)
+        depth = indent if depth is None else min(depth, indent)
         is_comment = line.lstrip().startswith("--")
         if is_comment and indent == depth:
             before.append(line[depth:])

@@ -13,7 +13,7 @@ use Rattle.clap.specs.declared.parser.matches.ArgMatches.{ArgMatches}
 use Rattle.clap.specs.declared.parser.matches.ArgMatches.TheViews.{out-ArgMatches, out-SubCommand}
 use Rattle.clap.specs.declared.parser.matches.Found.{Found}
 use Rattle.clap.specs.declared.parser.matches.SubCommand.{SubCommand}
-use Rattle.command_line.specs.Asking.{AsksFor, HasNumber, HasText, Means}
+use Rattle.command_line.specs.Asking.{AsksFor, HasNumber, HasText, CommandAsks}
 use Rattle.command_line.specs.Usage.{the_command_line}
 use Rattle.command_line.specs.declared.asked.Asked.{Asked}
 
@@ -54,7 +54,7 @@ is_free = refl
 -- what the command means that the parser met is what the words ask for
 pub met : (command : App) (words : List Text) (m : ArgMatches) (name : Text) (rows : List Row) (asked : Asked) → command ≡ the_command_line
     → (is_simple_and_free command ≡ true → fault_of command words ≡ []) → HasMatchesOf command words m → Some name ≡ subcommand_name_of m
-    → Some rows ≡ option_map (λ p. p.1) (subcommand_rows (out-ArgMatches m).subcommand) → Means name rows asked → AsksFor words asked
+    → Some rows ≡ option_map (λ p. p.1) (subcommand_rows (out-ArgMatches m).subcommand) → CommandAsks name rows asked → AsksFor words asked
 met command words m name rows asked is kinds matches named given means =
     let all = matches (ap is_simple is ∙ is_plain) in
     record {

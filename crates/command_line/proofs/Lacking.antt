@@ -18,7 +18,7 @@ use Rattle.clap.specs.declared.parser.matches.ArgMatches.{ArgMatches}
 use Rattle.clap.specs.declared.parser.matches.ArgMatches.TheViews.{out-ArgMatches}
 use Rattle.clap.specs.declared.parser.matches.Found.{Found}
 use Rattle.command_line.proofs.Given.{both_given, is_plain}
-use Rattle.command_line.specs.Asking.{AskForNothing, Gives, HasText, LacksNumber, Means, name_of}
+use Rattle.command_line.specs.Asking.{AskForNothing, Gives, HasText, LacksNumber, CommandAsks, name_of}
 use Rattle.command_line.specs.Ranges.{IsInRange}
 use Rattle.command_line.specs.Usage.{the_command_line}
 use Rattle.command_line.specs.declared.asked.Asked.{Asked}
@@ -55,7 +55,7 @@ differ a b same apart e = true≢false (sym same ∙ ap (bytes_eq a) e ∙ apart
 module _ (rows : List Row) where
   -- `create` asks for nothing
   pub create_lacks : (first_of (codes "data") rows ≡ None) ⊎ LacksNumber rows (codes "sectors") 4194304
-      → (asked : Asked) → IsInRange asked → Means (codes "create") rows asked → ⊥
+      → (asked : Asked) → IsInRange asked → CommandAsks (codes "create") rows asked → ⊥
   create_lacks why (Create file n) range means = elim why [
     | inl none ↦ none≢some (first_of (codes "data") rows) file.now none means.1.0
     | inr lacks ↦ lacks n range means.1.1
@@ -67,7 +67,7 @@ module _ (rows : List Row) where
 
   -- `serve` asks for nothing
   pub serve_lacks : (first_of (codes "data") rows ≡ None) ⊎ (first_of (codes "listen") rows ≡ None)
-      → (asked : Asked) → IsInRange asked → Means (codes "serve") rows asked → ⊥
+      → (asked : Asked) → IsInRange asked → CommandAsks (codes "serve") rows asked → ⊥
   serve_lacks why (Serve file listen) range means = elim why [
     | inl none ↦ none≢some (first_of (codes "data") rows) file.now none means.1.0
     | inr none ↦ none≢some (first_of (codes "listen") rows) listen.now none means.1.1
@@ -78,7 +78,7 @@ module _ (rows : List Row) where
   serve_lacks why (Play n) range means = differ (codes "serve") (codes "play") refl refl means.0
 
   -- `check` asks for nothing
-  pub check_lacks : first_of (codes "data") rows ≡ None → (asked : Asked) → IsInRange asked → Means (codes "check") rows asked → ⊥
+  pub check_lacks : first_of (codes "data") rows ≡ None → (asked : Asked) → IsInRange asked → CommandAsks (codes "check") rows asked → ⊥
   check_lacks none (Check file) range means = none≢some (first_of (codes "data") rows) file.now none means.1
   check_lacks none (Create file n) range means = differ (codes "check") (codes "create") refl refl means.0
   check_lacks none (Serve file listen) range means = differ (codes "check") (codes "serve") refl refl means.0
@@ -87,7 +87,7 @@ module _ (rows : List Row) where
 
   -- `compact` asks for nothing where an option has no text, or one of sectors that is no number in range
   pub compact_lacks_text : (first_of (codes "from") rows ≡ None) ⊎ (first_of (codes "to") rows ≡ None)
-      → (asked : Asked) → IsInRange asked → Means (codes "compact") rows asked → ⊥
+      → (asked : Asked) → IsInRange asked → CommandAsks (codes "compact") rows asked → ⊥
   compact_lacks_text why (Compact from to n) range means = elim why [
     | inl none ↦ none≢some (first_of (codes "from") rows) from.now none means.1.0
     | inr none ↦ none≢some (first_of (codes "to") rows) to.now none means.1.1
@@ -98,7 +98,7 @@ module _ (rows : List Row) where
   compact_lacks_text why (Play n) range means = differ (codes "compact") (codes "play") refl refl means.0
 
   pub compact_lacks_number : (text : Text) → HasText rows (codes "sectors") text → LacksNumber rows (codes "sectors") 4194304
-      → (asked : Asked) → IsInRange asked → Means (codes "compact") rows asked → ⊥
+      → (asked : Asked) → IsInRange asked → CommandAsks (codes "compact") rows asked → ⊥
   compact_lacks_number text has lacks (Compact from to (Some n)) range means = lacks n range means.1.2
   compact_lacks_number text has lacks (Compact from to None) range means = none≢some (first_of (codes "sectors") rows) text means.1.2 has
   compact_lacks_number text has lacks (Create file n) range means = differ (codes "compact") (codes "create") refl refl means.0
@@ -107,7 +107,7 @@ module _ (rows : List Row) where
   compact_lacks_number text has lacks (Play n) range means = differ (codes "compact") (codes "play") refl refl means.0
 
   -- `play` asks for nothing
-  pub play_lacks : LacksNumber rows (codes "sectors") 65536 → (asked : Asked) → IsInRange asked → Means (codes "play") rows asked → ⊥
+  pub play_lacks : LacksNumber rows (codes "sectors") 65536 → (asked : Asked) → IsInRange asked → CommandAsks (codes "play") rows asked → ⊥
   play_lacks lacks (Play n) range means = lacks n range means.1
   play_lacks lacks (Create file n) range means = differ (codes "play") (codes "create") refl refl means.0
   play_lacks lacks (Serve file listen) range means = differ (codes "play") (codes "serve") refl refl means.0
@@ -116,7 +116,7 @@ module _ (rows : List Row) where
 
   -- a name that is no command's asks for nothing
   pub named_otherwise : (name : Text) → (name ≡ codes "create" → ⊥) → (name ≡ codes "serve" → ⊥) → (name ≡ codes "check" → ⊥)
-      → (name ≡ codes "compact" → ⊥) → (name ≡ codes "play" → ⊥) → (asked : Asked) → IsInRange asked → Means name rows asked → ⊥
+      → (name ≡ codes "compact" → ⊥) → (name ≡ codes "play" → ⊥) → (asked : Asked) → IsInRange asked → CommandAsks name rows asked → ⊥
   named_otherwise name create serve check compact play (Create file n) range means = create means.0
   named_otherwise name create serve check compact play (Serve file listen) range means = serve means.0
   named_otherwise name create serve check compact play (Check file) range means = check means.0
@@ -150,7 +150,7 @@ unnamed command words m is matches none asked range asks =
 -- they name a command that asks for nothing
 pub meant_nothing : (command : App) (words : List Text) (m : ArgMatches) (name : Text) (rows : List Row) → command ≡ the_command_line
     → HasMatchesOf command words m → Some name ≡ subcommand_name_of m → Some rows ≡ option_map (λ p. p.1) (subcommand_rows_of m)
-    → ((asked : Asked) → IsInRange asked → Means name rows asked → ⊥) → AskForNothing words
+    → ((asked : Asked) → IsInRange asked → CommandAsks name rows asked → ⊥) → AskForNothing words
 meant_nothing command words m name rows is matches named given nothing asked range asks =
     let all = matches (ap is_simple is ∙ is_plain) in
     let here : ◌≡◌ {A = Option (Text × List Row)} (Some (name, rows)) (Some (name_of asked, asks.options)) =

@@ -43,8 +43,8 @@ Gives rows (Compact from to n) =
 Gives rows (Play n) = HasNumber rows (codes "sectors") n
 
 -- the command of this name, with its options given so, asks for this
-abbrev pub Means : Text → List Row → Asked → Type 0
-Means name rows asked = (name ≡ name_of asked) × Gives rows asked
+abbrev pub CommandAsks : Text → List Row → Asked → Type 0
+CommandAsks name rows asked = (name ≡ name_of asked) × Gives rows asked
 
 -- the words, the program's name first, are taken by the command line, name a command of it, and ask for this
 pub record AsksFor (words : List Text) (asked : Asked) : Type 0 where
@@ -64,7 +64,7 @@ AnswersTo words (Err refusal) = (refusal ≡ Memory) ⊎ AskForNothing words
 
 -- the same of the command of a name, and of one number
 abbrev pub MeansNothing : Text → List Row → Type 0
-MeansNothing name rows = (asked : Asked) → IsInRange asked → Means name rows asked → ⊥
+MeansNothing name rows = (asked : Asked) → IsInRange asked → CommandAsks name rows asked → ⊥
 
 abbrev pub LacksNumber : List Row → Text → ℕ → Type 0
 LacksNumber rows name most = (n : ℕ) → (2 ≤ n) × (n ≤ most) → HasNumber rows name n → ⊥

@@ -3,7 +3,7 @@ ghost use Rattle.std.specs.Prelude.{◌≡◌, ◌⊎◌, ◌≤◌, IfErr, IfOk
 ghost use Rattle.clap.specs.Matches.{found_of};
 ghost use Rattle.clap.specs.Values.{kind_of};
 ghost use Rattle.clap.specs.Walk.{rows_of};
-ghost use Rattle.command_line.specs.Asking.{AnswersTo, AskForNothing, AsksFor, HasNumber, LacksNumber, Means};
+ghost use Rattle.command_line.specs.Asking.{AnswersTo, AskForNothing, AsksFor, HasNumber, LacksNumber, CommandAsks};
 ghost use Rattle.command_line.specs.Asking.{MeansNothing};
 ghost use Rattle.command_line.specs.Ranges.{IsInRange};
 ghost use Rattle.command_line.specs.Refusals.{IsRefusalOf};
@@ -30,7 +30,7 @@ fn sectors(found: &ArgMatches<'_>, most: u64) -> Option<u64>
 
 fn create<'a>(found: &ArgMatches<'a>) -> Option<Asked<'a>>
     ensures range { IfSome result IsInRange }
-    ensures means { IfSome result (Means (codes "create") (rows_of (found_of found.now))) }
+    ensures means { IfSome result (CommandAsks (codes "create") (rows_of (found_of found.now))) }
     ensures nothing { (result ≡ None) → MeansNothing (codes "create") (rows_of (found_of found.now)) }
 {
     Some(Asked::Create {
@@ -41,7 +41,7 @@ fn create<'a>(found: &ArgMatches<'a>) -> Option<Asked<'a>>
 
 fn play<'a>(found: &ArgMatches<'a>) -> Option<Asked<'a>>
     ensures range { IfSome result IsInRange }
-    ensures means { IfSome result (Means (codes "play") (rows_of (found_of found.now))) }
+    ensures means { IfSome result (CommandAsks (codes "play") (rows_of (found_of found.now))) }
     ensures nothing { (result ≡ None) → MeansNothing (codes "play") (rows_of (found_of found.now)) }
 {
     Some(Asked::Play {
@@ -51,7 +51,7 @@ fn play<'a>(found: &ArgMatches<'a>) -> Option<Asked<'a>>
 
 fn compact<'a>(found: &ArgMatches<'a>) -> Option<Asked<'a>>
     ensures range { IfSome result IsInRange }
-    ensures means { IfSome result (Means (codes "compact") (rows_of (found_of found.now))) }
+    ensures means { IfSome result (CommandAsks (codes "compact") (rows_of (found_of found.now))) }
     ensures nothing { (result ≡ None) → MeansNothing (codes "compact") (rows_of (found_of found.now)) }
 {
     let sectors = match found.get_str("sectors") {
@@ -68,7 +68,7 @@ fn compact<'a>(found: &ArgMatches<'a>) -> Option<Asked<'a>>
 // What the command of this name asks for, by what its options were given.
 fn asked<'a>(name: &str, found: &ArgMatches<'a>) -> Option<Asked<'a>>
     ensures range { IfSome result IsInRange }
-    ensures means { IfSome result (Means name.now (rows_of (found_of found.now))) }
+    ensures means { IfSome result (CommandAsks name.now (rows_of (found_of found.now))) }
     ensures nothing { (result ≡ None) → MeansNothing name.now (rows_of (found_of found.now)) }
 {
     match name {

@@ -6,14 +6,14 @@ use Rattle.sector.specs.declared.device.Sectors.{Ghosts}
 use Rattle.commit_log.specs.Format.{current}
 use Rattle.commit_log.specs.LogFaults.{IsDeviceOrMemory, IsOpenFault}
 use Rattle.commit_log.specs.LogImage.{IsLogImage, IsDamaged, HasHead, IsNoLog}
-use Rattle.commit_log.specs.Reading.{LeavesAsBefore, ReadsAs}
+use Rattle.commit_log.specs.Reading.{LeavesAsBefore, ReadsImage}
 use Rattle.commit_log.specs.declared.faults.LogFault.{LogFault}
 use Rattle.commit_log.specs.declared.faults.LogFault.TheVariants.{NotALog, Damaged, OldFormat}
 use Rattle.commit_log.specs.declared.formats.LogFormat.{LogFormat}
 use Rattle.commit_log.specs.declared.formats.LogFormat.TheVariants.{One}
 use Rattle.commands.specs.Faults.{of_log, IsFromDevice, IsFromOutside}
-use Rattle.commands.specs.LogCounts.{counts_of, line_of, log_line}
-use Rattle.commands.specs.Printing.{IsToldAs, EndsAs}
+use Rattle.commands.specs.LogCounts.{counts_of, counts_line, log_line}
+use Rattle.commands.specs.Printing.{IsReportedAs, EndsAs}
 use Rattle.commands.specs.declared.data.LogCounts.{LogCounts}
 use Rattle.commands.specs.declared.faults.Fault.{Fault}
 use Rattle.commands.specs.declared.faults.Fault.TheVariants.{File}
@@ -23,14 +23,14 @@ use Rattle.commands.specs.declared.system.Lines.{Ghosts as Lines}
 -- where the device keeps its model and holds an image of this kind, this is so
 abbrev pub IfHolds : {D : Type 0} → Ghosts D → D → (List (List ℕ) → Type 0) → Type 0 → Type 0
 IfHolds g device IsKind So = g.keeps_model → (disk : List (List ℕ)) → length disk ≡ g.size device
-    → ReadsAs (g.may_read device) disk → IsKind disk → So
+    → ReadsImage (g.may_read device) disk → IsKind disk → So
 
 -- the same of an image that is of this kind for some write sets
 abbrev pub IfHoldsSets : {D : Type 0} → Ghosts D → D → (LogFormat → List (List KeyWrite) → List (List ℕ) → Type 0)
     → (List (List KeyWrite) → Type 0) → Type 0
 IfHoldsSets g device IsKind So =
     g.keeps_model → (disk : List (List ℕ)) (lists : List (List KeyWrite)) → length disk ≡ g.size device
-    → ReadsAs (g.may_read device) disk
+    → ReadsImage (g.may_read device) disk
     → IsKind current lists disk → So lists
 
 -- the line of a log of these write sets was printed, or something outside failed
@@ -63,7 +63,7 @@ pub data Checks {D O : Type 0} (g : Ghosts D) (writes : O → List ℕ → Resul
       → Checks g writes device out (Err (of_log fault)) after out
   Counted : (counts : LogCounts) (outcome : Result (Unit {0}) Error) (result : Result (Unit {0}) Fault) (after : D)
       (printed : O) → Counting g device (Ok counts) after
-      → writes out (line_of counts) outcome printed → EndsAs outcome result
+      → writes out (counts_line counts) outcome printed → EndsAs outcome result
       → Checks g writes device out result after printed
 
 -- Checking a data file: it is opened to be checked, counted, its line printed, and it is closed. Nothing else is
@@ -72,7 +72,7 @@ pub data Checking {F D O : Type 0} (g : Ghosts D) (files : DataFiles F D) (write
     → O → Type 0)
     (name : List ℕ) (old : F) (out : O) : Result (Unit {0}) Fault → F → O → Type 0 where
   NotOpened : (error : Error) (fault : Fault) (opened : F) → files.checks old name (Err error) opened
-      → IsToldAs error File fault
+      → IsReportedAs error File fault
       → Checking g files writes name old out (Err fault) opened out
   Opened : (device after : D) (result : Result (Unit {0}) Fault) (opened closed : F) (printed : O)
       → files.checks old name (Ok device) opened

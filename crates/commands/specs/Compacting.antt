@@ -17,7 +17,7 @@ use Rattle.commit_log.specs.declared.faults.LogFault.TheVariants.{Full}
 use Rattle.commands.specs.Faults.{of_log}
 use Rattle.commands.specs.LogCounts.{log_line}
 use Rattle.commands.specs.Notices.{copying_line}
-use Rattle.commands.specs.Printing.{IsToldAs, EndsAs}
+use Rattle.commands.specs.Printing.{IsReportedAs, EndsAs}
 use Rattle.commands.specs.declared.faults.Fault.{Fault}
 use Rattle.commands.specs.declared.faults.Fault.TheVariants.{File, LogFull}
 use Rattle.commands.specs.declared.system.Around.{Around}
@@ -69,16 +69,17 @@ pub data Copies {D O : Type 0} (g : Ghosts D) (out : Lines O) (device : D) (map 
       → Copies g out device map old result after printed
 
 -- where the error output is a terminal, one line may say there that the copy is being written
-abbrev pub MayTell : {E : Type 0} → (E → List ℕ → Result (Unit {0}) Error → E → Type 0) → Bool → E → E → Type 0
-MayTell tells false err told = told ≡ err
-MayTell tells true err told = (told ≡ err) ⊎ ((outcome : Result (Unit {0}) Error) × tells err copying_line outcome told)
+abbrev pub MayReport : {E : Type 0} → (E → List ℕ → Result (Unit {0}) Error → E → Type 0) → Bool → E → E → Type 0
+MayReport reports false err reported = reported ≡ err
+MayReport reports true err reported = (reported ≡ err)
+    ⊎ ((outcome : Result (Unit {0}) Error) × reports err copying_line outcome reported)
 
 -- Reading a data file: it is opened to be read alone, its map is read, and it is closed. The map comes with the file's
 -- number of sectors.
 pub data ReadsFile {F D : Type 0} (g : Ghosts D) (files : DataFiles F D) (name : List ℕ) (old : F) : Result (KeyMap
     × ℕ) Fault → F → Type 0 where
   NotOpened : (error : Error) (fault : Fault) (opened : F) → files.reads old name (Err error) opened
-      → IsToldAs error File fault
+      → IsReportedAs error File fault
       → ReadsFile g files name old (Err fault) opened
   NotRead : (device after : D) (fault : LogFault) (opened closed : F) → files.reads old name (Ok device) opened
       → ReadsMap g device (Err fault) after
@@ -101,12 +102,13 @@ pub data Compacting {F P D O E : Type 0} (g : Ghosts D) (files : DataFiles F D) 
       → Compacting g files out err from to asked old (Err LogFull) (record old { files = read })
   NotMade : (count : ℕ) (map : KeyMap) (needed : Option ℕ) (error : Error) (fault : Fault) (read made : F)
       → ReadsFile g files from old.files (Ok (map, count)) read → Needs map needed → (HasTooFew asked needed → ⊥)
-      → files.makes read to (copy_count count asked needed) (Err error) made → IsToldAs error File fault
+      → files.makes read to (copy_count count asked needed) (Err error) made → IsReportedAs error File fault
       → Compacting g files out err from to asked old (Err fault) (record old { files = made })
   Made : (count : ℕ) (map : KeyMap) (needed : Option ℕ) (device copied : D) (result : Result (Unit {0}) Fault)
-      (read made closed : F) (printed : O) (told : E)
+      (read made closed : F) (printed : O) (reported : E)
       → ReadsFile g files from old.files (Ok (map, count)) read → Needs map needed → (HasTooFew asked needed → ⊥)
       → files.makes read to (copy_count count asked needed) (Ok device) made
-      → MayTell err.writes old.is_terminal old.err told → Copies g out device map old.out result copied printed
+      → MayReport err.writes old.is_terminal old.err reported → Copies g out device map old.out result copied printed
       → files.closes made copied closed
-      → Compacting g files out err from to asked old result (record old { files = closed; out = printed; err = told })
+      → Compacting g files out err from to asked old result
+      (record old { files = closed; out = printed; err = reported })

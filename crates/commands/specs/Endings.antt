@@ -3,10 +3,10 @@ use Rattle.command_line.specs.declared.refusals.Refusal.TheVariants as refusals
 use Rattle.std.specs.Prelude.{◌≡◌, ◌⊎◌, List, ℕ, Bool, true, Result, Ok, Err, is_ok, string_bytes}
 use Rattle.std.specs.declared.io.Error.{Error}
 use Rattle.command_line.specs.declared.refusals.Refusal.{Refusal}
-use Rattle.commands.specs.Faults.{line_of, status_of}
+use Rattle.commands.specs.Faults.{fault_line, exit_status}
 use Rattle.commands.specs.declared.endings.Ending.{Ending}
 use Rattle.commands.specs.declared.endings.Ending.TheVariants.{Done, Help, Refused, Failed}
-use Rattle.commands.specs.declared.endings.Told.{Told}
+use Rattle.commands.specs.declared.endings.Reported.{Reported}
 use Rattle.commands.specs.declared.faults.Fault.{Fault}
 use Rattle.commands.specs.declared.faults.Fault.TheVariants.{File, Memory}
 
@@ -22,33 +22,35 @@ of_outcome (Ok done) = Done
 of_outcome (Err fault) = Failed fault
 
 -- a text was taken, in one call, and this says whether it could be written
-abbrev pub TellsText : {E : Type 0} → (E → List ℕ → Result (Unit {0}) Error → E → Type 0) → List ℕ → E → Bool → E
+abbrev pub ReportsText : {E : Type 0} → (E → List ℕ → Result (Unit {0}) Error → E → Type 0) → List ℕ → E → Bool → E
     → Type 0
-TellsText tells text err is_written err' =
-    (outcome : Result (Unit {0}) Error) × tells err text outcome err' × (is_written ≡ is_ok outcome)
+ReportsText reports text err is_written err' =
+    (outcome : Result (Unit {0}) Error) × reports err text outcome err' × (is_written ≡ is_ok outcome)
 
 -- this fault is reported: its status, and its line
-abbrev pub TellsFault : {E : Type 0} → (E → List ℕ → Result (Unit {0}) Error → E → Type 0) → Fault → E → Told → E
+abbrev pub ReportsFault : {E : Type 0} → (E → List ℕ → Result (Unit {0}) Error → E → Type 0) → Fault → E → Reported → E
     → Type 0
-TellsFault tells fault err told err' =
-    (told.status ≡ status_of fault) × TellsText tells (line_of fault) err told.is_written err'
+ReportsFault reports fault err reported err' =
+    (reported.status ≡ exit_status fault) × ReportsText reports (fault_line fault) err reported.is_written err'
 
 -- help was asked for: it was taken by the output, or couldn't be written and that is reported as a fault of a file
-abbrev pub TellsHelp : {O E : Type 0} → (O → List ℕ → Result (Unit {0}) Error → O → Type 0)
+abbrev pub ReportsHelp : {O E : Type 0} → (O → List ℕ → Result (Unit {0}) Error → O → Type 0)
     → (E → List ℕ → Result (Unit {0}) Error → E → Type 0)
-    → List ℕ → O → E → Told → O → E → Type 0
-TellsHelp writes tells text out err told out' err' =
-    ((done : Unit {0}) × writes out text (Ok done) out' × (told.status ≡ 0) × (told.is_written ≡ true) × (err' ≡ err))
-    ⊎ ((error : Error) × writes out text (Err error) out' × TellsFault tells File err told err')
+    → List ℕ → O → E → Reported → O → E → Type 0
+ReportsHelp writes reports text out err reported out' err' =
+    ((done : Unit {0}) × writes out text (Ok done) out' × (reported.status ≡ 0) × (reported.is_written ≡ true)
+    × (err' ≡ err))
+    ⊎ ((error : Error) × writes out text (Err error) out' × ReportsFault reports File err reported err')
 
 -- what is reported of an ending: the calls of the output and of the error output, and the status
-abbrev pub Tells : {O E : Type 0} → (O → List ℕ → Result (Unit {0}) Error → O → Type 0)
+abbrev pub ReportsEnding : {O E : Type 0} → (O → List ℕ → Result (Unit {0}) Error → O → Type 0)
     → (E → List ℕ → Result (Unit {0}) Error → E → Type 0)
-    → Ending → O → E → Told → O → E → Type 0
-Tells writes tells Done out err told out' err' =
-    (told.status ≡ 0) × (told.is_written ≡ true) × (out' ≡ out) × (err' ≡ err)
-Tells writes tells (Help text) out err told out' err' =
-    TellsHelp writes tells (string_bytes text) out err told out' err'
-Tells writes tells (Refused text) out err told out' err' =
-    (told.status ≡ 1) × (out' ≡ out) × TellsText tells (string_bytes text) err told.is_written err'
-Tells writes tells (Failed fault) out err told out' err' = (out' ≡ out) × TellsFault tells fault err told err'
+    → Ending → O → E → Reported → O → E → Type 0
+ReportsEnding writes reports Done out err reported out' err' =
+    (reported.status ≡ 0) × (reported.is_written ≡ true) × (out' ≡ out) × (err' ≡ err)
+ReportsEnding writes reports (Help text) out err reported out' err' =
+    ReportsHelp writes reports (string_bytes text) out err reported out' err'
+ReportsEnding writes reports (Refused text) out err reported out' err' =
+    (reported.status ≡ 1) × (out' ≡ out) × ReportsText reports (string_bytes text) err reported.is_written err'
+ReportsEnding writes reports (Failed fault) out err reported out' err' = (out' ≡ out)
+    × ReportsFault reports fault err reported err'

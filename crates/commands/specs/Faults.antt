@@ -64,14 +64,14 @@ text_of (BadLine number) = codes "line " ++ decimal number ++ codes ": bad line"
 text_of (Crowded number) = codes "line " ++ decimal number ++ codes ": crowded"
 
 -- the line of a fault
-abbrev pub line_of : Fault → List ℕ
-line_of fault = text_of fault ++ 10 ∷ []
+abbrev pub fault_line : Fault → List ℕ
+fault_line fault = text_of fault ++ 10 ∷ []
 
 -- the exit status of a fault
-abbrev pub status_of : Fault → ℕ
-status_of (BadLine number) = 2
-status_of (Crowded number) = 2
-status_of other = 3
+abbrev pub exit_status : Fault → ℕ
+exit_status (BadLine number) = 2
+exit_status (Crowded number) = 2
+exit_status other = 3
 
 -- `Device` is reported exactly where a call of the device failed
 abbrev pub DeviceIs : {T : Type 0} → ℕ → ℕ → Result T Fault → Type 0

@@ -7,8 +7,8 @@ use Rattle.commit_log.specs.Recovery.{map_after}
 use Rattle.commands.specs.declared.data.LogCounts.{LogCounts}
 
 -- the line of these counts
-abbrev pub line_of : LogCounts → Bytes
-line_of counts =
+abbrev pub counts_line : LogCounts → Bytes
+counts_line counts =
     codes "records " ++ decimal counts.records ++ codes " keys " ++ decimal counts.keys ++ codes " sectors "
     ++ decimal counts.used ++ codes " of "
     ++ decimal counts.count ++ 10 ∷ []
@@ -24,4 +24,4 @@ counts_of lists count = record {
 
 -- its line
 abbrev pub log_line : List (List KeyWrite) → ℕ → Bytes
-log_line lists count = line_of (counts_of lists count)
+log_line lists count = counts_line (counts_of lists count)

@@ -4,7 +4,7 @@ use Rattle.std.specs.declared.io.Error.{Error}
 use Rattle.sector.specs.declared.device.Sectors.{Ghosts}
 use Rattle.commit_log.specs.LogState.{HoldsLog}
 use Rattle.commands.specs.Faults.{DeviceIs}
-use Rattle.commands.specs.Printing.{IsToldAs}
+use Rattle.commands.specs.Printing.{IsReportedAs}
 use Rattle.commands.specs.declared.faults.Fault.{Fault}
 use Rattle.commands.specs.declared.faults.Fault.TheVariants.{File, Device}
 use Rattle.commands.specs.declared.system.DataFiles.{Ghosts as DataFiles}
@@ -21,7 +21,7 @@ pub record Formats {D : Type 0} (g : Ghosts D) (device : D) (result : Result (Un
 pub data Creating {F D : Type 0} (g : Ghosts D) (files : DataFiles F D) (name : List ℕ) (sectors : ℕ) (old : F) : Result
     (Unit {0}) Fault → F → Type 0 where
   NotMade : (error : Error) (fault : Fault) (made : F) → files.makes old name sectors (Err error) made
-      → IsToldAs error File fault
+      → IsReportedAs error File fault
       → Creating g files name sectors old (Err fault) made
   Made : (device formatted : D) (result : Result (Unit {0}) Fault) (made closed : F)
       → files.makes old name sectors (Ok device) made → g.size device ≡ sectors

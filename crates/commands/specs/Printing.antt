@@ -8,14 +8,14 @@ use Rattle.commands.specs.declared.faults.Fault.{Fault}
 use Rattle.commands.specs.declared.faults.Fault.TheVariants.{File, Memory}
 
 -- an error of the system is reported as this fault, or as out of memory where its kind says so
-abbrev pub IsToldAs : Error → Fault → Fault → Type 0
-IsToldAs error fault told =
-    ((error_kind error ≡ OutOfMemory) × (told ≡ Memory)) ⊎ ((error_kind error ≢ OutOfMemory) × (told ≡ fault))
+abbrev pub IsReportedAs : Error → Fault → Fault → Type 0
+IsReportedAs error fault reported =
+    ((error_kind error ≡ OutOfMemory) × (reported ≡ Memory)) ⊎ ((error_kind error ≢ OutOfMemory) × (reported ≡ fault))
 
 -- an outcome of printing is the command's: an error is reported as one of a file
 abbrev pub EndsAs : Result (Unit {0}) Error → Result (Unit {0}) Fault → Type 0
 EndsAs (Ok done) result = result ≡ Ok done
-EndsAs (Err error) result = IsErrAnd result (IsToldAs error File)
+EndsAs (Err error) result = IsErrAnd result (IsReportedAs error File)
 
 -- a line that takes memory to lay out is printed: it was taken, or there was no memory for it and nothing was
 abbrev pub Prints : {O : Type 0} → (O → List ℕ → Result (Unit {0}) Error → O → Type 0) → List ℕ → O

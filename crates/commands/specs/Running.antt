@@ -9,11 +9,11 @@ use Rattle.command_line.specs.declared.refusals.Refusal.{Refusal}
 use Rattle.scripts.specs.declared.faults.ScriptFault.{ScriptFault}
 use Rattle.commands.specs.Checking.{Checking}
 use Rattle.commands.specs.Compacting.{Compacting}
-use Rattle.commands.specs.Endings.{Tells, of_outcome, of_refusal}
+use Rattle.commands.specs.Endings.{ReportsEnding, of_outcome, of_refusal}
 use Rattle.commands.specs.Faults.{of_script}
 use Rattle.commands.specs.Making.{Creating}
 use Rattle.commands.specs.Serving.{EndsServing}
-use Rattle.commands.specs.declared.endings.Told.{Told}
+use Rattle.commands.specs.declared.endings.Reported.{Reported}
 use Rattle.commands.specs.declared.faults.Fault.{Fault}
 use Rattle.commands.specs.declared.system.Around.{Around}
 use Rattle.commands.specs.declared.system.DataFiles.{Ghosts as DataFiles}
@@ -47,18 +47,19 @@ module _ {F P S O E D V : Type 0} {g : Ghosts D} (files : DataFiles F D) (ports 
         × (new ≡ record old { out = new.out })
 
     -- how a command line ended: what was asked for was done, if its words ask for a command, and the ending is reported
-    abbrev pub EndsLine : S → Around F P O E → Result Asked Refusal → Told → Around F P O E → Type 0
-    EndsLine scripts old (Err refusal) told new =
-        Tells out.writes err.writes (of_refusal refusal) old.out old.err told new.out new.err
+    abbrev pub EndsLine : S → Around F P O E → Result Asked Refusal → Reported → Around F P O E → Type 0
+    EndsLine scripts old (Err refusal) reported new =
+        ReportsEnding out.writes err.writes (of_refusal refusal) old.out old.err reported new.out new.err
         × (new ≡ record old { out = new.out; err = new.err })
-    EndsLine scripts old (Ok asked) told new =
+    EndsLine scripts old (Ok asked) reported new =
         (ended : Result (Unit {0}) Fault) × (done : Around F P O E) × Does scripts old asked ended done
-        × Tells out.writes err.writes (of_outcome ended) done.out done.err told new.out new.err
+        × ReportsEnding out.writes err.writes (of_outcome ended) done.out done.err reported new.out new.err
         × (new ≡ record done { out = new.out; err = new.err })
 
     -- A command line is run: the words say what is asked, and the status is that of the ending.
-    abbrev pub Runs : {W : Type 0} → (W → Result Asked Refusal → Type 0) → W → S → Around F P O E → ℕ → Around F P O E
-        → Type 0
-    Runs asks words scripts old status new =
-        (asked : Result Asked Refusal) × (told : Told) × asks words asked × EndsLine scripts old asked told new
-        × (status ≡ told.status)
+    abbrev pub RunsAsked : {W : Type 0} → (W → Result Asked Refusal → Type 0) → W → S → Around F P O E → ℕ
+        → Around F P O E → Type 0
+    RunsAsked asks words scripts old status new =
+        (asked : Result Asked Refusal) × (reported : Reported) × asks words asked
+        × EndsLine scripts old asked reported new
+        × (status ≡ reported.status)

@@ -7,12 +7,12 @@ use Rattle.std.specs.declared.net.socket_addr.SocketAddr.{SocketAddr}
 use Rattle.model.specs.Map.{IsInBounds, KeyMap}
 use Rattle.sector.specs.declared.device.Sectors.{Ghosts}
 use Rattle.commit_log.specs.declared.faults.Unopened.{Unopened}
-use Rattle.sessions.specs.Lives.{Begins, IsOpened, Opens, TellsWhy}
+use Rattle.sessions.specs.Restarts.{Begins, IsOpened, Opens, ReportsWhy}
 use Rattle.sessions.specs.StandsFor.{device}
 use Rattle.sessions.specs.declared.hub.Hub.{Hub}
 use Rattle.commands.specs.Faults.{of_log}
 use Rattle.commands.specs.Notices.{listening_line, stopped_line}
-use Rattle.commands.specs.Printing.{IsToldAs, Prints}
+use Rattle.commands.specs.Printing.{IsReportedAs, Prints}
 use Rattle.commands.specs.declared.faults.Fault.{Fault}
 use Rattle.commands.specs.declared.faults.Fault.TheVariants.{File, Listen, Poll}
 use Rattle.commands.specs.declared.system.Around.{Around}
@@ -29,7 +29,7 @@ TakesOpened {D} {g} takes = (hub : Hub D g) → IsOpened hub → takes hub
 -- what opening a store over this device came to
 abbrev pub Starts : {D : Type 0} {g : Ghosts D} → D → Result (Hub D g) (Unopened D) → Type 0
 Starts {D = D} {g = g} device result =
-    TellsWhy {D = D} {g = g} device result
+    ReportsWhy {D = D} {g = g} device result
     × MatchResult result (λ hub. ((map : KeyMap) × Begins device hub map × IsInBounds map)
     × (g.keeps_model → Opens device (Ok hub)))
     (λ unopened. g.keeps_model → Opens {D = D} {g = g} device (Err unopened))
@@ -43,7 +43,7 @@ pub data Opening {F P D V : Type 0} {g : Ghosts D} (files : DataFiles F D) (list
   NoAddress : ((address : SocketAddr) → IsSocketText listen address → ⊥)
       → Opening files listens name listen old ports (Err Listen) old ports
   NoFile : (address : SocketAddr) (error : Error) (fault : Fault) (opened : F) → IsSocketText listen address
-      → files.opens old name (Err error) opened → IsToldAs error File fault
+      → files.opens old name (Err error) opened → IsReportedAs error File fault
       → Opening files listens name listen old ports (Err fault) opened ports
   NoStore : (address : SocketAddr) (device : D) (unopened : Unopened D) (opened closed : F)
       → IsSocketText listen address → files.opens old name (Ok device) opened
@@ -52,7 +52,7 @@ pub data Opening {F P D V : Type 0} {g : Ghosts D} (files : DataFiles F D) (list
   NoPort : (address : SocketAddr) (dev : D) (hub : Hub D g) (unbound : Unbound (Hub D g)) (fault : Fault)
       (opened closed : F) (listened : P) → IsSocketText listen address
       → files.opens old name (Ok dev) opened → Starts dev (Ok hub)
-      → listens ports address hub (Err unbound) listened → IsToldAs unbound.error Listen fault
+      → listens ports address hub (Err unbound) listened → IsReportedAs unbound.error Listen fault
       → files.closes opened (device hub) closed
       → Opening files listens name listen old ports (Err fault) closed listened
   Opened : (address : SocketAddr) (device : D) (hub : Hub D g) (server : V) (opened : F) (listened : P)
@@ -63,12 +63,12 @@ pub data Opening {F P D V : Type 0} {g : Ghosts D} (files : DataFiles F D) (list
 
 -- After a turn that left the store stopped or not: where it is and that was not reported, it now is, by one line; else
 -- nothing is done.
-abbrev pub TellsStop : {E : Type 0} → (E → List ℕ → Result (Unit {0}) Error → E → Type 0) → Bool → Bool → E → Bool → E
+abbrev pub ReportsStop : {E : Type 0} → (E → List ℕ → Result (Unit {0}) Error → E → Type 0) → Bool → Bool → E → Bool → E
     → Type 0
-TellsStop writes false true err told' err' =
-    (told' ≡ true) × (written : Result (Unit {0}) Error) × writes err stopped_line written err'
-TellsStop writes false false err told' err' = (told' ≡ false) × (err' ≡ err)
-TellsStop writes true stopped err told' err' = (told' ≡ true) × (err' ≡ err)
+ReportsStop writes false true err reported' err' =
+    (reported' ≡ true) × (written : Result (Unit {0}) Error) × writes err stopped_line written err'
+ReportsStop writes false false err reported' err' = (reported' ≡ false) × (err' ≡ err)
+ReportsStop writes true stopped err reported' err' = (reported' ≡ true) × (err' ≡ err)
 
 -- so many turns that did not fail, one after the other, after each of which it was reported that the store has stopped,
 -- if it has, unless that was reported
@@ -76,21 +76,22 @@ pub data TakesTurns {V E : Type 0} (turns : V → Result (Unit {0}) Error → V 
     → Type 0) (writes : E → List ℕ → Result (Unit {0}) Error → E → Type 0)
     (first : V) (err : E) : ℕ → V → Bool → E → Type 0 where
   None : TakesTurns turns stops writes first err 0 first false err
-  More : (count : ℕ) (before after : V) (told stopped told' : Bool) (done : Unit {0}) (told_so_far told_now : E)
-      → TakesTurns turns stops writes first err count before told told_so_far
-      → turns before (Ok done) after → stops after stopped → TellsStop writes told stopped told_so_far told' told_now
-      → TakesTurns turns stops writes first err (count + 1) after told' told_now
+  More : (count : ℕ) (before after : V) (reported stopped reported' : Bool) (done : Unit {0})
+      (reported_so_far reported_now : E) → TakesTurns turns stops writes first err count before reported reported_so_far
+      → turns before (Ok done) after → stops after stopped
+      → ReportsStop writes reported stopped reported_so_far reported' reported_now
+      → TakesTurns turns stops writes first err (count + 1) after reported' reported_now
 
 -- turns until one fails, with its fault, or until as many were taken as are counted; nothing is done behind them
 pub data EndsTurns {V E : Type 0} (turns : V → Result (Unit {0}) Error → V → Type 0) (stops : V → Bool
     → Type 0) (writes : E → List ℕ → Result (Unit {0}) Error → E → Type 0)
     (first : V) (err : E) : Result (Unit {0}) Fault → V → E → Type 0 where
-  Failed : (count : ℕ) (before last : V) (told : Bool) (error : Error) (fault : Fault) (err' : E)
-      → TakesTurns turns stops writes first err count before told err'
-      → turns before (Err error) last → IsToldAs error Poll fault
+  Failed : (count : ℕ) (before last : V) (reported : Bool) (error : Error) (fault : Fault) (err' : E)
+      → TakesTurns turns stops writes first err count before reported err'
+      → turns before (Err error) last → IsReportedAs error Poll fault
       → EndsTurns turns stops writes first err (Err fault) last err'
-  Counted : (done : Unit {0}) (last : V) (told : Bool) (err' : E)
-      → TakesTurns turns stops writes first err (2 ^ 64 - 1) last told err'
+  Counted : (done : Unit {0}) (last : V) (reported : Bool) (err' : E)
+      → TakesTurns turns stops writes first err (2 ^ 64 - 1) last reported err'
       → EndsTurns turns stops writes first err (Ok done) last err'
 
 -- Serving: a file is opened and an address listened at, the address that the server has is printed, and turns are taken
@@ -113,14 +114,14 @@ pub data EndsServing {F P D V O E : Type 0} {g : Ghosts D} (files : DataFiles F 
       (printed : O)
       → Opening files ports.listens name listen old.files old.ports (Ok serving) opened listened
       → server.is_at serving (Ok address)
-      → Prints out.writes (listening_line address) old.out (Err error) printed → IsToldAs error File fault
+      → Prints out.writes (listening_line address) old.out (Err error) printed → IsReportedAs error File fault
       → EndsServing files ports server out err name listen old (Err fault)
       (record old { files = opened; ports = listened; out = printed })
   Served : (serving : V) (address : SocketAddr) (done : Unit {0}) (result : Result (Unit {0}) Fault) (opened : F)
-      (listened : P) (printed : O) (last : V) (told : E)
+      (listened : P) (printed : O) (last : V) (reported : E)
       → Opening files ports.listens name listen old.files old.ports (Ok serving) opened listened
       → server.is_at serving (Ok address)
       → Prints out.writes (listening_line address) old.out (Ok done) printed
-      → EndsTurns server.turns server.stops err.writes serving old.err result last told
+      → EndsTurns server.turns server.stops err.writes serving old.err result last reported
       → EndsServing files ports server out err name listen old result
-      (record old { files = opened; ports = listened; out = printed; err = told })
+      (record old { files = opened; ports = listened; out = printed; err = reported })

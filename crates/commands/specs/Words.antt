@@ -3,5 +3,5 @@ use Rattle.std.specs.Prelude.{ℕ, List, map}
 pub use Rattle.command_line.specs.Asking.{AnswersTo}
 use Rattle.commands.specs.declared.system.CommandLine.{CommandLine}
 
-abbrev pub words_of : CommandLine → List (List ℕ)
-words_of line = map (λ word. word.now) line.words.now
+abbrev pub argument_words : CommandLine → List (List ℕ)
+argument_words line = map (λ word. word.now) line.words.now

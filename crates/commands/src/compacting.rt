@@ -2,7 +2,7 @@
 ghost use Rattle.std.specs.Prelude.{◌≡◌, ◌<◌, ◌≤◌, ◌⊎◌, ◌↔◌, Ok, OnOk, IfOk, IfErr, IsErrOf};
 ghost use Rattle.commit_log.specs.Copying.{write_sets_of, copy_size, IsCopyFault};
 ghost use Rattle.commit_log.specs.Reading.{FaultIs};
-ghost use Rattle.commands.specs.Compacting.{copy_count, Compacting, Copies, HasTooFew, MayTell, ReadsFile};
+ghost use Rattle.commands.specs.Compacting.{copy_count, Compacting, Copies, HasTooFew, MayReport, ReadsFile};
 ghost use Rattle.commands.specs.LogCounts.{counts_of, log_line};
 ghost use Rattle.commands.specs.Faults.{IsFromOutput};
 ghost use Rattle.commit_log.specs.LogState.{HoldsLog};
@@ -44,7 +44,7 @@ pub fn compact<C: Clock, F: DataFiles, P, O: Lines, E: Lines>(
     let needed = copy_sectors(&map);
     let count = copy_count(old_count, sectors, needed)?;
     let mut device = around.files.create(to, count)?;
-    may_tell(clock, begun, around.is_terminal, &mut around.err);
+    may_report(clock, begun, around.is_terminal, &mut around.err);
     let copied = copy_device(alloc, &mut device, &map, &mut around.out);
     around.files.close(device);
     mem::forget(map);
@@ -72,8 +72,8 @@ fn is_long<C: Clock>(clock: &C, begun: Option<Instant>) -> bool {
 }
 
 // Tells a terminal, where a second has passed, that the map was read and the copy is being written, in one write.
-fn may_tell<C: Clock, E: Lines>(clock: &C, begun: Option<Instant>, is_terminal: bool, err: &mut E)
-    ensures { MayTell E.writes is_terminal err.old err.new }
+fn may_report<C: Clock, E: Lines>(clock: &C, begun: Option<Instant>, is_terminal: bool, err: &mut E)
+    ensures { MayReport E.writes is_terminal err.old err.new }
 {
     if is_terminal && is_long(clock, begun) {
         let _ = err.write_line(b"ssikvd: the map is read, the copy is being written\n".as_slice());

@@ -5,7 +5,7 @@ ghost use Rattle.commit_log.specs.declared.formats.LogFormat.{LogFormat};
 ghost use Rattle.commit_log.specs.declared.formats.LogFormat.TheVariants.{One};
 ghost use Rattle.commit_log.specs.LogImage.{IsLogImage, IsDamaged, HasHead, IsNoLog};
 ghost use Rattle.commands.specs.Checking.{Checking, Checks, Counting, IfHolds, IfHoldsSets, IsRefused, PrintsLog};
-ghost use Rattle.commands.specs.LogCounts.{line_of};
+ghost use Rattle.commands.specs.LogCounts.{counts_line};
 ghost use Rattle.commands.specs.Faults.{IsFromOutput, IsFromOutside, DeviceIs};
 ghost use Rattle.commands.specs.Making.{Creating};
 ghost use Rattle.commit_log.specs.LogState.{HoldsLog};
@@ -74,7 +74,7 @@ pub fn check<F: DataFiles, O: Lines>(
 }
 
 /// Opens the log of a device and prints, on one line, how many records, keys and sectors it holds, and how many sectors there are. The
-/// device is given back with how that came out, and a crash of it leaves what one before could have left.
+/// device is returned with how that came out, and a crash of it leaves what one before could have left.
 ///
 /// A fault is the log's, beside which nothing is printed, or `File` or `Memory` where the writer fails. It takes the memory of one
 /// record and of the map.
@@ -108,7 +108,7 @@ pub(crate) struct LogCounts {
     pub count: u64,
 }
 
-// Opens the log of a device and counts what it holds. The device is given back.
+// Opens the log of a device and counts what it holds. The device is returned.
 fn count_device<D: Sectors>(alloc: Global, device: D) -> (Result<LogCounts, LogFault>, D)
     ensures { Counting D.Sectors device result.0 result.1 }
 {
@@ -129,7 +129,7 @@ fn count_device<D: Sectors>(alloc: Global, device: D) -> (Result<LogCounts, LogF
 
 // Prints the line of these counts, in one write.
 pub(crate) fn print_counts<O: Lines>(counts: LogCounts, out: &mut O) -> io::Result<()>
-    ensures { O.writes out.old (line_of counts) result out.new }
+    ensures { O.writes out.old (counts_line counts) result out.new }
 {
     let line = counts_line(counts);
     out.write_line(line.as_slice())
@@ -137,7 +137,7 @@ pub(crate) fn print_counts<O: Lines>(counts: LogCounts, out: &mut O) -> io::Resu
 
 // The line of these counts.
 fn counts_line(counts: LogCounts) -> Line
-    ensures { result.items ≡ line_of counts }
+    ensures { result.items ≡ counts_line counts }
 {
     let mut line = Line::new();
     push_text(&mut line, b"records ");

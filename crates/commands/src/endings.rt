@@ -1,7 +1,7 @@
 //! How a command line ends: what is printed, each text in one write, and the exit status.
 ghost use Rattle.std.specs.Prelude.{◌≡◌, ◌++◌, ◌≤◌, length};
-ghost use Rattle.commands.specs.Faults.{line_of, status_of};
-ghost use Rattle.commands.specs.Endings.{Tells, TellsFault};
+ghost use Rattle.commands.specs.Faults.{fault_line, exit_status};
+ghost use Rattle.commands.specs.Endings.{ReportsEnding, ReportsFault};
 
 use crate::faults::Fault;
 use crate::lines::{Line, numbered_line, push_text};
@@ -25,7 +25,7 @@ pub enum Ending {
 
 /// What was reported of an ending.
 #[derive(Clone, Copy, PartialEq, Eq, Debug)]
-pub struct Told {
+pub struct Reported {
     /// The exit status.
     pub status: u8,
     /// Was all that was to be reported written?
@@ -61,24 +61,24 @@ impl From<Result<(), Fault>> for Ending {
     }
 }
 
-/// Tells an ending: help on the output, and what went wrong on the error output. Where help can't be written, that is a fault of a file.
+/// Reports an ending: help on the output, and what went wrong on the error output. Where help can't be written, that is a fault of a file.
 /// Takes no memory.
-pub fn tell<O: Lines, E: Lines>(ending: &Ending, out: &mut O, err: &mut E) -> Told
-    ensures { Tells O.writes E.writes ending.now out.old err.old result out.new err.new }
+pub fn finish<O: Lines, E: Lines>(ending: &Ending, out: &mut O, err: &mut E) -> Reported
+    ensures { ReportsEnding O.writes E.writes ending.now out.old err.old result out.new err.new }
 {
     match ending {
-        Ending::Done => Told {
+        Ending::Done => Reported {
             status: DONE,
             is_written: true,
         },
         Ending::Help(text) => match out.write_line(text.as_bytes()) {
-            Ok(()) => Told {
+            Ok(()) => Reported {
                 status: DONE,
                 is_written: true,
             },
             Err(_) => report(Fault::File, err),
         },
-        Ending::Refused(text) => Told {
+        Ending::Refused(text) => Reported {
             status: REFUSED,
             is_written: err.write_line(text.as_bytes()).is_ok(),
         },
@@ -87,10 +87,10 @@ pub fn tell<O: Lines, E: Lines>(ending: &Ending, out: &mut O, err: &mut E) -> To
 }
 
 /// Writes the text of a fault on its own line, in one write, and answers the exit status. Takes no memory.
-pub fn report<E: Lines>(fault: Fault, err: &mut E) -> Told
-    ensures { TellsFault E.writes fault err.old result err.new }
+pub fn report<E: Lines>(fault: Fault, err: &mut E) -> Reported
+    ensures { ReportsFault E.writes fault err.old result err.new }
 {
-    Told {
+    Reported {
         status: status(fault),
         is_written: write_fault(fault, err).is_ok(),
     }
@@ -98,7 +98,7 @@ pub fn report<E: Lines>(fault: Fault, err: &mut E) -> Told
 
 // The exit status of a fault.
 fn status(fault: Fault) -> u8
-    ensures { result ≡ status_of fault }
+    ensures { result ≡ exit_status fault }
 {
     match fault {
         Fault::BadLine(_) | Fault::Crowded(_) => BAD_LINE,
@@ -108,7 +108,7 @@ fn status(fault: Fault) -> u8
 
 // Writes the line of a fault.
 fn write_fault<E: Lines>(fault: Fault, err: &mut E) -> io::Result<()>
-    ensures { E.writes err.old (line_of fault) result err.new }
+    ensures { E.writes err.old (fault_line fault) result err.new }
 {
     let line = fault_line(fault);
     err.write_line(line.as_slice())
@@ -116,7 +116,7 @@ fn write_fault<E: Lines>(fault: Fault, err: &mut E) -> io::Result<()>
 
 // The line of a fault.
 fn fault_line(fault: Fault) -> Line
-    ensures { result.items ≡ line_of fault }
+    ensures { result.items ≡ fault_line fault }
 {
     match fault {
         Fault::NotALog => text_line(b"ssikvd: not a log\n"),

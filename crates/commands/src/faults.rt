@@ -1,5 +1,5 @@
 //! The faults that end a command early.
-ghost use Rattle.commands.specs.Printing.{IsToldAs};
+ghost use Rattle.commands.specs.Printing.{IsReportedAs};
 
 use commit_log::LogFault;
 use scripts::ScriptFault;
@@ -72,10 +72,10 @@ impl From<ScriptFault> for Fault {
 
 /// An error of a file, the input or the output. Its kind says whether it is out of memory.
 impl From<io::Error> for Fault {
-    ghost use Rattle.commands.specs.Printing.{IsToldAs};
+    ghost use Rattle.commands.specs.Printing.{IsReportedAs};
     ghost use Rattle.commands.specs.declared.faults.Fault.TheVariants.{File};
 
-    ghost from_gives = { λ error fault. IsToldAs error File fault };
+    ghost from_gives = { λ error fault. IsReportedAs error File fault };
 
     fn from(error: io::Error) -> Fault {
         or_memory(&error, Fault::File)
@@ -84,7 +84,7 @@ impl From<io::Error> for Fault {
 
 /// The fault, unless the error is out of memory.
 pub(crate) fn or_memory(error: &io::Error, fault: Fault) -> Fault
-    ensures { IsToldAs error.now fault result }
+    ensures { IsReportedAs error.now fault result }
 {
     match error.kind() {
         ErrorKind::OutOfMemory => Fault::Memory,

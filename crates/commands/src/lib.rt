@@ -14,7 +14,7 @@ mod system;
 
 pub use compacting::{compact, copy_count, copy_device};
 pub use data::{check, check_device, create, format_device};
-pub use endings::{Ending, Told, report, tell};
+pub use endings::{Ending, Reported, finish, report};
 pub use faults::Fault;
 pub use running::run_command;
 pub use serving::{serve, serve_turns};

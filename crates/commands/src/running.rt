@@ -1,11 +1,11 @@
 //! Runs a command line: reads it, runs the command that it names, and reports how that ended.
-ghost use Rattle.commands.specs.Running.{Does, Runs};
+ghost use Rattle.commands.specs.Running.{Does, RunsAsked};
 ghost use Rattle.commands.specs.Serving.{TakesOpened};
 ghost use Rattle.command_line.specs.Ranges.{IsInRange};
 
 use crate::compacting::compact;
 use crate::data::{check, create};
-use crate::endings::{Ending, tell};
+use crate::endings::{Ending, finish};
 use crate::faults::Fault;
 use crate::serving::serve;
 use crate::system::{Around, DataFiles, Lines, Ports, Scripts, Words};
@@ -30,14 +30,14 @@ pub fn run_command<
     E: Lines,
 >(clock: &C, alloc: Global, words: &W, around: &mut Around<F, P, O, E>, scripts: S) -> u8
     requires { TakesOpened P.takes }
-    ensures { Runs F.DataFiles P.Ports P.Server.Turns S.Scripts O.Lines E.Lines W.asks words.now scripts around.old result around.new }
+    ensures { RunsAsked F.DataFiles P.Ports P.Server.Turns S.Scripts O.Lines E.Lines W.asks words.now scripts around.old result around.new }
 {
     match words.asked(alloc) {
         Ok(asked) => {
             let done = execute(clock, alloc, asked, around, scripts);
-            tell(&Ending::from(done), &mut around.out, &mut around.err).status
+            finish(&Ending::from(done), &mut around.out, &mut around.err).status
         }
-        Err(refusal) => tell(&Ending::from(refusal), &mut around.out, &mut around.err).status,
+        Err(refusal) => finish(&Ending::from(refusal), &mut around.out, &mut around.err).status,
     }
 }
 

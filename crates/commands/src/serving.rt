@@ -1,7 +1,7 @@
 //! `serve`: opens a data file, listens, prints the address, and takes turns until one fails.
 ghost use Rattle.commands.specs.Notices.{listening_line};
 ghost use Rattle.commands.specs.Printing.{Prints};
-ghost use Rattle.commands.specs.Serving.{EndsServing, EndsTurns, Opening, TakesOpened, TellsStop};
+ghost use Rattle.commands.specs.Serving.{EndsServing, EndsTurns, Opening, TakesOpened, ReportsStop};
 
 use crate::faults::{Fault, or_memory};
 use crate::system::{Around, DataFiles, Lines, Ports, Turns};
@@ -41,24 +41,24 @@ pub fn serve<F: DataFiles, P: Ports<Hub<F::Device>>, O: Lines, E: Lines>(
 pub fn serve_turns<S: Turns, E: Lines>(server: &mut S, err: &mut E) -> Result<(), Fault>
     ensures { EndsTurns S.turns S.stops E.writes server.old err.old result server.new err.new }
 {
-    let mut told = false;
+    let mut reported = false;
     for _turn in 0..u64::MAX {
         if let Err(error) = server.next_turn() {
             return Err(or_memory(&error, Fault::Poll));
         }
-        tell_stopped(&mut told, server.is_stopped(), err);
+        report_stop(&mut reported, server.is_stopped(), err);
     }
     Ok(())
 }
 
 // After a turn: reports that the store has stopped, in one write, unless that was reported.
-fn tell_stopped<E: Lines>(told: &mut bool, is_stopped: bool, err: &mut E)
-    ensures { TellsStop E.writes told.old is_stopped err.old told.new err.new }
+fn report_stop<E: Lines>(reported: &mut bool, is_stopped: bool, err: &mut E)
+    ensures { ReportsStop E.writes reported.old is_stopped err.old reported.new err.new }
 {
-    if *told || !is_stopped {
+    if *reported || !is_stopped {
         return;
     }
-    *told = true;
+    *reported = true;
     let _ = err.write_line(b"ssikvd: store stopped\n".as_slice());
 }
 

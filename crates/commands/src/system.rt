@@ -124,7 +124,7 @@ pub trait Ports<H> {
     /// `listens before address hub result after`: one call of `listen`.
     ghost listens: { Self → SocketAddr → H → Result Self.Server (Unbound H) → Self → Type 0 } = { λ _ _ _ _ _. ⊤ };
 
-    /// Listens at an address for the sessions of a hub. Where that fails, the hub is given back as it was.
+    /// Listens at an address for the sessions of a hub. Where that fails, the hub is returned as it was.
     fn listen(
         &mut self,
         alloc: Global,
@@ -213,11 +213,11 @@ pub struct CommandLine<'a> {
 
 impl<'a> CommandLine<'a> {
     ghost use Rattle.std.specs.Prelude.{◌≡◌, map};
-    ghost use Rattle.commands.specs.Words.{words_of};
+    ghost use Rattle.commands.specs.Words.{argument_words};
 
     /// Of these words. Takes no memory.
     pub fn new(words: &'a [&'a str]) -> Self
-        ensures { words_of result ≡ map (λ word. word.now) words.now }
+        ensures { argument_words result ≡ map (λ word. word.now) words.now }
     {
         CommandLine { words }
     }
@@ -225,9 +225,9 @@ impl<'a> CommandLine<'a> {
 
 impl Words for CommandLine<'_> {
     ghost use Rattle.command_line.specs.Asking.{AnswersTo};
-    ghost use Rattle.commands.specs.Words.{words_of};
+    ghost use Rattle.commands.specs.Words.{argument_words};
 
-    ghost asks = { λ line result. AnswersTo (words_of line) result };
+    ghost asks = { λ line result. AnswersTo (argument_words line) result };
 
     fn asked(&self, alloc: Global) -> Result<Asked<'_>, Refusal> {
         parse(alloc, self.words)

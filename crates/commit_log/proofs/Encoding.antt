@@ -17,7 +17,7 @@ use Rattle.model.specs.Machine.{payload_size, write_size, body_sectors}
 use Rattle.model.specs.Map.{KeyWrite}
 use Rattle.commit_log.specs.Encoding.{IsUnsealed}
 use Rattle.commit_log.specs.Format.{value_bound}
-use Rattle.commit_log.specs.RecordFormat.{IsWithinLimits, IsWriteSet, entry_bytes, payload_bytes, record_digest}
+use Rattle.commit_log.specs.RecordFormat.{FitsFormat, IsWriteSet, entry_bytes, payload_bytes, record_digest}
 use Rattle.commit_log.specs.RecordFormat.{body_bytes, padded_body, sectors_for}
 use Rattle.commit_log.specs.declared.formats.LogFormat.{LogFormat}
 
@@ -25,7 +25,7 @@ use Rattle.commit_log.specs.declared.formats.LogFormat.{LogFormat}
 pub value_small : (f : LogFormat) → value_bound f < 2 ^ 16
 value_small f = grind (arith, common_steps, lit<)
 
-length-entry_le : (f : LogFormat) (write : KeyWrite) → IsWithinLimits f write → length (entry_bytes write) ≤ entry_bound (value_bound f)
+length-entry_le : (f : LogFormat) (write : KeyWrite) → FitsFormat f write → length (entry_bytes write) ≤ entry_bound (value_bound f)
 length-entry_le f write limits = grind (arith, common_steps, length-append)
 
 pub length-payload_le : (f : LogFormat) (writes : List KeyWrite) → IsWriteSet f writes → length (payload_bytes writes) ≤ payload_bound (value_bound f)

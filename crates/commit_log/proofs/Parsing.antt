@@ -28,7 +28,7 @@ use Rattle.commit_log.proofs.Encoding.{body_sectors_bounds, length-padded_body, 
 use Rattle.commit_log.proofs.Records.{begins, slice_get-drop, length-sectors_in, get_or-sectors_in}
 use Rattle.commit_log.specs.Format.{value_bound}
 use Rattle.commit_log.specs.LogImage.{IsRecordAt}
-use Rattle.commit_log.specs.RecordFormat.{IsRising, IsValueIn, IsWithinLimits, IsWriteSet, entry_bytes, value_bytes}
+use Rattle.commit_log.specs.RecordFormat.{IsRising, IsValueIn, FitsFormat, IsWriteSet, entry_bytes, value_bytes}
 use Rattle.commit_log.specs.RecordFormat.{payload_bytes, record_digest, body_bytes, body_sectors, sectors_for}
 use Rattle.commit_log.specs.RecordFormat.{padded_body, sectors_in, record_body}
 use Rattle.commit_log.specs.declared.formats.LogFormat.{LogFormat}
@@ -70,31 +70,31 @@ same_value a0 a1 a2 a3 a4 a5 a6 a7 = grind (arith, common_steps, append_assoc, s
 entry_split : (w : KeyWrite) (r : List ℕ) → entry_bytes w ++ r ≡ big_bytes 2 (length w.0) ++ (w.0 ++ (value_bytes w.1 ++ r))
 entry_split w r = grind (arith, common_steps, append_assoc)
 
-pub same_entry : (f : LogFormat) (w x : KeyWrite) (r s : List ℕ) → IsWithinLimits f w → IsWithinLimits f x → entry_bytes w ++ r ≡ entry_bytes x ++ s
+pub same_entry : (f : LogFormat) (w x : KeyWrite) (r s : List ℕ) → FitsFormat f w → FitsFormat f x → entry_bytes w ++ r ≡ entry_bytes x ++ s
     → (w ≡ x) × (r ≡ s)
 same_entry f w x r s w_is x_is same = grind (arith, common_steps, entry_split, same_number, same_front, same_value, nat_tests)
 
 -- no value stands behind the key
 pub no_value : (f : LogFormat) (bytes key rest : List ℕ) → bytes ≡ (big_bytes 2 (length key) ++ key) ++ rest → IsKey key
     → ((v : Option (List ℕ)) (r : List ℕ) → IfSome v (IsValueIn f) → rest ≡ value_bytes v ++ r → ⊥)
-    → (w : KeyWrite) (r : List ℕ) → IsWithinLimits f w → bytes ≡ entry_bytes w ++ r → ⊥
+    → (w : KeyWrite) (r : List ℕ) → FitsFormat f w → bytes ≡ entry_bytes w ++ r → ⊥
 no_value f bytes key rest is key_is none w r w_is same = grind (arith, common_steps, append_assoc, entry_split, same_number, same_front, nat_tests)
 
 -- what was read first is the front of each reading
-pub same_entries : (f : LogFormat) (done writes : List KeyWrite) (rest : List ℕ) → All (IsWithinLimits f) done → All (IsWithinLimits f) writes
+pub same_entries : (f : LogFormat) (done writes : List KeyWrite) (rest : List ℕ) → All (FitsFormat f) done → All (FitsFormat f) writes
     → length done ≤ length writes
     → flat_map entry_bytes writes ≡ flat_map entry_bytes done ++ rest
     → (take (length done) writes ≡ done) × (flat_map entry_bytes (drop (length done) writes) ≡ rest)
 same_entries f (w ∷ done) (x ∷ writes) rest done_is writes_is le same =
     let first = same_entry f x w (flat_map entry_bytes writes) (flat_map entry_bytes done
     ++ rest) (writes_is 0 x (omega arith)) (done_is 0 w (omega arith)) (same ∙ append_assoc (entry_bytes w) (flat_map entry_bytes done) rest) in
-    let others = same_entries f done writes rest (All-tail (IsWithinLimits f) w done done_is) (All-tail (IsWithinLimits f) x writes writes_is) (omega arith)
+    let others = same_entries f done writes rest (All-tail (FitsFormat f) w done done_is) (All-tail (FitsFormat f) x writes writes_is) (omega arith)
     first.1 in
     ((λ i. first.0 i ∷ others.0 i), others.1)
 same_entries f done writes rest done_is writes_is le same = grind (arith, common_steps)
 
 module _ (f : LogFormat) (bytes rest : List ℕ) (count : ℕ) (done : List KeyWrite) (is : bytes
-    ≡ big_bytes 4 count ++ (flat_map entry_bytes done ++ rest)) (fits : count < 256 ^ 4) (done_is : All (IsWithinLimits f) done) where
+    ≡ big_bytes 4 count ++ (flat_map entry_bytes done ++ rest)) (fits : count < 256 ^ 4) (done_is : All (FitsFormat f) done) where
   -- each reading has that count, and what was read in front
   pub reading : (writes : List KeyWrite) → IsWriteSet f writes → payload_bytes writes ≡ bytes → length done ≤ count
       → (length writes ≡ count) × (take (length done) writes ≡ done) × (flat_map entry_bytes (drop (length done) writes) ≡ rest)
@@ -106,7 +106,7 @@ module _ (f : LogFormat) (bytes rest : List ℕ) (count : ℕ) (done : List KeyW
       (number.0, front.0, front.1)
 
   -- there is no entry where one should be
-  pub no_entry : ((w : KeyWrite) (after : List ℕ) → IsWithinLimits f w → rest ≡ entry_bytes w ++ after → ⊥) → length done < count → (writes : List KeyWrite)
+  pub no_entry : ((w : KeyWrite) (after : List ℕ) → FitsFormat f w → rest ≡ entry_bytes w ++ after → ⊥) → length done < count → (writes : List KeyWrite)
       → IsWriteSet f writes → payload_bytes writes ≡ bytes → ⊥
   no_entry none lt writes proper same =
       let read = reading writes proper same (omega arith) in
@@ -116,7 +116,7 @@ module _ (f : LogFormat) (bytes rest : List ℕ) (count : ℕ) (done : List KeyW
       ∙ ap (flat_map entry_bytes) there)
 
   -- an entry follows that isn't above the one before it
-  pub not_rising : (w : KeyWrite) (after : List ℕ) → rest ≡ entry_bytes w ++ after → IsWithinLimits f w → 1 ≤ length done
+  pub not_rising : (w : KeyWrite) (after : List ℕ) → rest ≡ entry_bytes w ++ after → FitsFormat f w → 1 ≤ length done
       → ((d : KeyWrite) → slice_cmp nat_cmp (get_or done (length done - 1) d).0 w.0 ≡ Less → ⊥) → length done < count → (writes : List KeyWrite)
       → IsWriteSet f writes → payload_bytes writes ≡ bytes → ⊥
   not_rising w after entry limits some falls lt writes proper same =
@@ -154,10 +154,10 @@ pub read_more : (bytes front rest after : List ℕ) (done : List KeyWrite) (w : 
 read_more bytes front rest after done w so_far entry = grind (arith, common_steps, append_assoc, append-nil, flat_map-append, nat_tests)
 
 pub empty_if : (b : Bool) (xs : List ℕ) → b ≡ (length xs == 0) → b ≡ true → xs ≡ []
-empty_if b xs is told = nil_from_length xs (grind (arith, nat_tests))
+empty_if b xs is is_so = nil_from_length xs (grind (arith, nat_tests))
 
 pub some_if : (b : Bool) (xs : List ℕ) → b ≡ (length xs == 0) → b ≡ false → 1 ≤ length xs
-some_if b xs is told = grind (arith, nat_tests)
+some_if b xs is is_so = grind (arith, nat_tests)
 
 pub length-digest : (before : List ℕ) (index : ℕ) (writes : List KeyWrite) → length (record_digest before index writes) ≡ 32
 unfolding record_digest

@@ -19,8 +19,9 @@ use Rattle.commit_log.specs.Format.{current}
 use Rattle.commit_log.specs.LogImage.{IsLogImage, span}
 use Rattle.commit_log.specs.LogState.{IsBeingMade, IsNextRecord, IsBeforeOrAfter, IsSameBefore, HoldsBoth, LeavesLog}
 use Rattle.commit_log.specs.LogState.{LeavesStaged, StandsFor}
-use Rattle.commit_log.specs.Opening.{IsOpened}
-use Rattle.commit_log.specs.RecordFormat.{closed_gate, IsWriteSet, is_open, body_sectors, padded_body, record_digest}
+use Rattle.commit_log.specs.Opening.{ReportsImage}
+use Rattle.commit_log.specs.RecordFormat.{closed_gate, IsWriteSet, is_gate_open, body_sectors, padded_body}
+use Rattle.commit_log.specs.RecordFormat.{record_digest}
 use Rattle.commit_log.specs.Staging.{IsStaged}
 use Rattle.commit_log.specs.declared.log.Log.{Log}
 use Rattle.commit_log.specs.declared.read.Found.{Found}
@@ -93,7 +94,7 @@ module _ {D : Type 0} (S : Ghosts D) (lists : List (List KeyWrite)) (writes : Li
   pub staged_by : (mid : D) (bytes shut : List ℕ) → IsNextRecord lists writes gate bytes → gate + 1 + length bytes / 512 < size
       → ReadsBytes (S.may_read mid) (gate + 1) bytes
       → ((i : ℕ) (s : List ℕ) → i ≢ gate + 1 + length bytes / 512 → S.may_read now i s → S.may_read mid i s)
-      → ((s : List ℕ) → S.may_read now (gate + 1 + length bytes / 512) s → s ≡ shut) → is_open shut ≡ false
+      → ((s : List ℕ) → S.may_read now (gate + 1 + length bytes / 512) s → s ≡ shut) → is_gate_open shut ≡ false
       → LeavesLog S now lists → LeavesStaged S next lists writes
   staged_by mid bytes shut is room body others behind closed here c left =
       subst (IsStaged current lists writes) (sym (settles.settled.left c left))
@@ -111,7 +112,7 @@ module _ {D : Type 0} (S : Ghosts D) (lists : List (List KeyWrite)) (writes : Li
 
   -- the sync that settles the gate
   pub acknowledged : (opened : List ℕ) → gate ≡ 1 + span lists → IsWriteSet current writes → gate < size → ((s : List ℕ) → S.may_read now gate s → s ≡ opened)
-      → is_open opened ≡ true
+      → is_gate_open opened ≡ true
       → LeavesStaged S now lists writes
       → (image : List (List ℕ)) × IsSettled size (S.may_read next) (S.may_leave next) image × IsLogImage current (lists ++ writes ∷ []) image
   acknowledged opened at proper room written is here =
@@ -119,7 +120,8 @@ module _ {D : Type 0} (S : Ghosts D) (lists : List (List KeyWrite)) (writes : Li
       let found = there gate room in (
         image,
         settles.settled,
-        image_staged_open current lists writes image gate found.0 at proper (here image settles.was_left) found.1 (ap is_open (written found.0 found.2) ∙ is),
+        image_staged_open current lists writes image gate found.0 at proper (here image settles.was_left) found.1 (ap is_gate_open (written found.0 found.2)
+            ∙ is),
       )
 
 pub no_room_if : (b : Bool) (m n : ℕ) → (IsTrue b ↔ (m < n)) → b ≡ false → n ≤ m
@@ -140,7 +142,7 @@ stands_after old new lists writes stands running gate records digest settled =
     grind (arith, common_steps, span-append, length-append, next_index-is, last_digest-push)
 
 -- a log made of what was found
-pub log_opened : {D : Type 0} {g : Ghosts D} (log : Log D g) (image : List (List ℕ)) (found : Found) (opened : IsOpened g current log.device found image)
+pub log_opened : {D : Type 0} {g : Ghosts D} (log : Log D g) (image : List (List ℕ)) (found : Found) (opened : ReportsImage g current log.device found image)
     → log.stopped ≡ false → log.gate ≡ found.gate → log.records ≡ found.records
     → log.digest ≡ found.digest.bytes → StandsFor log opened.lists
 log_opened log image found opened running gate records digest = grind (arith, common_steps)

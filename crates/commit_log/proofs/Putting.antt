@@ -15,7 +15,7 @@ use Rattle.model.specs.Map.{Bytes, KeyMap, KeyWrite, IsMap, IsInBounds, after_wr
 use Rattle.commit_log.proofs.Encoding.{payload_size-push}
 use Rattle.commit_log.specs.Copying.{puts, first_sets, set_count, write_sets_of}
 use Rattle.commit_log.specs.Format.{current}
-use Rattle.commit_log.specs.RecordFormat.{IsWithinLimits, IsWriteSet, entry_bytes}
+use Rattle.commit_log.specs.RecordFormat.{FitsFormat, IsWriteSet, entry_bytes}
 use Rattle.commit_log.specs.Recovery.{map_after}
 
 -- one pair more
@@ -127,7 +127,7 @@ sorted-puts : (m : KeyMap) → is_sorted (slice_cmp nat_cmp) (puts m) ≡ is_sor
 sorted-puts [] = refl
 sorted-puts (p ∷ m) = grind (arith, below-puts p.0 m, sorted-puts m)
 
-limits-puts : (m : KeyMap) → IsInBounds m → All (IsWithinLimits current) (puts m)
+limits-puts : (m : KeyMap) → IsInBounds m → All (FitsFormat current) (puts m)
 limits-puts [] h k d lt = absurd (omega arith)
 limits-puts (p ∷ m) h zero d lt = record { key = h.0; value = h.1 }
 limits-puts (p ∷ m) h (suc k) d lt = limits-puts m h.2 k d (omega arith)

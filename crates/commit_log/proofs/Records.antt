@@ -13,22 +13,22 @@ use Rattle.commit_log.proofs.Putting.{AreWriteSets}
 use Rattle.commit_log.specs.Copying.{log_sectors, ReadsFrom, IsCopyOrNoLog, zero_sector}
 use Rattle.commit_log.specs.Format.{current, head_sector}
 use Rattle.commit_log.specs.LogImage.{HoldsRecords, IsLogImage, span, last_digest, next_index}
-use Rattle.commit_log.specs.RecordFormat.{IsWriteSet, is_open, open_gate, closed_gate, first_digest, body_sectors}
-use Rattle.commit_log.specs.RecordFormat.{record_body, record_digest, padded_body, sectors_in}
+use Rattle.commit_log.specs.RecordFormat.{IsWriteSet, is_gate_open, open_gate, closed_gate, first_digest}
+use Rattle.commit_log.specs.RecordFormat.{body_sectors, record_body, record_digest, padded_body, sectors_in}
 use Rattle.commit_log.specs.Staging.{Staged, IsStaged}
 use Rattle.commit_log.specs.declared.formats.LogFormat.{LogFormat}
 
-pub closed_gate_shut : is_open closed_gate ≡ false
+pub closed_gate_shut : is_gate_open closed_gate ≡ false
 unfolding closed_gate
 closed_gate_shut = refl
 
-pub open_gate_open : is_open open_gate ≡ true
+pub open_gate_open : is_gate_open open_gate ≡ true
 unfolding open_gate
 open_gate_open = refl
 
 -- a head and a closed gate make an empty log
 pub formatted : (image : List (List ℕ)) → 2 ≤ length image → ((s : List ℕ) → slice_get image 0 ≡ Some s → s ≡ head_sector current)
-    → ((s : List ℕ) → slice_get image 1 ≡ Some s → is_open s ≡ false) → IsLogImage current [] image
+    → ((s : List ℕ) → slice_get image 1 ≡ Some s → is_gate_open s ≡ false) → IsLogImage current [] image
 formatted a0 a1 a2 a3 = grind (arith, common_steps)
 
 pub span-append : (xs ys : List (List KeyWrite)) → span (xs ++ ys) ≡ span xs + span ys
@@ -89,7 +89,7 @@ drop_here image i s there =
 -- the record and a closed gate stand behind the log's gate
 staged_from : (f : LogFormat) (lists : List (List KeyWrite)) (writes : List KeyWrite) (index : ℕ) (before : List ℕ) (rest : List (List ℕ)) (shut : List ℕ)
     (behind : List (List ℕ)) → length (record_body (last_digest lists index before) (next_index lists index) writes) ≡ body_sectors writes
-    → drop (suc (span lists)) rest ≡ record_body (last_digest lists index before) (next_index lists index) writes ++ shut ∷ behind → is_open shut ≡ false
+    → drop (suc (span lists)) rest ≡ record_body (last_digest lists index before) (next_index lists index) writes ++ shut ∷ behind → is_gate_open shut ≡ false
     → HoldsRecords f lists index before rest → Staged f lists writes index before rest
 staged_from f lists writes index before [] shut behind size is closed holds = absurd holds
 staged_from f [] writes index before (gate ∷ rest) shut behind size is closed holds = grind (arith, common_steps, drop_at, take_at)
@@ -121,7 +121,7 @@ staged_gate f (x ∷ lists) writes index before (gate ∷ rest) proper staged =
     grind (arith, common_steps, staged_gate f lists writes (index + 1) (record_digest before index x) (drop (body_sectors x) rest) proper staged.3)
 
 pub staged_open : (f : LogFormat) (lists : List (List KeyWrite)) (writes : List KeyWrite) (index : ℕ) (before : List ℕ) (rest : List (List ℕ)) (gate : List ℕ)
-    → IsWriteSet f writes → Staged f lists writes index before rest → slice_get rest (span lists) ≡ Some gate → is_open gate ≡ true
+    → IsWriteSet f writes → Staged f lists writes index before rest → slice_get rest (span lists) ≡ Some gate → is_gate_open gate ≡ true
     → HoldsRecords f (lists ++ writes ∷ []) index before rest
 staged_open f lists writes index before [] gate proper staged at opened = absurd staged
 staged_open f [] writes index before (g ∷ rest) gate proper staged at opened = grind (arith, common_steps)
@@ -139,7 +139,7 @@ pub image_staged_gate : (f : LogFormat) (lists : List (List KeyWrite)) (writes :
 image_staged_gate a0 a1 a2 a3 a4 a5 = grind (arith, common_steps, ⊎_elim, staged_gate)
 
 pub image_staged_open : (f : LogFormat) (lists : List (List KeyWrite)) (writes : List KeyWrite) (c : List (List ℕ)) (n : ℕ) (gate : List ℕ) → n ≡ 1 + span lists
-    → IsWriteSet f writes → IsStaged f lists writes c → slice_get c n ≡ Some gate → is_open gate ≡ true → IsLogImage f (lists ++ writes ∷ []) c
+    → IsWriteSet f writes → IsStaged f lists writes c → slice_get c n ≡ Some gate → is_gate_open gate ≡ true → IsLogImage f (lists ++ writes ∷ []) c
 image_staged_open a0 a1 a2 a3 a4 a5 a6 a7 a8 a9 a10 = grind (arith, common_steps, staged_open, slice_get)
 
 pub length-sectors_in : (n : ℕ) (bytes : List ℕ) → length (sectors_in n bytes) ≡ n
@@ -155,7 +155,7 @@ get_or-sectors_in n bytes k lt = grind (arith, common_steps)
 pub image_staged_from : (f : LogFormat) (lists : List (List KeyWrite)) (writes : List KeyWrite) (c : List (List ℕ)) (bytes shut : List ℕ)
     → bytes ≡ padded_body (last_digest lists 0 first_digest) (next_index lists 0) writes → IsLogImage f lists c
     → ((k i : ℕ) → k < body_sectors writes → i ≡ 2 + span lists + k → slice_get c i ≡ Some (take 512 (drop (512 * k) bytes)))
-    → ((i : ℕ) → i ≡ 2 + span lists + body_sectors writes → slice_get c i ≡ Some shut) → is_open shut ≡ false → IsStaged f lists writes c
+    → ((i : ℕ) → i ≡ 2 + span lists + body_sectors writes → slice_get c i ≡ Some shut) → is_gate_open shut ≡ false → IsStaged f lists writes c
 unfolding record_body
 image_staged_from f lists writes [] bytes shut is holds body behind closed = absurd holds
 image_staged_from f lists writes (head ∷ rest) bytes shut is holds body behind closed =
@@ -192,7 +192,7 @@ log_sectors-push (x ∷ lists) w index before = grind (arith, common_steps, appe
 
 -- they are records, where a closed gate stands behind them
 holds_records : (lists : List (List KeyWrite)) (index : ℕ) (before : List ℕ) (shut : List ℕ) (behind : List (List ℕ)) → AreWriteSets lists
-    → is_open shut ≡ false → HoldsRecords current lists index before (log_sectors lists index before ++ shut ∷ behind)
+    → is_gate_open shut ≡ false → HoldsRecords current lists index before (log_sectors lists index before ++ shut ∷ behind)
 holds_records [] index before shut behind proper closed = closed
 holds_records (w ∷ lists) index before shut behind proper closed =
     let body : List (List ℕ) = record_body before index w in
@@ -206,7 +206,7 @@ holds_records (w ∷ lists) index before shut behind proper closed =
 -- With a head in front of them, these records and a closed gate are a log.
 pub log_made : (lists : List (List KeyWrite)) (image : List (List ℕ)) (shut : List ℕ) → AreWriteSets lists → 1 ≤ length image
     → ((k i : ℕ) → k < span lists → i ≡ 1 + k → slice_get image i ≡ Some (get_or (log_sectors lists 0 first_digest) k []))
-    → ((i : ℕ) → i ≡ 1 + span lists → slice_get image i ≡ Some shut) → is_open shut ≡ false → IsLogImage current lists (set image 0 (head_sector current))
+    → ((i : ℕ) → i ≡ 1 + span lists → slice_get image i ≡ Some shut) → is_gate_open shut ≡ false → IsLogImage current lists (set image 0 (head_sector current))
 log_made lists [] shut proper some stands behind closed = absurd (omega arith)
 log_made lists (old ∷ rest) shut proper some stands behind closed =
     let n = span lists in

@@ -18,8 +18,8 @@ use Rattle.commit_log.specs.LogFaults.{IsDeviceOrMemory}
 use Rattle.commit_log.specs.LogImage.{IsRecordAt, HoldsRecords, HoldsDamage, span, last_digest, next_index}
 use Rattle.commit_log.specs.LogImage.{IsLogImage, IsDamaged, HasHead, IsNoLog}
 use Rattle.commit_log.specs.Opening.{IsDamagedAt, IsReadFault, CanSettle, IsRefusal}
-use Rattle.commit_log.specs.Reading.{ReadsAs}
-use Rattle.commit_log.specs.RecordFormat.{is_open, body_sectors, record_digest, first_digest, IsWriteSet}
+use Rattle.commit_log.specs.Reading.{ReadsImage}
+use Rattle.commit_log.specs.RecordFormat.{is_gate_open, body_sectors, record_digest, first_digest, IsWriteSet}
 use Rattle.commit_log.specs.RecordFormat.{payload_bytes, record_body, padded_body, sectors_in}
 use Rattle.commit_log.specs.Recovery.{map_after, map_after-push}
 use Rattle.commit_log.specs.declared.faults.LogFault.{LogFault}
@@ -48,13 +48,13 @@ module _ (f : LogFormat) (image : List (List ℕ)) (gate index : ℕ) (digest : 
     (read : HasRead f image gate index digest contents) (there : slice_get image gate ≡ Some sector) where
   pub ended : (get_or sector 0 0 ≡ 1 → ⊥) → HoldsRecords f read.lists 0 first_digest (drop 1 image)
   ended shut =
-      let closed : is_open sector ≡ false = grind (arith, nat_tests) in
+      let closed : is_gate_open sector ≡ false = grind (arith, nat_tests) in
       subst (λ (l : List (List KeyWrite)). HoldsRecords f l 0 first_digest (drop 1 image)) (append-nil read.lists)
       (read.whole [] (rw (drop_here image gate sector there) closed))
 
   pub damaged : get_or sector 0 0 ≡ 1 → ((w : List KeyWrite) → IsRecordAt f index digest (drop (gate + 1) image) w → ⊥) → IsDamagedAt f (drop 1 image) index
   damaged opened none =
-      let is : is_open sector ≡ true = grind (arith, nat_tests) in
+      let is : is_gate_open sector ≡ true = grind (arith, nat_tests) in
       let holds = subst (λ (l : List (List KeyWrite)). HoldsDamage f l 0 first_digest (drop 1 image)) (append-nil read.lists)
       (read.broken [] (rw (drop_here image gate sector there) (is, none))) in
       record { lists = read.lists; count = sym read.records_are; holds = holds }
@@ -63,7 +63,7 @@ module _ (f : LogFormat) (image : List (List ℕ)) (gate index : ℕ) (digest : 
       → sectors ≡ body_sectors w → next ≡ record_digest digest index w
       → after ≡ after_writes contents w → HasRead f image (gate + (1 + sectors)) (index + 1) next after
   more opened w sectors next after right sectors_are next_is after_is =
-      let is : is_open sector ≡ true = grind (arith, nat_tests) in
+      let is : is_gate_open sector ≡ true = grind (arith, nat_tests) in
       let index_is : index ≡ next_index read.lists 0 = omega (arith, read.records_are, next_index-is read.lists 0) in
       let end : gate + (1 + sectors) ≡ gate + 1 + body_sectors w = omega (arith, sectors_are) in
       let behind : drop (gate + (1 + sectors)) image ≡ drop (body_sectors w) (drop (gate + 1) image) =
@@ -163,7 +163,7 @@ damaged_is_log a0 a1 a2 a3 a4 = grind (arith, common_steps)
 
 -- a device that reads as an image settles as it
 pub settles_as : (size : ℕ) (may_read : ℕ → List ℕ → Type 0) (may_leave : List (List ℕ) → Type 0) (image disk : List (List ℕ))
-    → CanSettle size may_read may_leave image → length disk ≡ size → ReadsAs may_read disk → image ≡ disk
+    → CanSettle size may_read may_leave image → length disk ≡ size → ReadsImage may_read disk → image ≡ disk
 settles_as size may_read may_leave image disk settles len reads =
     same_lists image disk (settles.size_is ∙ sym len) (λ k d lt.
     let s = get_or image k d in
@@ -213,9 +213,9 @@ abbrev pub Refused : (ℕ → List ℕ → Type 0) → (List (List ℕ) → Type
 Refused may_read may_leave size e = IsDeviceOrMemory e ⊎ ((image : List (List ℕ)) × CanSettle size may_read may_leave image × IsRefusal image e)
 
 module _ (may_read : ℕ → List ℕ → Type 0) (may_leave : List (List ℕ) → Type 0) (size : ℕ) (e : LogFault) (refused : Refused may_read may_leave size e) where
-  pub device_refused : (disk : List (List ℕ)) → length disk ≡ size → ReadsAs may_read disk → IsRefused disk e
+  pub device_refused : (disk : List (List ℕ)) → length disk ≡ size → ReadsImage may_read disk → IsRefused disk e
   device_refused disk len reads = elim refused [
-    | inl told ↦ inl told
+    | inl is_so ↦ inl is_so
     | inr found ↦ inr (subst (λ (d : List (List ℕ)). IsRefusal d e) (settles_as size may_read may_leave found.0 disk found.1 len reads) found.2)
   ]
 

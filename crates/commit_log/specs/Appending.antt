@@ -5,7 +5,8 @@ use Rattle.model.specs.Map.{KeyWrite}
 use Rattle.sector.specs.Failures.{Rose, Stayed}
 use Rattle.sector.specs.declared.device.Sectors.{Ghosts}
 use Rattle.commit_log.specs.LogState.{AppendLeaves, AppendLeft, HasSameRecords, LacksRoom, OfItsLists, OnlyAppends}
-use Rattle.commit_log.specs.LogState.{StandsFor, failure_count, is_stopped, record_count, sector_count, used_sectors}
+use Rattle.commit_log.specs.LogState.{StandsFor, failure_count, is_log_stopped, record_count, sector_count}
+use Rattle.commit_log.specs.LogState.{used_sectors}
 use Rattle.commit_log.specs.RecordFormat.{body_sectors}
 use Rattle.commit_log.specs.declared.faults.AppendFault.{AppendFault}
 use Rattle.commit_log.specs.declared.faults.LogFault.{LogFault}
@@ -19,13 +20,13 @@ module _ {D : Type 0} {g : Ghosts D} (old new : Log D g) where
     pub records : record_count new ≡ record_count old + 1
     pub used : used_sectors new ≡ used_sectors old + (body_sectors writes + 1)
     pub size : sector_count new ≡ sector_count old
-    pub running : is_stopped new ≡ false
+    pub running : is_log_stopped new ≡ false
     pub failures : Stayed (failure_count old) (failure_count new)
 
   -- a call of the device failed: the log has the records that it had, and is stopped
   pub record IsStoppedBy : Type 0 where
     pub failures : Rose (failure_count old) (failure_count new)
-    pub stopped : is_stopped new ≡ true
+    pub stopped : is_log_stopped new ≡ true
     pub records : HasSameRecords old new
     pub size : sector_count new ≡ sector_count old
 
@@ -36,8 +37,8 @@ module _ {D : Type 0} {g : Ghosts D} (old new : Log D g) where
 
   -- what each fault leaves of any log, and when it comes
   abbrev pub Fails : List KeyWrite → LogFault → Type 0
-  Fails writes Stopped = (is_stopped old ≡ true) × (new ≡ old)
-  Fails writes Full = (is_stopped old ≡ false) × LacksRoom old writes × (new ≡ old)
+  Fails writes Stopped = (is_log_stopped old ≡ true) × (new ≡ old)
+  Fails writes Full = (is_log_stopped old ≡ false) × LacksRoom old writes × (new ≡ old)
   Fails writes Memory = new ≡ old
   Fails writes Device = IsStoppedBy
   Fails writes other = ⊥

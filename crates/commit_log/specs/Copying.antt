@@ -46,8 +46,8 @@ log_sectors (writes ∷ lists) index before =
     (open_gate ∷ record_body before index writes) ++ log_sectors lists (index + 1) (record_digest before index writes)
 
 -- those of a log's records
-abbrev pub records_of : List (List KeyWrite) → List (List ℕ)
-records_of lists = log_sectors lists 0 first_digest
+abbrev pub sectors_of_records : List (List KeyWrite) → List (List ℕ)
+sectors_of_records lists = log_sectors lists 0 first_digest
 
 -- those of the record with this body, its gate open
 abbrev pub open_record : List ℕ → List (List ℕ)
@@ -77,7 +77,7 @@ pub record IsBodyOf (before : List ℕ) (index : ℕ) (writes : List KeyWrite) (
 
 -- reads give the records of these write sets, and a closed gate behind them
 pub record ReadsRecords (may_read : ℕ → List ℕ → Type 0) (lists : List (List KeyWrite)) : Type 0 where
-  pub records : ReadsFrom may_read 1 (records_of lists)
+  pub records : ReadsFrom may_read 1 (sectors_of_records lists)
   pub behind : ReadsFrom may_read (1 + span lists) (closed_gate ∷ [])
 
 -- a sector of zeros

@@ -4,16 +4,18 @@ use Rattle.std.specs.Prelude.{◌≡◌, ◌⊎◌, ℕ, suc, ◌+◌, ◌<◌, 
 use Rattle.std.specs.Prelude.{slice_get, Option, Some, MatchOption}
 use Rattle.model.specs.Map.{KeyWrite}
 use Rattle.commit_log.specs.Format.{head_sector}
-use Rattle.commit_log.specs.RecordFormat.{IsWriteSet, is_open, body_sectors, record_body, record_digest, first_digest}
+use Rattle.commit_log.specs.RecordFormat.{IsWriteSet, is_gate_open, body_sectors, record_body, record_digest}
+use Rattle.commit_log.specs.RecordFormat.{first_digest}
 use Rattle.commit_log.specs.declared.formats.LogFormat.{LogFormat}
 
 -- These sectors hold a record for each write set in turn, the first with this index and with this digest before it, and
 -- then a closed gate; what stands behind it is free.
 abbrev pub HoldsRecords : LogFormat → List (List KeyWrite) → ℕ → List ℕ → List (List ℕ) → Type 0
 HoldsRecords f lists index before [] = ⊥
-HoldsRecords f [] index before (gate ∷ rest) = is_open gate ≡ false
+HoldsRecords f [] index before (gate ∷ rest) = is_gate_open gate ≡ false
 HoldsRecords f (writes ∷ lists) index before (gate ∷ rest) =
-    (is_open gate ≡ true) × IsWriteSet f writes × (take (body_sectors writes) rest ≡ record_body before index writes)
+    (is_gate_open gate ≡ true) × IsWriteSet f writes
+    × (take (body_sectors writes) rest ≡ record_body before index writes)
     × HoldsRecords f lists (index + 1) (record_digest before index writes) (drop (body_sectors writes) rest)
 
 -- the image is a log of these write sets, in this format
@@ -35,9 +37,10 @@ HasNoRecord f index before rest = (writes : List KeyWrite) → IsRecordAt f inde
 -- These sectors hold a record for each write set in turn, and then an open gate with no right record behind it.
 abbrev pub HoldsDamage : LogFormat → List (List KeyWrite) → ℕ → List ℕ → List (List ℕ) → Type 0
 HoldsDamage f lists index before [] = ⊥
-HoldsDamage f [] index before (gate ∷ rest) = (is_open gate ≡ true) × HasNoRecord f index before rest
+HoldsDamage f [] index before (gate ∷ rest) = (is_gate_open gate ≡ true) × HasNoRecord f index before rest
 HoldsDamage f (writes ∷ lists) index before (gate ∷ rest) =
-    (is_open gate ≡ true) × IsWriteSet f writes × (take (body_sectors writes) rest ≡ record_body before index writes)
+    (is_gate_open gate ≡ true) × IsWriteSet f writes
+    × (take (body_sectors writes) rest ≡ record_body before index writes)
     × HoldsDamage f lists (index + 1) (record_digest before index writes) (drop (body_sectors writes) rest)
 
 -- the image is damaged behind the records of these write sets

@@ -20,11 +20,11 @@ abbrev pub used_sectors : {D : Type 0} {g : Ghosts D} → Log D g → ℕ
 used_sectors log = log.gate + 1
 
 -- whether the device has failed under it
-abbrev pub is_stopped : {D : Type 0} {g : Ghosts D} → Log D g → Bool
-is_stopped log = log.stopped
+abbrev pub is_log_stopped : {D : Type 0} {g : Ghosts D} → Log D g → Bool
+is_log_stopped log = log.stopped
 
-abbrev pub device_of : {D : Type 0} {g : Ghosts D} → Log D g → D
-device_of log = log.device
+abbrev pub log_device : {D : Type 0} {g : Ghosts D} → Log D g → D
+log_device log = log.device
 
 -- how many sectors its device has, and how many calls of it have failed
 abbrev pub sector_count : {D : Type 0} {g : Ghosts D} → Log D g → ℕ
@@ -77,12 +77,12 @@ LeavesEither g old new lists writes = LeavesOnly g.moment g.left_since old new (
 -- a crash since an append began leaves the write sets that the log stood for, with these writes or without
 abbrev pub AppendLeaves : {D : Type 0} {g : Ghosts D} → Log D g → Log D g → List KeyWrite → Type 0
 AppendLeaves {g = g} old new writes =
-    OfItsLists old (λ lists. LeavesEither g (device_of old) (device_of new) lists writes)
+    OfItsLists old (λ lists. LeavesEither g (log_device old) (log_device new) lists writes)
 
 -- so does a crash behind it
 abbrev pub AppendLeft : {D : Type 0} {g : Ghosts D} → Log D g → Log D g → List KeyWrite → Type 0
 AppendLeft {g = g} old new writes =
-    OfItsLists old (λ lists. LeavesNoMore (IsBeforeOrAfter lists writes) (g.may_leave (device_of new)))
+    OfItsLists old (λ lists. LeavesNoMore (IsBeforeOrAfter lists writes) (g.may_leave (log_device new)))
 
 -- Only these n sectors are written: reads of the others give no more than before, and a crash at any moment leaves
 -- those as before.
@@ -94,7 +94,7 @@ pub record OnlyWrites {D : Type 0} (g : Ghosts D) (at n : ℕ) (old new : D) : T
 -- only the record of these writes is written, from the gate where it begins to the closed gate behind it
 abbrev pub OnlyAppends : {D : Type 0} {g : Ghosts D} → Log D g → Log D g → List KeyWrite → Type 0
 OnlyAppends {g = g} old new writes =
-    OnlyWrites g (used_sectors old - 1) (body_sectors writes + 2) (device_of old) (device_of new)
+    OnlyWrites g (used_sectors old - 1) (body_sectors writes + 2) (log_device old) (log_device new)
 
 -- an image that is the same as one of these before this sector
 abbrev pub IsSameBefore : ℕ → (List (List ℕ) → Type 0) → List (List ℕ) → Type 0

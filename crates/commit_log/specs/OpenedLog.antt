@@ -7,9 +7,9 @@ use Rattle.sector.specs.declared.device.Sectors.{Ghosts}
 use Rattle.commit_log.specs.Format.{current}
 use Rattle.commit_log.specs.LogFaults.{IsDeviceOrMemory, IsOpenFault}
 use Rattle.commit_log.specs.LogImage.{IsLogImage, IsDamaged, HasHead, IsNoLog}
-use Rattle.commit_log.specs.LogState.{Holds, StandsFor, device_of, failure_count, is_stopped, sector_count}
+use Rattle.commit_log.specs.LogState.{Holds, StandsFor, log_device, failure_count, is_log_stopped, sector_count}
 use Rattle.commit_log.specs.Opening.{CanSettle}
-use Rattle.commit_log.specs.Reading.{LeavesAsBefore, OfEachRead, ReadsAs, TellsFailure}
+use Rattle.commit_log.specs.Reading.{LeavesAsBefore, OfEachRead, ReadsImage, ReportsFailure}
 use Rattle.commit_log.specs.Recovery.{map_after}
 use Rattle.commit_log.specs.declared.faults.LogFault.{LogFault}
 use Rattle.commit_log.specs.declared.faults.LogFault.TheVariants.{NotALog, Damaged, OldFormat}
@@ -23,7 +23,7 @@ abbrev pub OpensWhatWas : {D : Type 0} {g : Ghosts D} → D → Log D g → KeyM
 OpensWhatWas {g = g} device log map =
     (lists : List (List KeyWrite)) × StandsFor log lists × (map ≡ map_after [] lists)
     × (image : List (List ℕ)) × IsLogImage current lists image
-    × CanSettle (g.size device) (g.may_read device) (g.may_leave device) image × Holds g (device_of log) image
+    × CanSettle (g.size device) (g.may_read device) (g.may_leave device) image × Holds g (log_device log) image
 
 -- these are the log and the map of the write sets
 abbrev pub IsLogOf : {D : Type 0} {g : Ghosts D} → List (List KeyWrite) → Log D g × KeyMap → Type 0
@@ -37,14 +37,14 @@ OpeningLeavesAsBefore g device device_in result =
 -- a log over this device runs, and no call of the device failed
 pub record RunsOver {D : Type 0} {g : Ghosts D} (device : D) (log : Log D g) : Type 0 where
   pub size : sector_count log ≡ g.size device
-  pub running : is_stopped log ≡ false
+  pub running : is_log_stopped log ≡ false
   pub failures : Stayed (g.failures device) (failure_count log)
 
 -- opening was refused with a fault of an opening, which is `Device` exactly where a call of the device failed
-pub record IsRefused {D : Type 0} (g : Ghosts D) (device : D) (unopened : Unopened D) : Type 0 where
+pub record OpeningIsRefused {D : Type 0} (g : Ghosts D) (device : D) (unopened : Unopened D) : Type 0 where
   pub size : g.size unopened.device ≡ g.size device
   pub fault : IsOpenFault unopened.fault
-  pub cause : TellsFailure (g.failures device) (g.failures unopened.device) unopened.fault
+  pub cause : ReportsFailure (g.failures device) (g.failures unopened.device) unopened.fault
 
 -- of a device, how opening what is on it came out, and which fault each error reports
 module _ {D R E : Type 0} (g : Ghosts D) (device : D) (result : Result R E) (fault_of : E → LogFault) where
@@ -55,13 +55,13 @@ module _ {D R E : Type 0} (g : Ghosts D) (device : D) (result : Result R E) (fau
   -- a log is opened as what it is
   abbrev pub FindsLog : (List (List KeyWrite) → R → Type 0) → Type 0
   FindsLog IsOf = (disk : List (List ℕ)) (lists : List (List KeyWrite)) → length disk ≡ g.size device
-      → ReadsAs (g.may_read device) disk
+      → ReadsImage (g.may_read device) disk
       → IsLogImage current lists disk → MatchResult result (IsOf lists) (λ e. IsDeviceOrMemory (fault_of e))
 
   -- so is one that is damaged
   abbrev pub FindsDamage : Type 0
   FindsDamage = (disk : List (List ℕ)) (lists : List (List KeyWrite)) → length disk ≡ g.size device
-      → ReadsAs (g.may_read device) disk
+      → ReadsImage (g.may_read device) disk
       → IsDamaged current lists disk → FailsWith (Damaged (length lists))
 
   -- and what is no log

@@ -18,7 +18,7 @@ use Rattle.commit_log.specs.declared.read.Found.{Found}
 use Rattle.commit_log.specs.declared.read.Record.{Record}
 
 -- it reports the records of these write sets
-pub record TellsOf (lists : List (List KeyWrite)) (found : Found) : Type 0 where
+pub record ReportsLists (lists : List (List KeyWrite)) (found : Found) : Type 0 where
   pub gate : found.gate ≡ 1 + span lists
   pub records : found.records ≡ length lists
   pub digest : found.digest.bytes ≡ last_digest lists 0 first_digest
@@ -28,7 +28,7 @@ pub record TellsOf (lists : List (List KeyWrite)) (found : Found) : Type 0 where
 pub record IsFound (f : LogFormat) (rest : List (List ℕ)) (found : Found) : Type 0 where
   pub lists : List (List KeyWrite)
   pub holds : HoldsRecords f lists 0 first_digest rest
-  pub tells : TellsOf lists found
+  pub reports : ReportsLists lists found
 
 -- these sectors are damaged behind so many records
 pub record IsDamagedAt (f : LogFormat) (rest : List (List ℕ)) (index : ℕ) : Type 0 where
@@ -98,19 +98,19 @@ abbrev pub HoldsHead : {D : Type 0} → Ghosts D → D → Option LogFormat → 
 HoldsHead g device head image = Holds g device image × BeginsWith head image
 
 -- what reading records came to, where the image is this one
-abbrev pub ReadsRecords : LogFormat → Result Found LogFault → List (List ℕ) → Type 0
-ReadsRecords f result image = MatchResult result (IsFound f (drop 1 image)) (IsReadFault f (drop 1 image))
+abbrev pub ReadingGives : LogFormat → Result Found LogFault → List (List ℕ) → Type 0
+ReadingGives f result image = MatchResult result (IsFound f (drop 1 image)) (IsReadFault f (drop 1 image))
 
 -- it reports on this image, which reads give now and is all that a crash may leave
-pub record IsOpened {D : Type 0} (g : Ghosts D) (f : LogFormat) (device : D) (found : Found) (image : List (List ℕ)) :
-    Type 0 where
+pub record ReportsImage {D : Type 0} (g : Ghosts D) (f : LogFormat) (device : D) (found : Found)
+    (image : List (List ℕ)) : Type 0 where
   pub lists : List (List KeyWrite)
   pub holds : IsLogImage f lists image
-  pub tells : TellsOf lists found
+  pub reports : ReportsLists lists found
   pub settled : Holds g device image
 
 -- what reading a log came to: it reports on one image that the device might have held, but for the faults of the device
 -- and of memory
 abbrev pub ReadsLog : {D : Type 0} → Ghosts D → D → D → Result Found LogFault → Type 0
-ReadsLog g old new result = MatchResult result (λ found. MightHold g old (IsOpened g current new found))
+ReadsLog g old new result = MatchResult result (λ found. MightHold g old (ReportsImage g current new found))
     (λ e. IsDeviceOrMemory e ⊎ MightHold g old (λ image. IsRefusal image e))

@@ -8,16 +8,16 @@ use Rattle.commit_log.specs.declared.faults.LogFault.{LogFault}
 use Rattle.commit_log.specs.declared.faults.LogFault.TheVariants.{Device}
 
 -- this fault is `Device` exactly where a call of the device failed
-abbrev pub TellsFailure : ℕ → ℕ → LogFault → Type 0
-TellsFailure before now e = (e ≡ Device → Rose before now) × ((e ≡ Device → ⊥) → now ≡ before)
+abbrev pub ReportsFailure : ℕ → ℕ → LogFault → Type 0
+ReportsFailure before now e = (e ≡ Device → Rose before now) × ((e ≡ Device → ⊥) → now ≡ before)
 
 -- `Device` is reported exactly where a call of the device failed
 abbrev pub FaultIs : {T : Type 0} → ℕ → ℕ → Result T LogFault → Type 0
-FaultIs before now result = MatchResult result (λ _. now ≡ before) (TellsFailure before now)
+FaultIs before now result = MatchResult result (λ _. now ≡ before) (ReportsFailure before now)
 
 -- so it is of calls of the device, of which at `Ok` there was one at least
 abbrev pub FaultIsCounted : {T : Type 0} → ℕ → ℕ → Result T LogFault → Type 0
-FaultIsCounted before now result = MatchResult result (λ _. Stayed before now) (TellsFailure before now)
+FaultIsCounted before now result = MatchResult result (λ _. Stayed before now) (ReportsFailure before now)
 
 -- n sectors from this one on are within a device of that size, and fit behind these bytes
 pub record CanRead (size at n : ℕ) (bytes : List ℕ) : Type 0 where
@@ -36,17 +36,17 @@ pub record IsGrown (more : ℕ) (old new : List ℕ) : Type 0 where
   pub front : take (length old) new ≡ old
 
 -- a read gives what this image holds
-abbrev pub ReadsAs : (ℕ → List ℕ → Type 0) → List (List ℕ) → Type 0
-ReadsAs may_read image = (i : ℕ) (s : List ℕ) → may_read i s → slice_get image i ≡ Some s
+abbrev pub ReadsImage : (ℕ → List ℕ → Type 0) → List (List ℕ) → Type 0
+ReadsImage may_read image = (i : ℕ) (s : List ℕ) → may_read i s → slice_get image i ≡ Some s
 
 -- the n sectors from this one on were read to the end of a buffer
 abbrev pub HasRead : {T : Type 0} → Result T LogFault → (ℕ → List ℕ → Type 0) → ℕ → ℕ → List ℕ → List ℕ → Type 0
-HasRead result may_read at n old new = (image : List (List ℕ)) → ReadsAs may_read image
+HasRead result may_read at n old new = (image : List (List ℕ)) → ReadsImage may_read image
     → OnOk result ((k : ℕ) → k < n → slice_get image (at + k) ≡ Some (take 512 (drop (length old + 512 * k) new)))
 
 -- P of each image of so many sectors as which reads give
 abbrev pub OfEachRead : ℕ → (ℕ → List ℕ → Type 0) → (List (List ℕ) → Type 0) → Type 0
-OfEachRead count may_read P = (image : List (List ℕ)) → length image ≡ count → ReadsAs may_read image → P image
+OfEachRead count may_read P = (image : List (List ℕ)) → length image ≡ count → ReadsImage may_read image → P image
 
 -- a crash since old leaves what one at old might have left
 abbrev pub LeavesAsBefore : {D : Type 0} → Ghosts D → D → D → Type 0

@@ -61,8 +61,8 @@ unfoldable pub record_body : List ℕ → ℕ → List KeyWrite → List (List �
 record_body before index writes = sectors_in (body_sectors writes) (padded_body before index writes)
 
 -- a gate is open where its first byte is 1
-abbrev pub is_open : List ℕ → Bool
-is_open gate = slice_index gate 0 == 1
+abbrev pub is_gate_open : List ℕ → Bool
+is_gate_open gate = slice_index gate 0 == 1
 
 unfoldable pub closed_gate : List ℕ
 closed_gate = replicate 512 0
@@ -75,7 +75,7 @@ abbrev pub IsValueIn : LogFormat → List ℕ → Type 0
 IsValueIn f value = length value ≤ value_bound f
 
 -- a write of a key, with a value or with none
-pub record IsWithinLimits (f : LogFormat) (write : KeyWrite) : Type 0 where
+pub record FitsFormat (f : LogFormat) (write : KeyWrite) : Type 0 where
   pub key : IsKey write.0
   pub value : IfSome write.1 (IsValueIn f)
 
@@ -86,7 +86,7 @@ BeginsWithNoValue f bytes = (value : Option (List ℕ)) (rest : List ℕ) → If
 
 -- these bytes begin with no entry of a record of this format
 abbrev pub BeginsWithNoEntry : LogFormat → List ℕ → Type 0
-BeginsWithNoEntry f bytes = (write : KeyWrite) (rest : List ℕ) → IsWithinLimits f write
+BeginsWithNoEntry f bytes = (write : KeyWrite) (rest : List ℕ) → FitsFormat f write
     → bytes ≡ entry_bytes write ++ rest → ⊥
 
 -- the last of these keys isn't below that of this write
@@ -101,7 +101,7 @@ IsRising writes = T (is_sorted (slice_cmp nat_cmp) writes)
 pub record IsWriteSet (f : LogFormat) (writes : List KeyWrite) : Type 0 where
   pub some : 1 ≤ length writes
   pub at_most : length writes ≤ 64
-  pub limits : All (IsWithinLimits f) writes
+  pub limits : All (FitsFormat f) writes
   pub rising : IsRising writes
 
 -- these bytes are the payload of no record of this format

@@ -3,7 +3,8 @@ use Rattle.std.specs.Prelude.{◌≡◌, ℕ, ◌+◌, true, List, [], ◌∷◌
 use Rattle.model.specs.Map.{KeyWrite}
 use Rattle.commit_log.specs.Format.{head_sector}
 use Rattle.commit_log.specs.LogImage.{HoldsRecords}
-use Rattle.commit_log.specs.RecordFormat.{IsWriteSet, is_open, body_sectors, record_body, record_digest, first_digest}
+use Rattle.commit_log.specs.RecordFormat.{IsWriteSet, is_gate_open, body_sectors, record_body, record_digest}
+use Rattle.commit_log.specs.RecordFormat.{first_digest}
 use Rattle.commit_log.specs.declared.formats.LogFormat.{LogFormat}
 
 -- records of these write sets, then a gate, the body of one more record, and a closed gate
@@ -13,7 +14,7 @@ Staged f [] writes index before (gate ∷ rest) =
     (take (body_sectors writes) rest ≡ record_body before index writes)
     × HoldsRecords f [] (index + 1) (record_digest before index writes) (drop (body_sectors writes) rest)
 Staged f (x ∷ lists) writes index before (gate ∷ rest) =
-    (is_open gate ≡ true) × IsWriteSet f x × (take (body_sectors x) rest ≡ record_body before index x)
+    (is_gate_open gate ≡ true) × IsWriteSet f x × (take (body_sectors x) rest ≡ record_body before index x)
     × Staged f lists writes (index + 1) (record_digest before index x) (drop (body_sectors x) rest)
 
 -- the image is a log of these write sets, in this format, but that the record of one more stands settled behind the

@@ -5,7 +5,7 @@ ghost use Rattle.std.specs.Option.{option_map};
 ghost use Rattle.std.specs.declared.cmp.Ordering.TheVariants.{Less};
 ghost use Rattle.byteorder.specs.Endian.{big_bytes, big_number};
 ghost use Rattle.model.specs.Key.{IsKey};
-ghost use Rattle.commit_log.specs.RecordFormat.{IsValueIn, IsWithinLimits, IsRising, IsWriteSet, BeginsWithNoValue};
+ghost use Rattle.commit_log.specs.RecordFormat.{IsValueIn, FitsFormat, IsRising, IsWriteSet, BeginsWithNoValue};
 ghost use Rattle.commit_log.specs.RecordFormat.{BeginsWithNoEntry, FallsBehind, IsNoPayload, IsNoBody, value_bytes};
 ghost use Rattle.commit_log.specs.RecordFormat.{entry_bytes, payload_bytes, padded_body, record_digest, sectors_for};
 
@@ -94,7 +94,7 @@ fn take_entry(
     bytes: &[u8],
 ) -> Result<Option<(Write, &[u8])>, Memory>
     ensures some { IfOk result (λ o. IfSome o (λ r. bytes.now ≡ entry_bytes r.0 ++ r.1.now)) }
-    ensures limits { IfOk result (λ o. IfSome o (λ r. IsWithinLimits format r.0)) }
+    ensures limits { IfOk result (λ o. IfSome o (λ r. FitsFormat format r.0)) }
     ensures none { IfOk result (λ o. IfNone o (BeginsWithNoEntry format bytes.now)) }
 {
     let Some((key, rest)) = take_key(bytes) else {

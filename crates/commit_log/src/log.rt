@@ -33,9 +33,9 @@ impl<D: Sectors> Log<D> {
     ghost use Rattle.commit_log.specs.Appending.{Fails, FailsInRoom, IsAdded, KeepsLists};
     ghost use Rattle.commit_log.specs.LogFaults.{IsOpenFault};
     ghost use Rattle.commit_log.specs.Reading.{LeavesAsBefore};
-    ghost use Rattle.commit_log.specs.OpenedLog.{Finds, IsLogOf, IsRefused, OpensWhatWas, OpeningLeavesAsBefore};
-    ghost use Rattle.commit_log.specs.OpenedLog.{RunsOver};
-    ghost use Rattle.commit_log.specs.LogState.{LacksRoom, device_of, is_stopped, sector_count, used_sectors};
+    ghost use Rattle.commit_log.specs.OpenedLog.{Finds, IsLogOf, OpeningIsRefused, OpensWhatWas};
+    ghost use Rattle.commit_log.specs.OpenedLog.{OpeningLeavesAsBefore, RunsOver};
+    ghost use Rattle.commit_log.specs.LogState.{LacksRoom, log_device, is_log_stopped, sector_count, used_sectors};
 
     /// Opens the log that a device holds, and gives the map that its write sets make of the empty one. It syncs the device, and reads
     /// each sector up to the last closed gate once.
@@ -45,14 +45,14 @@ impl<D: Sectors> Log<D> {
     /// `Memory` where memory is refused. The device is given back with it. `read_log`, which borrows the device, says what memory it takes.
     pub fn open_or_return(alloc: Global, mut device: D) -> Result<(Self, Map), Unopened<D>>
         ensures runs { IfOk result (λ r. RunsOver device r.0) }
-        ensures refused { IfErr result (IsRefused D.Sectors device) }
+        ensures refused { IfErr result (OpeningIsRefused D.Sectors device) }
         ensures short { D.size device < 2 → IsErrAnd result (λ u. (u.fault ≡ LogFault.NotALog) ⊎ (u.fault ≡ LogFault.Device)) }
 
         // The log stands for an image that a crash before the call might have left; the device now holds it, and nothing else.
         ensures stands { D.keeps_model → IfOk result (λ r. OpensWhatWas device r.0 r.1) }
 
         // During the call, also where it fails, a crash leaves what one before it could have left.
-        ensures during { D.keeps_model → OpeningLeavesAsBefore D.Sectors device (λ r. device_of r.0) result }
+        ensures during { D.keeps_model → OpeningLeavesAsBefore D.Sectors device (λ r. log_device r.0) result }
 
         // A log is read as what it is. Where each crash leaves some log, one is found.
         ensures finds { D.keeps_model → Finds D.Sectors device result (λ u. u.fault) IsLogOf }
@@ -86,7 +86,7 @@ impl<D: Sectors> Log<D> {
         ensures stands { D.keeps_model → IfOk result (λ r. OpensWhatWas device r.0 r.1) }
 
         // During the call a crash leaves what one before it could have left.
-        ensures during { D.keeps_model → IfOk result (λ r. LeavesAsBefore D.Sectors device (device_of r.0)) }
+        ensures during { D.keeps_model → IfOk result (λ r. LeavesAsBefore D.Sectors device (log_device r.0)) }
 
         // A log is read as what it is. Where each crash leaves some log, one is found.
         ensures finds { D.keeps_model → Finds D.Sectors device result (λ e. e) IsLogOf }
@@ -109,8 +109,8 @@ impl<D: Sectors> Log<D> {
         requires { IsWriteSet current writes.now }
         ensures added { IfOk result (IsAdded self.old self.new writes.now) }
         ensures fails { IfErr result (Fails self.old self.new writes.now) }
-        ensures stopped { is_stopped self.old ≡ true → IsErrOf result LogFault.Stopped }
-        ensures full { is_stopped self.old ≡ false → LacksRoom self.old writes.now → IsErrOf result LogFault.Full }
+        ensures stopped { is_log_stopped self.old ≡ true → IsErrOf result LogFault.Stopped }
+        ensures full { is_log_stopped self.old ≡ false → LacksRoom self.old writes.now → IsErrOf result LogFault.Full }
         ensures keeps { D.keeps_model → KeepsLists self.old self.new writes.now result }
     {
         if self.stopped {
@@ -135,7 +135,7 @@ impl<D: Sectors> Log<D> {
         len: u32,
     ) -> Result<u64, AppendFault>
         requires proper { IsWriteSet current writes.now }
-        requires running { is_stopped self.old ≡ false }
+        requires running { is_log_stopped self.old ≡ false }
         requires room { used_sectors self.old + body_sectors writes.now < sector_count self.old }
         requires len { len ≡ payload_size writes.now }
         ensures added { IfOk result (IsAdded self.old self.new writes.now) }

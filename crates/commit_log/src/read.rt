@@ -3,11 +3,11 @@ ghost use Rattle.std.specs.Prelude.{All, ◌≡◌, ◌⊎◌, ◌<◌, ◌≤�
 ghost use Rattle.model.specs.Map.{after_writes};
 ghost use Rattle.commit_log.specs.declared.formats.LogFormat.{LogFormat};
 ghost use Rattle.commit_log.specs.Format.{current, head_sector};
-ghost use Rattle.commit_log.specs.RecordFormat.{IsWithinLimits};
+ghost use Rattle.commit_log.specs.RecordFormat.{FitsFormat};
 ghost use Rattle.commit_log.specs.Reading.{CanRead, CountsAtLeast, FaultIs, FaultIsCounted, HasRead, IsGrown};
 ghost use Rattle.commit_log.specs.Reading.{LeavesAsBefore, OfEachRead, OnlyReads};
 ghost use Rattle.commit_log.specs.LogFaults.{IsDeviceOrMemory, IsOpenFault, IsReadMapFault};
-ghost use Rattle.commit_log.specs.Opening.{HoldsHead, IsFitRecord, MightHold, ReadsLog, ReadsRecord, ReadsRecords};
+ghost use Rattle.commit_log.specs.Opening.{HoldsHead, IsFitRecord, MightHold, ReadsLog, ReadsRecord, ReadingGives};
 ghost use Rattle.commit_log.specs.MapReading.{HoldsMapOf, IsMapRefusal};
 
 use crate::decode::{Digest, decode_body, is_same};
@@ -95,7 +95,7 @@ fn apply(
     mut latest: LatestWrites,
     writes: Vec<Write>,
 ) -> Result<LatestWrites, Memory>
-    requires { All (IsWithinLimits current) writes.items }
+    requires { All (FitsFormat current) writes.items }
     ensures { IfOk result (λ after. after ≡ after_writes latest writes.items) }
 {
     for write in writes {
@@ -126,7 +126,7 @@ pub(crate) fn read_records<D: Sectors>(
     ensures only_reads { D.keeps_model → OnlyReads D.Sectors device.old device.new }
     ensures range { IfOk result (λ found. (found.gate < count) × (found.records ≤ found.gate)) }
     ensures errors { IfErr result IsReadMapFault }
-    ensures found { D.keeps_model → OfEachRead count (D.may_read device.old) (ReadsRecords format result) }
+    ensures found { D.keeps_model → OfEachRead count (D.may_read device.old) (ReadingGives format result) }
 {
     let mut gate = 1;
     let mut records = 0;
@@ -240,7 +240,7 @@ pub(crate) fn read_log<D: Sectors>(alloc: Global, device: &mut D) -> Result<Foun
     ensures during { D.keeps_model → LeavesAsBefore D.Sectors device.old device.new }
 
     // The call reports on one image that the device might have held.
-    ensures tells { D.keeps_model → ReadsLog D.Sectors device.old device.new result }
+    ensures reports { D.keeps_model → ReadsLog D.Sectors device.old device.new result }
 {
     let (head, count) = settle_and_read_head(device)?;
     match head {

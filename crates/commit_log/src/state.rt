@@ -7,7 +7,7 @@ use sector::Sectors;
 
 impl<D: Sectors> Log<D> {
     ghost use Rattle.commit_log.specs.RecordFormat.{sectors_for};
-    ghost use Rattle.commit_log.specs.LogState.{record_count, used_sectors, is_stopped, device_of, sector_count};
+    ghost use Rattle.commit_log.specs.LogState.{record_count, used_sectors, is_log_stopped, log_device, sector_count};
 
     /// How many records there are.
     pub fn records(&self) -> u64
@@ -25,7 +25,7 @@ impl<D: Sectors> Log<D> {
 
     /// Has the device failed in an append? The log then takes no more, and makes no call of the device.
     pub fn is_stopped(&self) -> bool
-        ensures { IsTrue result ↔ (is_stopped self.now ≡ true) }
+        ensures { IsTrue result ↔ (is_log_stopped self.now ≡ true) }
     {
         self.stopped
     }
@@ -39,14 +39,14 @@ impl<D: Sectors> Log<D> {
 
     /// The device, lent. Takes no memory.
     pub fn device(&self) -> &D
-        ensures { result.now ≡ device_of self.now }
+        ensures { result.now ≡ log_device self.now }
     {
         &self.device
     }
 
     /// Gives the device back.
     pub fn into_device(self) -> D
-        ensures { result ≡ device_of self }
+        ensures { result ≡ log_device self }
     {
         self.device
     }

@@ -25,7 +25,7 @@ use Rattle.model.specs.PrivateCopy.{copy_of, copy_after, respond, answer}
 use Rattle.model.specs.declared.refusals.Refusal.{Refusal}
 use Rattle.model.specs.declared.refusals.Refusal.TheVariants.{AlreadyOpen, StoreStopped, FullTransactions}
 use Rattle.sector.specs.declared.device.Sectors.{Ghosts}
-use Rattle.commit_log.specs.LogState.{is_stopped}
+use Rattle.commit_log.specs.LogState.{is_log_stopped}
 use Rattle.versions.specs.Laws.{HoldingLaw}
 use Rattle.versions.specs.Meaning.{map_seen}
 use Rattle.snapshot.specs.Made.{HasMade, WhereMade, WhereSeen, is_refused}
@@ -33,7 +33,7 @@ use Rattle.snapshot.specs.View.{View, new_view}
 use Rattle.engine.proofs.Sessions.{IsFound, beside_none, beside_some, beside_insert, beside_remove, beside_set}
 use Rattle.engine.proofs.Sessions.{beside_weaker}
 use Rattle.engine.proofs.Steps.{step_is, reached_by, reached_next, reached_map}
-use Rattle.engine.specs.Changes.{entry_of, IsSameStore, Leaves}
+use Rattle.engine.specs.Changes.{entry_of, IsSameStore, EndsTransaction}
 use Rattle.engine.specs.HistoryValue.{HistoryStandsFor}
 use Rattle.engine.specs.Meaning.{StandsForSame, IsNotRefused, Leads}
 use Rattle.engine.specs.StandsFor.{StandsFor, IsRunning, AreRunning}
@@ -95,11 +95,11 @@ module _ {D : Type 0} {g : Ghosts D} where
       let is : step m s q failed ≡ (m, Refused refusal) = step_is m s q failed None (not_open e m s h none) ∙ says m h in
       (m, stands_same e e' m same entries h, is)
 
-  pub begin_stopped : (e : Engine D g) (s : ℕ) → entry_of s e ≡ None → is_stopped e.log ≡ true → Leads e e s Begin false (Some (Refused StoreStopped))
+  pub begin_stopped : (e : Engine D g) (s : ℕ) → entry_of s e ≡ None → is_log_stopped e.log ≡ true → Leads e e s Begin false (Some (Refused StoreStopped))
   begin_stopped e s none stopped =
       refused_outside e e s Begin false StoreStopped (record { log = refl; history = refl }) refl none (λ m h. rw (h.stopped ∙ stopped) refl)
 
-  pub begin_full : (e : Engine D g) (s : ℕ) → entry_of s e ≡ None → is_stopped e.log ≡ false → 64 ≤ length e.running.entries
+  pub begin_full : (e : Engine D g) (s : ℕ) → entry_of s e ≡ None → is_log_stopped e.log ≡ false → 64 ≤ length e.running.entries
       → Leads e e s Begin false (Some (Refused FullTransactions))
   begin_full e s none stopped full =
       refused_outside e e s Begin false FullTransactions (record { log = refl; history = refl }) refl none
@@ -107,7 +107,7 @@ module _ {D : Type 0} {g : Ghosts D} where
       ≡ length e.running.entries = AllZip-long _ _ _ h.running in rw (h.stopped ∙ stopped, le-ltb (length m.running) 64 (omega arith)) refl)
 
   -- where there is room, the machine begins
-  begins : (e : Engine D g) (m : State) (s : ℕ) → StandsFor e m → entry_of s e ≡ None → is_stopped e.log ≡ false → length e.running.entries < 64
+  begins : (e : Engine D g) (m : State) (s : ℕ) → StandsFor e m → entry_of s e ≡ None → is_log_stopped e.log ≡ false → length e.running.entries < 64
       → step m s Begin false ≡ (with_running m s (first_run m), Done)
   begins e m s h none stopped few =
       let many : length m.running ≡ length e.running.entries = AllZip-long _ _ _ h.running in
@@ -116,7 +116,7 @@ module _ {D : Type 0} {g : Ghosts D} where
       step_is m s Begin false None (not_open e m s h none) ∙ outside
 
   pub begin_call : (e e' : Engine D g) (s : ℕ) → HoldingLaw → ((m : KeyMap) → IsMap m → HasMade (new_view e.history.committed.facts.last) m [])
-      → IsSameStore e e' → entry_of s e ≡ None → is_stopped e.log ≡ false → length e.running.entries < 64
+      → IsSameStore e e' → entry_of s e ≡ None → is_log_stopped e.log ≡ false → length e.running.entries < 64
       → e'.running.entries ≡ insert_entry nat_cmp e.running.entries s (new_view e.history.committed.facts.last) → length e'.running.entries ≤ 64
       → Leads e e' s Begin false (Some Done)
   begin_call e e' s holding fresh same none stopped few entries few_after m h =
@@ -140,9 +140,8 @@ module _ {D : Type 0} {g : Ghosts D} where
       (with_running m s run, stands_with e e' m _ (put nat_cmp s run m.running) active same h reached history entries running sorted few_after, is)
 
   -- memory was refused where there is room
-  pub begin_memory : (e e' : Engine D g) (s : ℕ) → IsSameStore e e' → e'.running.entries ≡ e.running.entries → entry_of s e ≡ None → is_stopped e.log ≡ false
-      → length e.running.entries < 64
-      → StandsForSame e e' × IsNotRefused e s Begin
+  pub begin_memory : (e e' : Engine D g) (s : ℕ) → IsSameStore e e' → e'.running.entries ≡ e.running.entries → entry_of s e ≡ None
+      → is_log_stopped e.log ≡ false → length e.running.entries < 64 → StandsForSame e e' × IsNotRefused e s Begin
   begin_memory e e' s same entries none stopped few =
       (same_states e e' same entries, λ m h. ap (λ (p : State × Response). is_refused p.1) (begins e m s h none stopped few))
 
@@ -216,7 +215,7 @@ module _ {D : Type 0} {g : Ghosts D} where
 
   -- ---- the end of a transaction
 
-  pub leave_call : (e e' : Engine D g) (s : ℕ) → Leaves e e' s → (m : State) → StandsFor e m → StandsFor e' (leave m s)
+  pub leave_call : (e e' : Engine D g) (s : ℕ) → EndsTransaction e e' s → (m : State) → StandsFor e m → StandsFor e' (leave m s)
   leave_call e e' s leaves m h =
       let running = beside_remove (Active e m h) s e.running.entries m.running h.sorted h.running in
       let sorted = is_sorted-where_key nat_cmp (λ x. not (x == s)) m.running h.sorted in
@@ -225,7 +224,7 @@ module _ {D : Type 0} {g : Ghosts D} where
       leaves.entries
       running sorted (omega (arith, few, fewer))
 
-  pub abort_call : (e e' : Engine D g) (s : ℕ) (t : View) → entry_of s e ≡ Some t → Leaves e e' s → Leads e e' s Abort false (Some Done)
+  pub abort_call : (e e' : Engine D g) (s : ℕ) (t : View) → entry_of s e ≡ Some t → EndsTransaction e e' s → Leads e e' s Abort false (Some Done)
   abort_call e e' s t some leaves m h =
       let f = found_open e m s t h some in
       let is : step m s Abort false ≡ (leave m s, Done) = step_is m s Abort false _ f.is in

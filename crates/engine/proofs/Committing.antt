@@ -23,7 +23,7 @@ use Rattle.model.specs.declared.refusals.Refusal.TheVariants.{Overwritten}
 use Rattle.sector.specs.Failures.{Rose, Stayed}
 use Rattle.sector.specs.SectorModel.{LeavesOnly}
 use Rattle.sector.specs.declared.device.Sectors.{Ghosts}
-use Rattle.commit_log.specs.LogState.{is_stopped, used_sectors, sector_count, device_of, record_count}
+use Rattle.commit_log.specs.LogState.{is_log_stopped, used_sectors, sector_count, log_device, record_count}
 use Rattle.commit_log.specs.declared.log.Log.{Log}
 use Rattle.versions.specs.StandsFor.{StandsFor as VersionsStandFor}
 use Rattle.snapshot.specs.Made.{HasMade, is_refused}
@@ -36,10 +36,10 @@ use Rattle.pivot_check.specs.declared.verdict.Cleared.{Cleared}
 use Rattle.engine.proofs.Calls.{Active, found_open, leave_call}
 use Rattle.engine.proofs.Sessions.{IsFound, beside_weaker}
 use Rattle.engine.proofs.Steps.{step_is, reached_by, store_full, store_fault, store_joined, map_at_next}
-use Rattle.engine.specs.Changes.{entry_of, Leaves, IsWritten, HasLogRoom, IsLogged, IsLogStopped, sectors_taken}
-use Rattle.engine.specs.Changes.{AddsOneAtMost, records_added}
+use Rattle.engine.specs.Changes.{entry_of, EndsTransaction, WritesSomething, HasLogRoom, IsLogged, IsLogStopped}
+use Rattle.engine.specs.Changes.{sectors_taken, AddsOneAtMost, records_added}
 use Rattle.engine.specs.HistoryValue.{HistoryValue, IsSameHistory, Joins}
-use Rattle.engine.specs.Judgements.{IsRefused, IsToJudge, IsToCommit}
+use Rattle.engine.specs.Judgements.{CommitIsRefused, IsToJudge, IsToCommit}
 use Rattle.engine.specs.Meaning.{StandsForSame, Leads, IsNotRefused, IsReadOnly, IsLeftByCommit, has_risen}
 use Rattle.engine.specs.Meaning.{response_to}
 use Rattle.engine.specs.Recovery.{IsStored, WhereStored, SurvivesAppend, LeavesInDoubt, HoldsMap, committed_map}
@@ -101,7 +101,7 @@ module _ {D : Type 0} {g : Ghosts D} where
       → ((active : ℕ → Bool) (base : KeyMap) (history : List Record) → VersionsStandFor e.history.versions active base history
       → VersionsStandFor e'.history.versions active base history) → StandsFor e m → StandsFor e' m
   same_with e e' m log entries same stands h =
-      let stopped : is_stopped e'.log ≡ is_stopped e.log = ap (λ (l : Log D g). is_stopped l) log in
+      let stopped : is_log_stopped e'.log ≡ is_log_stopped e.log = ap (λ (l : Log D g). is_log_stopped l) log in
       let used : used_sectors e'.log ≡ used_sectors e.log = ap (λ (l : Log D g). used_sectors l) log in
       let count : sector_count e'.log ≡ sector_count e.log = ap (λ (l : Log D g). sector_count l) log in
       let running = beside_weaker (Active e m h) (λ t r. IsRunning e'.history.committed.facts h.active m.base m.history t r)
@@ -114,7 +114,7 @@ module _ {D : Type 0} {g : Ghosts D} where
         used = h.used ∙ sym used;
         count = h.count ∙ sym count;
         stored = λ keeps run. subst (λ (l : Log D g). IsStored l (committed_map m)) (sym log) (h.stored keeps (sym stopped ∙ run));
-        doubt = λ keeps stop. subst (λ (l : Log D g). IsInDoubt (committed_map m) (g.may_leave (device_of l))) (sym log) (h.doubt keeps (sym stopped ∙ stop));
+        doubt = λ keeps stop. subst (λ (l : Log D g). IsInDoubt (committed_map m) (g.may_leave (log_device l))) (sym log) (h.doubt keeps (sym stopped ∙ stop));
         active = h.active;
         history = record { versions = stands h.active m.base m.history h.history.versions; committed = (same.stands m.history).0 h.history.committed };
         kept = omega (arith, kept, oldest);
@@ -127,28 +127,29 @@ module _ {D : Type 0} {g : Ghosts D} where
   -- ---- a commit that is refused, and ends the transaction
 
   pub ended_refused : {A : Type 0} (e e' : Engine D g) (s : ℕ) (failed : Bool) (f : A → Response) (fault : EngineFault) (refusal : Refusal)
-      → IsRefused e s refusal → Leaves e e' s → fault ≡ Refusing refusal → Leads e e' s Commit failed (response_to f (Err fault))
+      → CommitIsRefused e s refusal → EndsTransaction e e' s → fault ≡ Refusing refusal → Leads e e' s Commit failed (response_to f (Err fault))
   ended_refused e e' s failed f fault refusal refused leaves is = rw is (λ m h. (leave m s, leave_call e e' s leaves m h, refused m failed h))
 
   pub ended_overwritten : (e e' : Engine D g) (s : ℕ) (t u : View) (failed : Bool) (i : ℕ) (key : Bytes)
-      → ((d : KeyWrite) → IsRefused e s (Overwritten (slice_index_or t.writes i d).0)) → Leaves e e' s
+      → ((d : KeyWrite) → CommitIsRefused e s (Overwritten (slice_index_or t.writes i d).0)) → EndsTransaction e e' s
       → entry_of s e ≡ Some t → Some u ≡ entry_of s e → ((d : KeyWrite) → key ≡ (slice_index_or u.writes i d).0)
       → Leads e e' s Commit failed (Some (Refused (Overwritten key)))
   ended_overwritten e e' s t u failed i key refused leaves entry taken at =
       let d : KeyWrite = ([], None) in
       let is : key ≡ (slice_index_or t.writes i d).0 = at d ∙ ap (λ (x : View). (slice_index_or x.writes i d).0) (some_same (taken ∙ entry)) in
       ended_refused {A = ℕ} e e' s failed Number (Refusing (Overwritten key)) (Overwritten key)
-      (subst (λ (k : Bytes). IsRefused e s (Overwritten k)) (sym is) (refused d)) leaves refl
+      (subst (λ (k : Bytes). CommitIsRefused e s (Overwritten k)) (sym is) (refused d)) leaves refl
 
   refused_if : (e : Engine D g) (s : ℕ) (t : View) (refusal : Refusal) → entry_of s e ≡ Some t
-      → ((m : State) (r : Running) (failed : Bool) (h : StandsFor e m) → Active e m h t r → commit m s r failed ≡ refuse m s refusal) → IsRefused e s refusal
+      → ((m : State) (r : Running) (failed : Bool) (h : StandsFor e m) → Active e m h t r → commit m s r failed ≡ refuse m s refusal)
+      → CommitIsRefused e s refusal
   refused_if e s t refusal entry says m failed h = let at = found_open e m s t h entry in step_is m s Commit failed _ at.is ∙ says m at.run failed h at.same
 
-  pub stopped_refuses : (e : Engine D g) (s : ℕ) (t : View) → entry_of s e ≡ Some t → is_stopped e.log ≡ true → IsRefused e s StoreStopped
+  pub stopped_refuses : (e : Engine D g) (s : ℕ) (t : View) → entry_of s e ≡ Some t → is_log_stopped e.log ≡ true → CommitIsRefused e s StoreStopped
   stopped_refuses e s t entry stopped = refused_if e s t StoreStopped entry (λ m r failed h same. rw (h.stopped ∙ stopped) refl)
 
-  pub numbers_refuse : (e : Engine D g) (s : ℕ) (t : View) → entry_of s e ≡ Some t → is_stopped e.log ≡ false → 2 ^ 63 - 1 ≤ e.history.committed.facts.last
-      → IsRefused e s FullNumbers
+  pub numbers_refuse : (e : Engine D g) (s : ℕ) (t : View) → entry_of s e ≡ Some t → is_log_stopped e.log ≡ false → 2 ^ 63 - 1 ≤ e.history.committed.facts.last
+      → CommitIsRefused e s FullNumbers
   numbers_refuse e s t entry running numbers = refused_if e s t FullNumbers entry (λ m r failed h same.
       let few = h.few in let l = h.history.committed.last in rw (h.stopped ∙ running, eq-eqb (last m) (2 ^ 63 - 1) (omega arith)) refl)
 
@@ -187,14 +188,14 @@ module _ {D : Type 0} {g : Ghosts D} where
     its_writes : HasItsWrites t
     its_writes m qs h = sym is ∙ made m qs h
 
-    pub conflict_refuses : (refusal : Refusal) → HasVerdict committed.facts t (Some refusal) → IsRefused e s refusal
+    pub conflict_refuses : (refusal : Refusal) → HasVerdict committed.facts t (Some refusal) → CommitIsRefused e s refusal
     conflict_refuses refusal says =
         refused_if e s t refusal j.entry
         (λ m r failed h active. judged e m s t r failed h active j its_writes (Some refusal)
         (subst (λ (x : CommittedValue). HasVerdict x.facts t (Some refusal)) same says))
 
     pub overwritten_refuses : (i : ℕ) (d : KeyWrite) → (IsInReach committed.facts t → IsVerdict committed.facts t (verdicts.Overwritten i))
-        → IsRefused e s (Overwritten (slice_index_or t.writes i d).0)
+        → CommitIsRefused e s (Overwritten (slice_index_or t.writes i d).0)
     overwritten_refuses i d says = conflict_refuses (Overwritten (slice_index_or t.writes i d).0) (λ reach history stands r own.
         let said = says reach history stands r own in
         said.2 ∙ ap (λ (w : KeyWrite). Some (Overwritten w.0)) (sym (get_or_from_slice_get t.writes i said.0 d said.1)))
@@ -202,8 +203,8 @@ module _ {D : Type 0} {g : Ghosts D} where
     is_clear : (IsInReach committed.facts t → IsClear committed.facts t) → IsInReach e.history.committed.facts t → IsClear e.history.committed.facts t
     is_clear clear = subst (λ (x : CommittedValue). IsInReach x.facts t → IsClear x.facts t) same clear
 
-    pub full_refuses : (IsInReach committed.facts t → IsClear committed.facts t) → IsWritten t.writes
-        → sector_count e.log ≤ used_sectors e.log + body_sectors t.writes → IsRefused e s FullLog
+    pub full_refuses : (IsInReach committed.facts t → IsClear committed.facts t) → WritesSomething t.writes
+        → sector_count e.log ≤ used_sectors e.log + body_sectors t.writes → CommitIsRefused e s FullLog
     full_refuses clear some full = refused_if e s t FullLog j.entry (λ m r failed h active.
         let used = h.used in let count = h.count in
         cleared e m s t r failed h active j its_writes (is_clear clear)
@@ -215,7 +216,7 @@ module _ {D : Type 0} {g : Ghosts D} where
   -- ---- the end of the transaction, once memory is ready and whatever became of the log
 
   left_by : (e e' : Engine D g) (log : Log D g) (history : HistoryValue) (s : ℕ) → IsSameHistory e.history history
-      → Leaves (record e { log = log; history = history }) e' s
+      → EndsTransaction (record e { log = log; history = history }) e' s
       → (m : State) → StandsFor e m → StandsFor (record e' { log = e.log }) (leave m s)
   left_by e e' log history s same leaves m h =
       leave_call (record e { history = history }) (record e' { log = e.log }) s
@@ -226,9 +227,9 @@ module _ {D : Type 0} {g : Ghosts D} where
 
   pub ended_fault : {A : Type 0} (e e' : Engine D g) (log : Log D g) (history : HistoryValue) (s : ℕ) (t : View) (failed : Bool) (f : A
       → Response) (fault : EngineFault) → fault ≡ Refusing StoreFault → IsToCommit e s t
-      → IsLogStopped e.log log t.writes → IsSameHistory e.history history → Leaves (record e { log = log; history = history }) e' s → failed ≡ true
+      → IsLogStopped e.log log t.writes → IsSameHistory e.history history → EndsTransaction (record e { log = log; history = history }) e' s → failed ≡ true
       → (g.keeps_model → LeavesInDoubt e.log log) → Leads e e' s Commit failed (response_to f (Err fault))
-  ended_fault e e' log history s t failed f fault told j stops same leaves fails doubt = rw told (λ m h.
+  ended_fault e e' log history s t failed f fault reported j stops same leaves fails doubt = rw reported (λ m h.
       let at = found_open e m s t h j.asked.entry in
       let used = h.used in let count = h.count in let fits = j.room stops.written in
       let after : State × Response = (record (leave m s) { stopped = true }, Refused StoreFault) in
@@ -243,7 +244,7 @@ module _ {D : Type 0} {g : Ghosts D} where
   -- ---- a commit that is answered a number
 
   -- the machine's step, whether or not the device failed where nothing was written
-  step_joined : (e : Engine D g) (s : ℕ) (t : View) (failed : Bool) → IsToCommit e s t → (IsWritten t.writes → failed ≡ false)
+  step_joined : (e : Engine D g) (s : ℕ) (t : View) (failed : Bool) → IsToCommit e s t → (WritesSomething t.writes → failed ≡ false)
       → (m : State) (h : StandsFor e m) (at : IsFound (Active e m h) s t m.running)
       → step m s Commit failed ≡ join_history m s (record_to_commit m at.run) (sectors_taken t.writes)
   step_joined e s t failed j quiet m h at =
@@ -272,10 +273,10 @@ module _ {D : Type 0} {g : Ghosts D} where
   pub joined : (e e' : Engine D g) (log : Log D g) (history new : HistoryValue) (s : ℕ) (t u : View) (failed : Bool) (n : ℕ) → IsToCommit e s t
       → IsLogged e.log log t.writes
       → (g.keeps_model → WhereStored e.log (λ map. IsStored log (after_writes map t.writes))) → IsSameHistory e.history history
-      → Leaves (record e { log = log; history = history }) e' s
+      → EndsTransaction (record e { log = log; history = history }) e' s
       → Some u ≡ entry_of s e → new.committed.facts.last ≡ e'.history.committed.facts.last + 1 → new.committed.facts.oldest ≡ e'.history.committed.facts.oldest
       → Joins e'.history new u
-      → (IsWritten t.writes → failed ≡ false) → n ≡ e'.history.committed.facts.last + 1
+      → (WritesSomething t.writes → failed ≡ false) → n ≡ e'.history.committed.facts.last + 1
       → Leads e (record e' { history = new }) s Commit failed (Some (Number n))
   joined e e' log history new s t u failed n j logged stored same leaves taken last' oldest' joins quiet number m h =
       let at = found_open e m s t h j.asked.entry in
@@ -307,7 +308,7 @@ module _ {D : Type 0} {g : Ghosts D} where
 
   -- the transaction that has ended was cleared, and memory alone was made ready since
   pub cleared_still : (e e' : Engine D g) (log : Log D g) (history : HistoryValue) (s : ℕ) (t u : View) (cleared : Cleared) → entry_of s e ≡ Some t
-      → IsCleared e.history.committed.facts t cleared → IsSameHistory e.history history → Leaves (record e { log = log; history = history }) e' s
+      → IsCleared e.history.committed.facts t cleared → IsSameHistory e.history history → EndsTransaction (record e { log = log; history = history }) e' s
       → Some u ≡ entry_of s e → IsCleared e'.history.committed.facts u cleared
   cleared_still e e' log history s t u cleared entry is same leaves taken =
       subst (λ (v : View). IsCleared e'.history.committed.facts v cleared) (sym (some_same (taken ∙ entry)))

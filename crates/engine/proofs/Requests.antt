@@ -59,21 +59,21 @@ module _ {D : Type 0} {g : Ghosts D} (e : Engine D g) (t t' : View) where
       → Answered e t t' q (Some (Refused refusal))
   refused vs q refusal same says is m qs seen made = grind (arith, common_steps, says m qs, made_same t m qs q made, refused_same (copy_after (copy_of m) qs) q)
 
-  pub read_refused : {A : Type 0} (vs : ChainsValue) (q : Operation) (f : A → Response) (fault : SnapshotFault) (told : ReadFault)
-      → ((c : PrivateCopy) → (respond c q).0 ≡ Refused refusals.FullWrites → ⊥) → told ≡ of_read fault
-      → vs ≡ e.history.versions → Says vs (IsFault fault) q → t' ≡ t → Answered e t t' q (response_to_read f (Err told))
-  read_refused vs q f FullWrites told never is same says stays =
+  pub read_refused : {A : Type 0} (vs : ChainsValue) (q : Operation) (f : A → Response) (fault : SnapshotFault) (reported : ReadFault)
+      → ((c : PrivateCopy) → (respond c q).0 ≡ Refused refusals.FullWrites → ⊥) → reported ≡ of_read fault
+      → vs ≡ e.history.versions → Says vs (IsFault fault) q → t' ≡ t → Answered e t t' q (response_to_read f (Err reported))
+  read_refused vs q f FullWrites reported never is same says stays =
       rw is (stays, λ m qs seen made. absurd (never (copy_after (copy_of m) qs) (says m qs (ap (λ (x : ChainsValue). map_seen x t.begin) same ∙ seen) made)))
-  read_refused vs q f FullMarks told never is same says stays = rw is (refused vs q refusals.FullMarks same says stays)
-  read_refused vs q f Memory told never is same says stays =
+  read_refused vs q f FullMarks reported never is same says stays = rw is (refused vs q refusals.FullMarks same says stays)
+  read_refused vs q f Memory reported never is same says stays =
       rw is (stays, λ m qs seen made. says m qs (ap (λ (x : ChainsValue). map_seen x t.begin) same ∙ seen) made)
 
-  pub write_refused : {A : Type 0} (q : Operation) (f : A → Response) (fault : SnapshotFault) (told : EngineFault) → told ≡ of_write fault
+  pub write_refused : {A : Type 0} (q : Operation) (f : A → Response) (fault : SnapshotFault) (reported : EngineFault) → reported ≡ of_write fault
       → Says e.history.versions (IsFault fault) q → t' ≡ t
-      → Answered e t t' q (response_to f (Err told))
-  write_refused q f FullWrites told is says stays = rw is (refused e.history.versions q refusals.FullWrites refl says stays)
-  write_refused q f FullMarks told is says stays = rw is (refused e.history.versions q refusals.FullMarks refl says stays)
-  write_refused q f Memory told is says stays = rw is (stays, says)
+      → Answered e t t' q (response_to f (Err reported))
+  write_refused q f FullWrites reported is says stays = rw is (refused e.history.versions q refusals.FullWrites refl says stays)
+  write_refused q f FullMarks reported is says stays = rw is (refused e.history.versions q refusals.FullMarks refl says stays)
+  write_refused q f Memory reported is says stays = rw is (stays, says)
 
 -- ---- what a transaction has written
 

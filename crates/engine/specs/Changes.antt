@@ -7,7 +7,7 @@ use Rattle.model.specs.Machine.{body_sectors}
 use Rattle.model.specs.Map.{KeyWrite}
 use Rattle.sector.specs.Failures.{Rose, Stayed}
 use Rattle.sector.specs.declared.device.Sectors.{Ghosts}
-use Rattle.commit_log.specs.LogState.{is_stopped, used_sectors, sector_count, failure_count, record_count}
+use Rattle.commit_log.specs.LogState.{is_log_stopped, used_sectors, sector_count, failure_count, record_count}
 use Rattle.commit_log.specs.declared.log.Log.{Log}
 use Rattle.snapshot.specs.View.{View}
 use Rattle.engine.specs.declared.engine.Engine.{Engine}
@@ -22,7 +22,7 @@ pub record IsSameStore {D : Type 0} {g : Ghosts D} (e e' : Engine D g) : Type 0 
   pub history : e'.history ≡ e.history
 
 -- the session's transaction has ended, and nothing else has changed
-pub record Leaves {D : Type 0} {g : Ghosts D} (e e' : Engine D g) (s : ℕ) : Type 0 where
+pub record EndsTransaction {D : Type 0} {g : Ghosts D} (e e' : Engine D g) (s : ℕ) : Type 0 where
   pub store : IsSameStore e e'
   pub entries : e'.running.entries ≡ remove_entry (is_at (nat_cmp s)) e.running.entries
   pub fewer : length e'.running.entries ≤ length e.running.entries
@@ -37,26 +37,26 @@ abbrev pub records_added : List KeyWrite → ℕ
 records_added [] = 0
 records_added (w ∷ ws) = 1
 
-abbrev pub IsWritten : List KeyWrite → Type 0
-IsWritten ws = ws ≡ [] → ⊥
+abbrev pub WritesSomething : List KeyWrite → Type 0
+WritesSomething ws = ws ≡ [] → ⊥
 
 -- there is room in the log for what was written
 abbrev pub HasLogRoom : ℕ → ℕ → List KeyWrite → Type 0
-HasLogRoom used count ws = IsWritten ws → used + body_sectors ws < count
+HasLogRoom used count ws = WritesSomething ws → used + body_sectors ws < count
 
 -- what was written, if anything was, stands in the log
 pub record IsLogged {D : Type 0} {g : Ghosts D} (old new : Log D g) (ws : List KeyWrite) : Type 0 where
-  pub running : is_stopped new ≡ false
+  pub running : is_log_stopped new ≡ false
   pub used : used_sectors new ≡ used_sectors old + sectors_taken ws
   pub records : record_count new ≡ record_count old + records_added ws
   pub size : sector_count new ≡ sector_count old
-  pub no_fault : IsWritten ws → Stayed (failure_count old) (failure_count new)
+  pub no_fault : WritesSomething ws → Stayed (failure_count old) (failure_count new)
   pub untouched : ws ≡ [] → new ≡ old
 
 -- the device failed, and the log has stopped
 pub record IsLogStopped {D : Type 0} {g : Ghosts D} (old new : Log D g) (ws : List KeyWrite) : Type 0 where
-  pub written : IsWritten ws
-  pub stopped : is_stopped new ≡ true
+  pub written : WritesSomething ws
+  pub stopped : is_log_stopped new ≡ true
   pub used : used_sectors new ≡ used_sectors old
   pub records : record_count new ≡ record_count old
   pub size : sector_count new ≡ sector_count old

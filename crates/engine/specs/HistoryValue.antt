@@ -4,7 +4,7 @@ use Rattle.std.specs.Prelude.{◌≡◌, ◌↔◌, ℕ, ◌+◌, ◌&&◌, Bool
 use Rattle.model.specs.History.{Record}
 use Rattle.model.specs.Map.{KeyMap}
 use Rattle.versions.specs.Chains.{ChainsValue, IsPrepared}
-use Rattle.versions.specs.Listings.{IsUnmixed}
+use Rattle.versions.specs.Listings.{IsClassified}
 use Rattle.versions.specs.Meaning.{IsSameMeaning, garbage_of, is_among}
 use Rattle.versions.specs.StandsFor.{StandsFor as VersionsStandFor}
 use Rattle.snapshot.specs.View.{View}
@@ -34,20 +34,20 @@ KeepsActive old new bs = (active : ℕ → Bool) (base : KeyMap) (history : List
     → HistoryStandsFor old active base history
     → HistoryStandsFor new (λ n. active n && is_among bs n) base history
 
--- no group is mixed after a reclaim, where these numbers are active
-abbrev pub Unmixes : HistoryValue → HistoryValue → List ℕ → Type 0
-Unmixes old new bs = (active : ℕ → Bool) (base : KeyMap) (history : List Record)
+-- no group is unclassified after a reclaim, where these numbers are active
+abbrev pub Classifies : HistoryValue → HistoryValue → List ℕ → Type 0
+Classifies old new bs = (active : ℕ → Bool) (base : KeyMap) (history : List Record)
     → HistoryStandsFor old active base history
-    → ((n : ℕ) → IsTrue (is_among bs n) → IsTrue (active n)) → AllByRecursion IsUnmixed new.versions.groups
+    → ((n : ℕ) → IsTrue (is_among bs n) → IsTrue (active n)) → AllByRecursion IsClassified new.versions.groups
 
--- What the history stands for stays, with the last commit number, and no group is mixed. The commits up to that number
--- are asked for no more.
+-- What the history stands for stays, with the last commit number, and no group is unclassified. The commits up to that
+-- number are asked for no more.
 pub record Reclaims (bs : List ℕ) (n : ℕ) (old new : HistoryValue) : Type 0 where
   pub stands : KeepsActive old new bs
   pub last : new.committed.facts.last ≡ old.committed.facts.last
   pub oldest : new.committed.facts.oldest ≡ max old.committed.facts.oldest n
   pub forgotten : HasForgotten n new.committed.facts
-  pub unmixed : Unmixes old new bs
+  pub classified : Classifies old new bs
 
 -- there is garbage left where these numbers are active
 abbrev pub is_garbage : List ℕ → HistoryValue → Bool

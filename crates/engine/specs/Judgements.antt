@@ -9,13 +9,13 @@ use Rattle.model.specs.Operations.Operation.{Commit}
 use Rattle.model.specs.PrivateCopy.{writes}
 use Rattle.model.specs.declared.refusals.Refusal.{Refusal}
 use Rattle.sector.specs.declared.device.Sectors.{Ghosts}
-use Rattle.commit_log.specs.LogState.{is_stopped, used_sectors, sector_count}
+use Rattle.commit_log.specs.LogState.{is_log_stopped, used_sectors, sector_count}
 use Rattle.commit_log.specs.declared.log.Log.{Log}
 use Rattle.snapshot.specs.Made.{HasMade}
 use Rattle.snapshot.specs.View.{View}
 use Rattle.pivot_check.specs.Kept.{IsInReach}
 use Rattle.pivot_check.specs.StandsFor.{IsClear, IsCleared}
-use Rattle.engine.specs.Changes.{entry_of, IsWritten, HasLogRoom}
+use Rattle.engine.specs.Changes.{entry_of, WritesSomething, HasLogRoom}
 use Rattle.engine.specs.HistoryValue.{HistoryValue}
 use Rattle.engine.specs.StandsFor.{StandsFor}
 use Rattle.engine.specs.declared.engine.Engine.{Engine}
@@ -23,13 +23,13 @@ use Rattle.engine.specs.declared.judging.Judgement.{Judgement}
 use Rattle.engine.specs.declared.judging.Judgement.TheVariants.{Refused, Overwritten, Clear}
 
 -- the machine ends the session's transaction by this refusal, whether or not the device fails
-abbrev pub IsRefused : {D : Type 0} {g : Ghosts D} → Engine D g → ℕ → Refusal → Type 0
-IsRefused e s refusal = (m : State) (failed : Bool) → StandsFor e m → step m s Commit failed ≡ refuse m s refusal
+abbrev pub CommitIsRefused : {D : Type 0} {g : Ghosts D} → Engine D g → ℕ → Refusal → Type 0
+CommitIsRefused e s refusal = (m : State) (failed : Bool) → StandsFor e m → step m s Commit failed ≡ refuse m s refusal
 
 -- the session's transaction is open, the store runs, and there is a number for a commit
 pub record IsToJudge {D : Type 0} {g : Ghosts D} (e : Engine D g) (s : ℕ) (t : View) : Type 0 where
   pub entry : entry_of s e ≡ Some t
-  pub running : is_stopped e.log ≡ false
+  pub running : is_log_stopped e.log ≡ false
   pub numbers : e.history.committed.facts.last < 2 ^ 63 - 1
 
 -- nothing refuses the commit, and the log has room for what was written
@@ -42,20 +42,21 @@ pub record IsToCommit {D : Type 0} {g : Ghosts D} (e : Engine D g) (s : ℕ) (t 
 -- how many bytes the payload of a record of what was written has, if anything was
 abbrev pub IsPayload : List KeyWrite → Option ℕ → Type 0
 IsPayload ws None = ws ≡ []
-IsPayload ws (Some len) = IsWritten ws × (len ≡ payload_size ws)
+IsPayload ws (Some len) = WritesSomething ws × (len ≡ payload_size ws)
 
 -- a log that runs, with room for the record of what was written, whose payload is that long
 pub record CanCarryOut {D : Type 0} {g : Ghosts D} (log : Log D g) (ws : List KeyWrite) (payload : Option ℕ) : Type 0
   where
-    pub running : is_stopped log ≡ false
+    pub running : is_log_stopped log ≡ false
     pub room : HasLogRoom (used_sectors log) (sector_count log) ws
     pub payload_is : IsPayload ws payload
 
 -- the judgement is the machine's, over each state that the engine stands for
 abbrev pub IsJudged : {D : Type 0} {g : Ghosts D} → Engine D g → ℕ → View → Judgement → Type 0
-IsJudged e s t (Refused refusal) = IsRefused e s refusal
+IsJudged e s t (Refused refusal) = CommitIsRefused e s refusal
 IsJudged e s t (Overwritten i) =
-    (i < length t.writes) × ((d : KeyWrite) → IsRefused e s (refusals.Overwritten (slice_index_or t.writes i d).0))
+    (i < length t.writes) × ((d : KeyWrite)
+    → CommitIsRefused e s (refusals.Overwritten (slice_index_or t.writes i d).0))
 IsJudged e s t (Clear payload cleared) =
     IsToCommit e s t × IsPayload t.writes payload × IsCleared e.history.committed.facts t cleared
 

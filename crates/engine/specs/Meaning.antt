@@ -18,8 +18,8 @@ use Rattle.model.specs.declared.ranges.RangeRef.{RangeRef}
 use Rattle.model.specs.declared.refusals.Refusal.TheVariants.{NotOpen, FullMarks}
 use Rattle.sector.specs.SectorModel.{LeavesOnly}
 use Rattle.sector.specs.declared.device.Sectors.{Ghosts}
-use Rattle.commit_log.specs.LogState.{failure_count, record_count, device_of as log_device}
-use Rattle.commit_log.specs.LogState.{is_stopped as is_log_stopped}
+use Rattle.commit_log.specs.LogState.{failure_count, record_count, log_device}
+use Rattle.commit_log.specs.LogState.{is_log_stopped}
 use Rattle.commit_log.specs.declared.log.Log.{Log}
 use Rattle.versions.specs.Chains.{ChainsValue}
 use Rattle.snapshot.specs.Made.{is_refused, range_read}
@@ -46,8 +46,8 @@ device_of e = log_device e.log
 abbrev pub failures_of : {D : Type 0} {g : Ghosts D} → Engine D g → ℕ
 failures_of e = failure_count e.log
 
-abbrev pub is_stopped : {D : Type 0} {g : Ghosts D} → Engine D g → Bool
-is_stopped e = is_log_stopped e.log
+abbrev pub has_engine_stopped : {D : Type 0} {g : Ghosts D} → Engine D g → Bool
+has_engine_stopped e = is_log_stopped e.log
 
 -- whether a count of failures rose, or could rise no more
 abbrev pub has_risen : ℕ → ℕ → Bool
@@ -123,12 +123,12 @@ abbrev pub has_writes : Option View → Bool
 has_writes None = false
 has_writes (Some t) = has_any t.writes
 
-abbrev pub has_written : {D : Type 0} {g : Ghosts D} → Engine D g → ℕ → Bool
-has_written e s = has_writes (entry_of s e)
+abbrev pub has_engine_written : {D : Type 0} {g : Ghosts D} → Engine D g → ℕ → Bool
+has_engine_written e s = has_writes (entry_of s e)
 
 -- how many records its log has
-abbrev pub records_of : {D : Type 0} {g : Ghosts D} → Engine D g → ℕ
-records_of e = record_count e.log
+abbrev pub engine_records : {D : Type 0} {g : Ghosts D} → Engine D g → ℕ
+engine_records e = record_count e.log
 
 -- the versions that are kept, and what is kept to check later commits
 abbrev pub versions_of : {D : Type 0} {g : Ghosts D} → Engine D g → ChainsValue

@@ -7,7 +7,7 @@ use Rattle.sector.specs.SectorModel.{LeavesOnly}
 use Rattle.sector.specs.declared.device.Sectors.{Ghosts}
 use Rattle.commit_log.specs.Format.{current}
 use Rattle.commit_log.specs.LogImage.{IsLogImage}
-use Rattle.commit_log.specs.LogState.{StandsFor as LogStandsFor, device_of}
+use Rattle.commit_log.specs.LogState.{StandsFor as LogStandsFor, log_device}
 use Rattle.commit_log.specs.Recovery.{map_after}
 use Rattle.commit_log.specs.declared.faults.AppendFault.{AppendFault}
 use Rattle.commit_log.specs.declared.faults.AppendFault.TheVariants.{Device, Memory}
@@ -35,7 +35,7 @@ WhereStored log P = (map : KeyMap) → IsStored log map → P map
 -- a crash at any moment of an append leaves the map from before it, or that with the writes
 abbrev pub SurvivesAppend : {D : Type 0} {g : Ghosts D} → Log D g → Log D g → List KeyWrite → Type 0
 SurvivesAppend {g = g} old new ws =
-    WhereStored old (λ map. LeavesOnly g.moment g.left_since (device_of old) (device_of new) (λ c. HoldsMap c map
+    WhereStored old (λ map. LeavesOnly g.moment g.left_since (log_device old) (log_device new) (λ c. HoldsMap c map
     ⊎ HoldsMap c (after_writes map ws)))
 
 -- each image holds the map, or the map with the writes of one COMMIT, the same for all
@@ -45,7 +45,7 @@ pub record IsInDoubt (map : KeyMap) (may_leave : List (List ℕ) → Type 0) : T
 
 -- an append on which the device failed leaves that of the log's map
 abbrev pub LeavesInDoubt : {D : Type 0} {g : Ghosts D} → Log D g → Log D g → Type 0
-LeavesInDoubt {g = g} old new = WhereStored old (λ map. IsInDoubt map (g.may_leave (device_of new)))
+LeavesInDoubt {g = g} old new = WhereStored old (λ map. IsInDoubt map (g.may_leave (log_device new)))
 
 -- what each fault of an append leaves
 pub record FailsToCarryOut {D : Type 0} {g : Ghosts D} (old new : Log D g) (ws : List KeyWrite)

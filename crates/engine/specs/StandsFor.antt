@@ -7,7 +7,7 @@ use Rattle.model.specs.History.{Record, map_at}
 use Rattle.model.specs.Machine.{State, Running, IsReached}
 use Rattle.model.specs.Map.{KeyMap}
 use Rattle.sector.specs.declared.device.Sectors.{Ghosts}
-use Rattle.commit_log.specs.LogState.{device_of, is_stopped, used_sectors, sector_count}
+use Rattle.commit_log.specs.LogState.{log_device, is_log_stopped, used_sectors, sector_count}
 use Rattle.snapshot.specs.Made.{HasMade}
 use Rattle.snapshot.specs.View.{View}
 use Rattle.pivot_check.specs.Kept.{Facts, IsInReach}
@@ -30,13 +30,13 @@ AreRunning facts active base history es rs =
 
 pub record StandsFor {D : Type 0} {g : Ghosts D} (e : Engine D g) (m : State) : Type 0 where
   pub reached : IsReached m
-  pub stopped : m.stopped ≡ is_stopped e.log
+  pub stopped : m.stopped ≡ is_log_stopped e.log
   pub used : m.used ≡ used_sectors e.log
   pub count : m.count ≡ sector_count e.log
   -- where the device has not failed and keeps its model, the log has what has committed
-  pub stored : g.keeps_model → is_stopped e.log ≡ false → IsStored e.log (committed_map m)
+  pub stored : g.keeps_model → is_log_stopped e.log ≡ false → IsStored e.log (committed_map m)
   -- where it has failed, the writes of the COMMIT in which it did may be there too
-  pub doubt : g.keeps_model → is_stopped e.log ≡ true → IsInDoubt (committed_map m) (g.may_leave (device_of e.log))
+  pub doubt : g.keeps_model → is_log_stopped e.log ≡ true → IsInDoubt (committed_map m) (g.may_leave (log_device e.log))
   -- the numbers with which open transactions began are among the active ones
   pub active : ℕ → Bool
   pub history : HistoryStandsFor e.history active m.base m.history

@@ -12,9 +12,9 @@ impl<D: Sectors> Engine<D> {
     ghost use Rattle.std.specs.Prelude.{◌≡◌, ◌≢◌, ◌≤◌, true, Some, IsSome, IfOk, IfErr};
     ghost use Rattle.model.specs.Operations.Operation.{Commit};
     ghost use Rattle.model.specs.Operations.Response.{Number};
-    ghost use Rattle.engine.specs.Changes.{entry_of, Leaves};
+    ghost use Rattle.engine.specs.Changes.{entry_of, EndsTransaction};
     ghost use Rattle.engine.specs.Meaning.{Appends, Leads, SurvivesCommit, IsDurable, response_to};
-    ghost use Rattle.engine.specs.Meaning.{device_of, failures_of, has_failed, is_stopped};
+    ghost use Rattle.engine.specs.Meaning.{device_of, failures_of, has_failed, has_engine_stopped};
 
     /// Commits the session's transaction, and answers its commit number. Where it wrote something, one record is appended to the log,
     /// which then uses more sectors; what it takes of memory is made before, so that nothing can fail once the record stands.
@@ -28,7 +28,7 @@ impl<D: Sectors> Engine<D> {
         ensures device { failures_of self.old ≤ failures_of self.new }
 
         // A stopped store leaves the device alone, and so does each refusal but that of a store fault.
-        ensures still { is_stopped self.old ≡ true → device_of self.new ≡ device_of self.old }
+        ensures still { has_engine_stopped self.old ≡ true → device_of self.new ≡ device_of self.old }
         ensures refused { IfErr result (λ e. e ≢ EngineFault.Refused Refusal.StoreFault → device_of self.new ≡ device_of self.old) }
 
         // One record is added to the log at most. Where nothing was written, the log and its device are left alone.
@@ -71,7 +71,7 @@ impl<D: Sectors> Engine<D> {
     fn end(&mut self, s: u64) -> Transaction
         requires { IsSome (entry_of s self.old) }
         ensures taken { Some result ≡ entry_of s self.old }
-        ensures leaves { Leaves self.old self.new s }
+        ensures leaves { EndsTransaction self.old self.new s }
     {
         let Some(transaction) = self.running.remove(&s) else {
             unreachable!()
@@ -82,7 +82,7 @@ impl<D: Sectors> Engine<D> {
     // Ends the session's transaction by this refusal.
     fn refuse(&mut self, s: u64, refusal: Refusal) -> EngineFault
         ensures refusal { result ≡ EngineFault.Refused refusal }
-        ensures leaves { Leaves self.old self.new s }
+        ensures leaves { EndsTransaction self.old self.new s }
     {
         self.running.remove(&s);
         EngineFault::Refused(refusal)

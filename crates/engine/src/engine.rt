@@ -37,16 +37,15 @@ impl<D: Sectors> Engine<D> {
     ghost use Rattle.model.specs.Operations.Response.{Done, Pong, Refused};
     ghost use Rattle.model.specs.Machine.{State, IsReached, leave};
     ghost use Rattle.model.specs.Laws.{IsIsolated, IsOrderedByPlace, IsSerializable};
-    ghost use Rattle.versions.specs.Listings.{IsUnmixed};
-    ghost use Rattle.versions.specs.Meaning.{kept_of, IsReclaimed, IsReclaimedInPart};
+    ghost use Rattle.versions.specs.Listings.{IsClassified};
+    ghost use Rattle.versions.specs.Meaning.{versions_kept, IsReclaimed, IsReclaimedInPart};
     ghost use Rattle.std.specs.List.{AllByRecursion};
-    ghost use Rattle.pivot_check.specs.Kept.{IsGivenBack, KeepsNoneUpto, kept_count};
+    ghost use Rattle.pivot_check.specs.Kept.{FreesRuns, KeepsNoneUpto, kept_count};
     ghost use Rattle.engine.specs.HistoryValue.{is_garbage};
     ghost use Rattle.engine.specs.Recovery.{LeavesCommitted};
     ghost use Rattle.engine.specs.Meaning.{StandsFor, Leads, IsReadOnly, KeepsStates, response_to, device_of, log_of};
-    ghost use Rattle.engine.specs.Meaning.{is_stopped};
-    ghost use Rattle.engine.specs.Meaning.{has_written, records_of, versions_of, committed_of, facts_of, open_begins};
-    ghost use Rattle.engine.specs.Meaning.{HasForgottenOld};
+    ghost use Rattle.engine.specs.Meaning.{has_engine_stopped, has_engine_written, engine_records, versions_of};
+    ghost use Rattle.engine.specs.Meaning.{committed_of, facts_of, open_begins, HasForgottenOld};
 
     /// Begins a transaction of the session, over the map that is committed now.
     ///
@@ -154,8 +153,8 @@ impl<D: Sectors> Engine<D> {
         ensures versions { (m : State) → StandsFor self.old m
             → IsReclaimedInPart (versions_of self.old) (versions_of self.new) (open_begins m) }
         ensures still { (m : State) → StandsFor self.old m → result ≡ is_garbage (open_begins m) self.new.history }
-        ensures unmixed { (m : State) → StandsFor self.old m → AllByRecursion IsUnmixed (versions_of self.new).groups }
-        ensures given_back { IsGivenBack (committed_of self.old) (committed_of self.new) }
+        ensures classified { (m : State) → StandsFor self.old m → AllByRecursion IsClassified (versions_of self.new).groups }
+        ensures frees_runs { FreesRuns (committed_of self.old) (committed_of self.new) }
         ensures forgotten { (m : State) → StandsFor self.old m → HasForgottenOld m (facts_of self.new) }
         ensures kept { result ≡ false → KeepsNoneUpto (facts_of self.new).oldest (facts_of self.new) }
     {
@@ -175,7 +174,7 @@ impl<D: Sectors> Engine<D> {
     pub fn reclaim(&mut self)
         ensures keeps { KeepsStates self.old self.new }
         ensures versions { (m : State) → StandsFor self.old m → IsReclaimed (versions_of self.old) (versions_of self.new) (open_begins m) }
-        ensures unmixed { (m : State) → StandsFor self.old m → AllByRecursion IsUnmixed (versions_of self.new).groups }
+        ensures classified { (m : State) → StandsFor self.old m → AllByRecursion IsClassified (versions_of self.new).groups }
         ensures forgotten { (m : State) → StandsFor self.old m → HasForgottenOld m (facts_of self.new) }
         ensures kept { KeepsNoneUpto (facts_of self.new).oldest (facts_of self.new) }
     {
@@ -194,7 +193,7 @@ impl<D: Sectors> Engine<D> {
 
     /// Has the session's open transaction written a key? Where none is open it hasn't. Takes no memory.
     pub fn has_written(&self, s: u64) -> bool
-        ensures buffer { result ≡ has_written self.now s }
+        ensures buffer { result ≡ has_engine_written self.now s }
         ensures written { (m : State) → StandsFor self.now m → (result ≡ false) ↔ IsReadOnly m s }
     {
         match self.running.get(&s) {
@@ -205,14 +204,14 @@ impl<D: Sectors> Engine<D> {
 
     /// How many records its log has. Takes no memory.
     pub fn records(&self) -> u64
-        ensures { result ≡ records_of self.now }
+        ensures { result ≡ engine_records self.now }
     {
         self.log.records()
     }
 
     /// How many versions of the key are kept. Takes no memory.
     pub fn kept_versions(&self, key: KeyRef<'_>) -> usize
-        ensures { result ≡ kept_of (versions_of self.now) key.entry.bytes.now }
+        ensures { result ≡ versions_kept (versions_of self.now) key.entry.bytes.now }
     {
         self.history.versions().kept(key)
     }

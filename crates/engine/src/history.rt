@@ -2,7 +2,7 @@
 ghost use Rattle.std.specs.Prelude.{◌≡◌, ◌+◌, ◌-◌, ◌^◌, ◌<◌, ◌≤◌, false, true, [], IfOk, OnOk};
 ghost use Rattle.model.specs.Map.{IsInBounds};
 ghost use Rattle.versions.specs.Meaning.{IsReclaimed, IsReclaimedInPart};
-ghost use Rattle.pivot_check.specs.Kept.{IsEmpty, IsGivenBack, KeepsNoneUpto};
+ghost use Rattle.pivot_check.specs.Kept.{IsEmpty, FreesRuns, KeepsNoneUpto};
 ghost use Rattle.pivot_check.specs.StandsFor.{IsCleared};
 ghost use Rattle.engine.specs.HistoryValue.{HistoryStandsFor, IsSameHistory, IsReady, Joins, Reclaims, is_garbage};
 
@@ -92,7 +92,7 @@ impl History {
         requires { oldest ≤ self.old.committed.facts.last }
         ensures reclaims { Reclaims begins.now oldest self.old self.new }
         ensures reclaimed { IsReclaimedInPart self.old.versions self.new.versions begins.now }
-        ensures given_back { IsGivenBack self.old.committed self.new.committed }
+        ensures frees_runs { FreesRuns self.old.committed self.new.committed }
         ensures still { result ≡ is_garbage begins.now self.new }
         ensures kept { result ≡ false → KeepsNoneUpto self.new.committed.facts.oldest self.new.committed.facts }
     {

@@ -11,22 +11,22 @@ impl<D: Sectors> Engine<D> {
     ghost use Rattle.model.specs.Map.{KeyMap, IsInBounds};
     ghost use Rattle.model.specs.Machine.{State, opened};
     ghost use Rattle.sector.specs.Failures.{Stayed};
-    ghost use Rattle.commit_log.specs.OpenedLog.{Finds, IsRefused, OpeningLeavesAsBefore};
-    ghost use Rattle.engine.specs.Meaning.{StandsFor, device_of, failures_of, is_stopped};
+    ghost use Rattle.commit_log.specs.OpenedLog.{Finds, OpeningIsRefused, OpeningLeavesAsBefore};
+    ghost use Rattle.engine.specs.Meaning.{StandsFor, device_of, failures_of, has_engine_stopped};
     ghost use Rattle.engine.specs.Opening.{IsStoreOf};
     ghost use Rattle.engine.specs.Recovery.{committed_map};
 
     /// Opens the store whose log a device holds. Nothing is open in it, and nothing has committed since. Its keys and values have lengths
     /// in bounds.
     ///
-    /// Faults are those of `Log::open_or_return`, and `Memory` where the memory for the map is refused. The device is given back with the
+    /// Faults are those of `Log::open_or_return`, and `Memory` where the memory for the map is refused. The device is returned with the
     /// fault.
     pub fn open(alloc: Global, dev: D) -> Result<Engine<D>, Unopened<D>>
         ensures opens { IfOk result (λ e. (base : KeyMap) × (used : ℕ) × StandsFor e (opened base used (D.size dev))) }
         ensures idle { IfOk result (λ e. (m : State) → StandsFor e m → m.running ≡ []) }
         ensures in_bounds { IfOk result (λ e. (m : State) → StandsFor e m → IsInBounds (committed_map m)) }
-        ensures runs { IfOk result (λ e. (is_stopped e ≡ false) × Stayed (D.failures dev) (failures_of e)) }
-        ensures refused { IfErr result (IsRefused D.Sectors dev) }
+        ensures runs { IfOk result (λ e. (has_engine_stopped e ≡ false) × Stayed (D.failures dev) (failures_of e)) }
+        ensures refused { IfErr result (OpeningIsRefused D.Sectors dev) }
         ensures short { D.size dev < 2 → IsErrAnd result (λ u. (u.fault ≡ LogFault.NotALog) ⊎ (u.fault ≡ LogFault.Device)) }
 
         // A log is opened with the map that its write sets make. Where each crash leaves some log, one is found.

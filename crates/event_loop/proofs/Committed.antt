@@ -22,12 +22,12 @@ use Rattle.model.specs.Operations.Response.{Number}
 use Rattle.model.specs.PrivateCopy.{PrivateCopy, copy_after, copy_of, respond}
 use Rattle.model.specs.Verdict.{verdict}
 use Rattle.model.specs.declared.refusals.Refusal.{Refusal}
-use Rattle.sessions.proofs.LifeLaws.{CommitsBy, commits_in_event}
-use Rattle.sessions.proofs.LifeLaws.CommitsBy.{Fails, NoMore, OneMore}
-use Rattle.sessions.specs.SessionStreams.{HubState, HubEvent, Choice, Effect, Front, SessionState, SessionStream}
+use Rattle.sessions.proofs.FoundMapLaws.{CommitsBy, commits_in_event}
+use Rattle.sessions.proofs.FoundMapLaws.CommitsBy.{Fails, NoMore, OneMore}
+use Rattle.sessions.specs.SessionStreams.{HubState, HubEvent, Choice, Effect, Head, SessionState, SessionStream}
 use Rattle.sessions.specs.SessionStreams.{Joins, Receives, Serves, Sends, Whole, More, Bad, asks, depart, hub_step}
-use Rattle.sessions.specs.SessionStreams.{is_open, may_serve, new_stream, receive, room, run, send, serve}
-use Rattle.sessions.specs.SessionStreams.{serve_front, serve_session, stream_of, Leaves}
+use Rattle.sessions.specs.SessionStreams.{is_open, may_serve, new_stream, receive, room, run, send, serve_choice}
+use Rattle.sessions.specs.SessionStreams.{serve_head, serve_session, stream_of, Leaves}
 use Rattle.sessions.specs.declared.events.Outcome.{Outcome}
 use Rattle.stream_driver.proofs.Carry.{run_then}
 use Rattle.event_loop.proofs.Present.{by_if, join_step}
@@ -122,10 +122,10 @@ module _ (m : State) (s : ℕ) (f : Bool) where
 abbrev Replies : State → Effect → Type 0
 Replies m e = Goes m e.machine e.replies
 
-served : (c : Choice) (m : State) (s : ℕ) (n : SessionState) → Replies m (serve c m s n)
-served c m s n = by_if (Replies m) (may_serve n) _ _ (by c.front) ([], sym (append-nil m.history), tt)
+served : (c : Choice) (m : State) (s : ℕ) (n : SessionState) → Replies m (serve_choice c m s n)
+served c m s n = by_if (Replies m) (may_serve n) _ _ (by c.head) ([], sym (append-nil m.history), tt)
   where
-    by : (f : Front) → Replies m (serve_front f c m s n)
+    by : (f : Head) → Replies m (serve_head f c m s n)
     by (Whole parts used) = by_if (Replies m) c.refused _ _ ([], sym (append-nil m.history), tt) (steps m s c.failed (asks parts))
     by More = ([], sym (append-nil m.history), tt)
     by Bad = ([], sym (append-nil m.history), (tt, tt))
@@ -157,7 +157,7 @@ in_step h (Receives s piece) c a = elim (stream_of h s) as (λ o. stream_of h s 
 in_step h (Serves s) c a = elim (stream_of h s) as (λ o. stream_of h s ≡ o → After (serve_session o h s c)) [
   | None ↦ λ e. a
   | Some st ↦ λ e.
-      let effect = serve c h.machine s st.now in
+      let effect = serve_choice c h.machine s st.now in
       let x = served c h.machine s st.now in
       let grown : (v : SessionStream) → Has h.machine.history v → Has effect.machine.history v = λ v all. rw x.1 (grow h.machine.history x.0 v.replies all) in
       All-values-set_value (is_at (nat_cmp s)) (Has effect.machine.history) h.present _

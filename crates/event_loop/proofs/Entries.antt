@@ -16,8 +16,8 @@ use Rattle.stream_driver.proofs.Events.{test}
 use Rattle.stream_driver.proofs.OneEntry.{ends_other}
 use Rattle.stream_driver.proofs.States.{seen_after}
 use Rattle.stream_driver.specs.Buffers.{has_had_share}
-use Rattle.stream_driver.specs.Drives.{EndsAs}
-use Rattle.stream_driver.specs.Entries.{DrivenAll, DrivenIn, DrivenSlot, DrivenOnce, HaveSessions, state_after}
+use Rattle.stream_driver.specs.Drives.{LeavesIfGone}
+use Rattle.stream_driver.specs.Entries.{DrivenAll, DrivenIn, DrivenSlot, DrivenOnce, HaveSessions, entry_state_after}
 use Rattle.stream_driver.specs.Sessions.{Point, Leads, IsPresent, Stands, status_at}
 use Rattle.stream_driver.specs.Traffic.{Traffic, untouched}
 use Rattle.stream_driver.specs.declared.answers.Progress.{Progress}
@@ -30,7 +30,7 @@ use Rattle.event_loop.proofs.Polled.{gone_as, gone_at_end, gone_before, TakesTur
 use Rattle.event_loop.proofs.Polled.{was_polled}
 use Rattle.event_loop.proofs.Present.{reached-run, absent_then}
 use Rattle.event_loop.proofs.Slots.{Slots}
-use Rattle.event_loop.specs.Numbers.{AreBelow}
+use Rattle.event_loop.specs.Numbers.{SessionsAreBelow}
 use Rattle.event_loop.specs.Tables.{EndsTurn, HasNobody, HaveEntries, IsWithoutEntry, slot_at}
 
 -- nobody is there, so each session is absent
@@ -39,12 +39,12 @@ nobody_entries hub slots nobody s without = ap (λ es. status_or_absent (lookup 
 
 -- ---- drives
 
-ends_reached : (s : ℕ) (last new : Point) (answer : Progress) → EndsAs s last new answer → IsReachedHub last.hub → IsReachedHub new.hub
+ends_reached : (s : ℕ) (last new : Point) (answer : Progress) → LeavesIfGone s last new answer → IsReachedHub last.hub → IsReachedHub new.hub
 ends_reached s last new Gone e reached = subst (λ h. IsReachedHub h) (sym e.adds.run_is) (Continued last.hub (Leaves s) e.choice tt reached)
 ends_reached s last new _ e reached = subst (λ p. IsReachedHub p.hub) (sym e) reached
 
 -- an entry is gone only where its session has left
-ends_absent : (s : ℕ) (last new : Point) (answer : Progress) → state_after answer ≡ EntryGone → EndsAs s last new answer → IsReachedHub last.hub
+ends_absent : (s : ℕ) (last new : Point) (answer : Progress) → entry_state_after answer ≡ EntryGone → LeavesIfGone s last new answer → IsReachedHub last.hub
     → status_at new.hub s ≡ Absent
 ends_absent s last new Gone gone e reached = ap (λ h. status_at h s) e.adds.run_is ∙ absent_then last.hub s e.choice reached
 ends_absent s last new _ gone e reached = absurd (cc)
@@ -59,25 +59,25 @@ module _ {T : Type 0} where
   pub no_entry : (slots : Slots T) → slots ≡ [] → (key : ℕ) (entry : Entry T) → slot_at slots key ≡ Some entry → ⊥
   no_entry slots is key entry e = let bad : None ≡ Some entry = sym (ap (λ (l : Slots T). slot_at l key) is) ∙ e in cc
 
-  module _ (tells : Type 0) (traffic : T → Traffic) (s : ℕ) where
-    last_reached : (earlier : Point) (old : Entry T) (later : Point) (new : Entry T) (d : DrivenOnce tells traffic earlier old later new)
+  module _ (reports : Type 0) (traffic : T → Traffic) (s : ℕ) where
+    last_reached : (earlier : Point) (old : Entry T) (later : Point) (new : Entry T) (d : DrivenOnce reports traffic earlier old later new)
         → IsReachedHub earlier.hub → IsReachedHub d.drove.last.hub
     last_reached earlier old later new d reached =
         let runs = d.drove.carried.runs in subst (λ h. IsReachedHub h) (sym runs.adds.run_is) (reached-run earlier.hub runs.events runs.possible reached)
 
-    entry_reached : (state : EntryState) (earlier : Point) (old : Entry T) (later : Point) (new : Entry T) → DrivenIn tells traffic state earlier old later new
-        → IsReachedHub earlier.hub → IsReachedHub later.hub
+    entry_reached : (state : EntryState) (earlier : Point) (old : Entry T) (later : Point) (new : Entry T)
+        → DrivenIn reports traffic state earlier old later new → IsReachedHub earlier.hub → IsReachedHub later.hub
     entry_reached Ready earlier old later new d reached =
         ends_reached old.session d.drove.last later d.answer d.drove.ends (last_reached earlier old later new d reached)
     entry_reached _ earlier old later new d reached = subst (λ p. IsReachedHub p.hub) (sym d.1) reached
 
-    slot_reached : (earlier : Point) (slot : Option (Entry T)) (later : Point) (new : Option (Entry T)) → DrivenSlot tells traffic earlier slot later new
+    slot_reached : (earlier : Point) (slot : Option (Entry T)) (later : Point) (new : Option (Entry T)) → DrivenSlot reports traffic earlier slot later new
         → IsReachedHub earlier.hub → IsReachedHub later.hub
     slot_reached earlier None later new d reached = subst (λ p. IsReachedHub p.hub) (sym d.1) reached
     slot_reached earlier (Some old) later new d reached = entry_reached old.state earlier old later d.0 d.2 reached
 
     entry_absent : (state : EntryState) (earlier : Point) (old : Entry T) (later : Point) (new : Entry T) → old.state ≡ state
-        → DrivenIn tells traffic state earlier old later new → IsReachedHub earlier.hub
+        → DrivenIn reports traffic state earlier old later new → IsReachedHub earlier.hub
         → (new.session ≡ s → new.state ≡ EntryGone) → ((old.session ≡ s → old.state ≡ EntryGone) → status_at earlier.hub s ≡ Absent)
         → status_at later.hub s ≡ Absent
     entry_absent Idle earlier old later new is d reached without before =
@@ -85,7 +85,7 @@ module _ {T : Type 0} where
     entry_absent EntryGone earlier old later new is d reached without before = ap (λ p. status_at p.hub s) d.1 ∙ before (λ same. is)
     entry_absent Ready earlier old later new is d reached without before = elim (cases_eq s old.session) [
       | inl same ↦
-          let gone : state_after d.answer ≡ EntryGone = sym d.state ∙ without (d.session ∙ sym same) in
+          let gone : entry_state_after d.answer ≡ EntryGone = sym d.state ∙ without (d.session ∙ sym same) in
           subst (λ t. status_at later.hub t
           ≡ Absent) (sym same) (ends_absent old.session d.drove.last later d.answer gone d.drove.ends (last_reached earlier old later new d reached))
       | inr differs ↦
@@ -93,7 +93,7 @@ module _ {T : Type 0} where
           ∙ before (λ same. absurd (differs (sym same)))
     ]
 
-    slot_absent : (earlier : Point) (slot : Option (Entry T)) (later : Point) (new : Option (Entry T)) → DrivenSlot tells traffic earlier slot later new
+    slot_absent : (earlier : Point) (slot : Option (Entry T)) (later : Point) (new : Option (Entry T)) → DrivenSlot reports traffic earlier slot later new
         → IsReachedHub earlier.hub
         → ((entry : Entry T) → new ≡ Some entry → entry.session ≡ s → entry.state ≡ EntryGone)
         → (((entry : Entry T) → slot ≡ Some entry → entry.session ≡ s → entry.state ≡ EntryGone) → status_at earlier.hub s ≡ Absent)
@@ -104,7 +104,7 @@ module _ {T : Type 0} where
         entry_absent old.state earlier old later d.0 refl d.2 reached (without d.0 d.1)
         (λ head. before (λ entry e. subst (λ (x : Entry T). x.session ≡ s → x.state ≡ EntryGone) (some_same e) head))
 
-    driven_absent : (earlier : Point) (slots : Slots T) (later : Point) (new : Slots T) → DrivenAll tells traffic earlier slots later new
+    driven_absent : (earlier : Point) (slots : Slots T) (later : Point) (new : Slots T) → DrivenAll reports traffic earlier slots later new
         → IsReachedHub earlier.hub → IsWithoutEntry s new
         → (IsWithoutEntry s slots → status_at earlier.hub s ≡ Absent) → status_at later.hub s ≡ Absent
     driven_absent earlier [] later new (is, same) reached without before =
@@ -115,12 +115,12 @@ module _ {T : Type 0} where
         (λ none. slot_absent earlier slot mid first d reached (λ entry e. w zero entry e) (λ head. before (without-cons s slot slots head none)))
 
   module _ {D : Type 0} {g : Ghosts D} (hub later : Hub D g) where
-    pub driven_entries : (tells : Type 0) (traffic : T → Traffic) (slots new : Slots T) → Stands hub
-        → Leads hub later (λ h k. DrivenAll tells traffic h slots k new) → HaveEntries hub slots → HaveEntries later new
-    driven_entries tells traffic slots new some leads has s without =
+    pub driven_entries : (reports : Type 0) (traffic : T → Traffic) (slots new : Slots T) → Stands hub
+        → Leads hub later (λ h k. DrivenAll reports traffic h slots k new) → HaveEntries hub slots → HaveEntries later new
+    driven_entries reports traffic slots new some leads has s without =
         seen_after (hlevel props) some leads
         (λ h k was stands d. status_seen later k.hub stands s
-        ∙ driven_absent tells traffic s h slots k new d was.reached without (λ none. sym (status_seen hub h.hub was s) ∙ has s none))
+        ∙ driven_absent reports traffic s h slots k new d was.reached without (λ none. sym (status_seen hub h.hub was s) ∙ has s none))
 
   -- ---- the table alone changes
 
@@ -138,7 +138,7 @@ module _ {T : Type 0} where
         has.own one two a.0 b.0 a.1 b.1 (a.3 alive) (b.3 too) (a.2 ∙ same ∙ sym b.2);
   }
 
-  pub remain_numbers : (next : ℕ) (old new : Slots T) → Remain old new → AreBelow next old → AreBelow next new
+  pub remain_numbers : (next : ℕ) (old new : Slots T) → Remain old new → SessionsAreBelow next old → SessionsAreBelow next new
   remain_numbers next old new remain numbers = λ key entry e. let b = remain key entry e in subst (λ s. s < next) b.2 (numbers key b.0 b.1)
 
 module _ {T : Type 0} (old new : Slots (BufferedStream T)) where
@@ -158,13 +158,14 @@ module _ {T : Type 0} (old new : Slots (BufferedStream T)) where
 
   -- ---- the end of a turn
 
-  module _ (tells : Type 0) (traffic : T → Traffic) (moment : ℕ) (ended : (key : ℕ) → EndsTurn tells traffic moment (slot_at old key) (slot_at new key)) where
+  module _ (reports : Type 0) (traffic : T → Traffic) (moment : ℕ)
+      (ended : (key : ℕ) → EndsTurn reports traffic moment (slot_at old key) (slot_at new key)) where
     pub ended_remain : Remain old new
     ended_remain key entry e =
-        let b = was_driven tells traffic moment (slot_at old key) (slot_at new key) entry (ended key) e in
+        let b = was_driven reports traffic moment (slot_at old key) (slot_at new key) entry (ended key) e in
         (b.0, b.1, sym b.2.session, λ alive gone. alive (b.2.state ∙ gone_at_end b.0.state (has_had_share b.0.stream) gone))
 
     pub ended_entries : {D : Type 0} {g : Ghosts D} (hub : Hub D g) → HaveEntries hub old → HaveEntries hub new
     ended_entries hub has s without = has s (λ key entry e same.
-        gone_before tells traffic moment entry (slot_at new key) (subst (λ slot. EndsTurn tells traffic moment slot (slot_at new key)) e (ended key))
+        gone_before reports traffic moment entry (slot_at new key) (subst (λ slot. EndsTurn reports traffic moment slot (slot_at new key)) e (ended key))
         (λ x f session. without key x f (session ∙ same)))

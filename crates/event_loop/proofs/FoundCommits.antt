@@ -11,10 +11,10 @@ use Rattle.model.specs.History.{IsNumberedFrom, Record, map_at}
 use Rattle.model.specs.Machine.{State, last}
 use Rattle.model.specs.Map.{KeyMap, after_writes}
 use Rattle.sector.specs.declared.device.Sectors.{Ghosts}
-use Rattle.sessions.proofs.LifeLaws.{CommitsBy, commits_in_event, hub-stopped}
-use Rattle.sessions.proofs.LifeLaws.CommitsBy.{Fails, NoMore, OneMore}
+use Rattle.sessions.proofs.FoundMapLaws.{CommitsBy, commits_in_event, hub-stopped}
+use Rattle.sessions.proofs.FoundMapLaws.CommitsBy.{Fails, NoMore, OneMore}
 use Rattle.sessions.specs.Laws.{Ran}
-use Rattle.sessions.specs.Life.{MayFind}
+use Rattle.sessions.specs.FoundMaps.{MayFind}
 use Rattle.sessions.specs.SessionStreams.{HubState, HubEvent, Choice, hub_step, run}
 use Rattle.sessions.specs.StandsFor.{StandsFor}
 use Rattle.sessions.specs.declared.hub.Hub.{Hub}

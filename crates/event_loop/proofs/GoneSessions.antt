@@ -13,8 +13,8 @@ use Rattle.sessions.specs.SessionStreams.{depart, hub_step, is_open, receive, re
 use Rattle.sessions.specs.SessionStreams.{serve_session, stream_of}
 use Rattle.sessions.specs.declared.events.Outcome.{Outcome}
 use Rattle.stream_driver.proofs.Carry.{one_history}
-use Rattle.stream_driver.specs.Drives.{Departs, EndsAs}
-use Rattle.stream_driver.specs.Entries.{DrivenAll, DrivenIn, DrivenSlot, state_after}
+use Rattle.stream_driver.specs.Drives.{Departs, LeavesIfGone}
+use Rattle.stream_driver.specs.Entries.{DrivenAll, DrivenIn, DrivenSlot, entry_state_after}
 use Rattle.stream_driver.specs.Sessions.{Adds, Point}
 use Rattle.stream_driver.specs.Traffic.{IsBeginning, Traffic}
 use Rattle.stream_driver.specs.declared.answers.Progress.{Progress}
@@ -97,12 +97,12 @@ stays_left h k s bytes grows l = record { stream = l.stream; left = left_on h k 
 
 -- ---- a drive
 
-ends_grow : (s : ℕ) (last new : Point) (answer : Progress) → EndsAs s last new answer → Grows last.hub new.hub
+ends_grow : (s : ℕ) (last new : Point) (answer : Progress) → LeavesIfGone s last new answer → Grows last.hub new.hub
 ends_grow s last new Gone ends = adds_grow last ((Leaves s, ends.choice) ∷ []) new ends.adds
 ends_grow s last new Waiting same = subst (λ (p : Point). Grows last.hub p.hub) (sym same) (grows_not last.hub last.hub refl)
 ends_grow s last new Again same = subst (λ (p : Point). Grows last.hub p.hub) (sym same) (grows_not last.hub last.hub refl)
 
-departs_if : (s : ℕ) (last new : Point) (answer : Progress) → state_after answer ≡ EntryGone → EndsAs s last new answer → Departs s last new
+departs_if : (s : ℕ) (last new : Point) (answer : Progress) → entry_state_after answer ≡ EntryGone → LeavesIfGone s last new answer → Departs s last new
 departs_if s last new Gone is ends = ends
 departs_if s last new Waiting is ends = absurd (let bad : Idle ≡ EntryGone = is in cc)
 departs_if s last new Again is ends = absurd (let bad : Ready ≡ EntryGone = is in cc)
@@ -110,8 +110,8 @@ departs_if s last new Again is ends = absurd (let bad : Ready ≡ EntryGone = is
 departs_left : (s : ℕ) (last new : Point) (st : SessionStream) → stream_of last.hub s ≡ Some st → Departs s last new → Contains new.hub.gone (s, st)
 departs_left s last new st is d = subst (λ (h : HubState). Contains h.gone (s, st)) (sym d.adds.run_is) (departed last.hub s st d.choice is)
 
-module _ {T : Type 0} (tells : Type 0) (traffic : T → Traffic) where
-  entry_grows : (state : EntryState) (earlier : Point) (old : Entry T) (later : Point) (new : Entry T) → DrivenIn tells traffic state earlier old later new
+module _ {T : Type 0} (reports : Type 0) (traffic : T → Traffic) where
+  entry_grows : (state : EntryState) (earlier : Point) (old : Entry T) (later : Point) (new : Entry T) → DrivenIn reports traffic state earlier old later new
       → Grows earlier.hub later.hub
   entry_grows Ready earlier old later new d =
       let runs = d.drove.carried.runs in
@@ -119,12 +119,12 @@ module _ {T : Type 0} (tells : Type 0) (traffic : T → Traffic) where
       (ends_grow old.session d.drove.last later d.answer d.drove.ends)
   entry_grows _ earlier old later new d = subst (λ (p : Point). Grows earlier.hub p.hub) (sym d.1) (grows_not earlier.hub earlier.hub refl)
 
-  pub slot_grows : (earlier : Point) (slot : Option (Entry T)) (later : Point) (after : Option (Entry T)) → DrivenSlot tells traffic earlier slot later after
+  pub slot_grows : (earlier : Point) (slot : Option (Entry T)) (later : Point) (after : Option (Entry T)) → DrivenSlot reports traffic earlier slot later after
       → Grows earlier.hub later.hub
   slot_grows earlier None later after d = subst (λ (p : Point). Grows earlier.hub p.hub) (sym d.1) (grows_not earlier.hub earlier.hub refl)
   slot_grows earlier (Some old) later after (new, is, d) = entry_grows old.state earlier old later new d
 
-  pub all_grow : (earlier : Point) (slots : Slots T) (later : Point) (new : Slots T) → DrivenAll tells traffic earlier slots later new
+  pub all_grow : (earlier : Point) (slots : Slots T) (later : Point) (new : Slots T) → DrivenAll reports traffic earlier slots later new
       → Grows earlier.hub later.hub
   all_grow earlier [] later new d = subst (λ (p : Point). Grows earlier.hub p.hub) (sym d.1) (grows_not earlier.hub earlier.hub refl)
   all_grow earlier (slot ∷ slots) later new (first, mid, others, is, d, rest) =
@@ -132,7 +132,7 @@ module _ {T : Type 0} (tells : Type 0) (traffic : T → Traffic) where
 
   -- an entry that is gone after its drive was gone before, or its session left in it
   pub entry_left : (state : EntryState) (earlier : Point) (old : Entry T) (later : Point) (new : Entry T) → old.state ≡ state
-      → DrivenIn tells traffic state earlier old later new → tells → (old.state ≢ EntryGone → HasItsBytes tells traffic earlier.hub old)
+      → DrivenIn reports traffic state earlier old later new → reports → (old.state ≢ EntryGone → HasItsBytes reports traffic earlier.hub old)
       → (old.state ≡ EntryGone → HasLeft earlier.hub old.session (traffic old.stream).received) → new.state ≡ EntryGone
       → HasLeft later.hub new.session (traffic new.stream).received
   entry_left Ready earlier old later new was d t has left gone =

@@ -10,7 +10,7 @@ use Rattle.stream_driver.specs.Sessions.{Adds, Leads, Point}
 use Rattle.stream_driver.specs.Traffic.{Traffic}
 use Rattle.event_loop.specs.Leavings.{LingerOn}
 use Rattle.event_loop.specs.Lingerings.{Lingerers, lingers_in, unless_failed}
-use Rattle.event_loop.specs.Turns.{Accepted, DrivesReady, IsGivenBack, IsTurn, accepted_joins, accepts_now}
+use Rattle.event_loop.specs.Turns.{Accepted, DrivesReady, CollectsGarbage, IsTurn, accepted_joins, accepts_now}
 use Rattle.event_loop.specs.Turns.{is_reported_of}
 use Rattle.event_loop.specs.declared.connections.Backlog.{Backlog}
 use Rattle.event_loop.specs.declared.connections.TheConstants.{LINGERER}
@@ -22,13 +22,13 @@ use Rattle.event_loop.specs.declared.socket.Socket.{Socket}
 pub none_closed : (backlog : Backlog) (events : List Event) (all : Lingerers) → accepts_now backlog events ≡ false → all ≡ unless_failed backlog all
 none_closed backlog events all e = grind arith
 
-module _ {D : Type 0} {g : Ghosts D} (tells : Type 0) (traffic : Socket
+module _ {D : Type 0} {g : Ghosts D} (reports : Type 0) (traffic : Socket
     → Traffic) (old driven accepted new : EventLoop D g) (turns_are : new.turns ≡ driven.turns) (next_is : driven.next ≡ old.next) (port_is : driven.port
     ≡ old.port) (backlog_is : driven.backlog ≡ old.backlog)
     (refused_is : driven.refused ≡ old.refused) (lingerers_are : lingers_in accepted.lingering
-    ≡ unless_failed accepted.backlog (lingers_in driven.lingering)) (received : IsGivenBack accepted new) where
+    ≡ unless_failed accepted.backlog (lingers_in driven.lingering)) (received : CollectsGarbage accepted new) where
   abbrev Drives : Poller → Type 0
-  Drives poller = DrivesReady tells traffic (items poller.events) old.turns old.hub old.table.slots driven.turns driven.hub driven.table.slots
+  Drives poller = DrivesReady reports traffic (items poller.events) old.turns old.hub old.table.slots driven.turns driven.hub driven.table.slots
 
   abbrev Linger : (poller : Poller) → Drives poller → Bool → Type 0
   Linger poller drives reported =
@@ -36,17 +36,17 @@ module _ {D : Type 0} {g : Ghosts D} (tells : Type 0) (traffic : Socket
 
   abbrev IsRun : (poller : Poller) → Drives poller → (b : Bool) → Accepted b driven accepted → Type 0
   IsRun poller drives b accepts =
-      Leads old.hub new.hub (λ h l. (k : Point) × DrivenAll tells (traffic_through traffic) h drives.ready k drives.driven
+      Leads old.hub new.hub (λ h l. (k : Point) × DrivenAll reports (traffic_through traffic) h drives.ready k drives.driven
       × Adds k (accepted_joins b driven accepted accepts) l)
 
   pub turned_by : (poller : Poller) → new.poller ≡ poller → (b : Bool) → accepts_now old.backlog (items new.poller.events) ≡ b
       → (reported : Bool) → reported ≡ is_reported_of LINGERER (items poller.events) → (drives : Drives poller) → Linger poller drives reported
-      → (accepts : Accepted b driven accepted) → IsRun poller drives b accepts → IsTurn tells traffic old new
+      → (accepts : Accepted b driven accepted) → IsRun poller drives b accepts → IsTurn reports traffic old new
   turned_by poller same b due reported reported_is drives linger accepts run =
       subst (λ (poller : Poller). (drives : Drives poller) → Linger poller drives (is_reported_of LINGERER (items poller.events))
-      → (accepts : Accepted b driven accepted) → IsRun poller drives b accepts → IsTurn tells traffic old new) same
+      → (accepts : Accepted b driven accepted) → IsRun poller drives b accepts → IsTurn reports traffic old new) same
       (λ drives linger accepts run. subst (λ (b : Bool). (accepts : Accepted b driven accepted) → IsRun new.poller drives b accepts
-      → IsTurn tells traffic old new) due (λ accepts run. record {
+      → IsTurn reports traffic old new) due (λ accepts run. record {
         driven = driven;
         drives = drives;
         turns_are = turns_are;
@@ -58,6 +58,6 @@ module _ {D : Type 0} {g : Ghosts D} (tells : Type 0) (traffic : Socket
         accepted = accepted;
         accepts = accepts;
         lingerers_are = lingerers_are;
-        gives_back = received;
+        collects = received;
         run = run;
       }) accepts run) drives (subst (Linger poller drives) reported_is linger) accepts run

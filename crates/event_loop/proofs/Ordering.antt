@@ -15,7 +15,7 @@ use Rattle.sessions.specs.StandsFor.{device}
 use Rattle.sessions.specs.declared.hub.Hub.{Hub}
 use Rattle.socket_calls.specs.declared.counted.AcceptedSocket.{AcceptedSocket}
 use Rattle.stream_driver.proofs.States.{seen_after}
-use Rattle.stream_driver.specs.Buffers.{has_had_share, is_settled, traffic_through}
+use Rattle.stream_driver.specs.Buffers.{has_had_share, is_flushed_or_failed, traffic_through}
 use Rattle.stream_driver.specs.Entries.{DrivenAll, KeepSessions, DrivenIn, DrivenSlot, is_gone, is_over, state_at_end}
 use Rattle.stream_driver.specs.Sessions.{Point}
 use Rattle.stream_driver.specs.Traffic.{Traffic, untouched}
@@ -24,12 +24,12 @@ use Rattle.stream_driver.specs.declared.entries.Entry.{Entry}
 use Rattle.stream_driver.specs.declared.entries.EntryState.{EntryState}
 use Rattle.stream_driver.specs.declared.entries.EntryState.TheVariants.{Idle, Gone, Ready}
 use Rattle.event_loop.proofs.Entries.{Remain, no_entry}
-use Rattle.event_loop.proofs.Polled.{told_was}
+use Rattle.event_loop.proofs.Polled.{answered_as_it_was}
 use Rattle.event_loop.proofs.Slots.{Slots}
 use Rattle.event_loop.specs.Numbers.{HavePlaces}
-use Rattle.event_loop.specs.Order.{after_turn, behind, is_passed, is_ready_slot, waits_as, AreNext, IsNext}
+use Rattle.event_loop.specs.Order.{after_turn, behind, is_passed, is_ready_slot, waits_as, AreNext, HasNextTurn}
 use Rattle.event_loop.specs.Order.{ComesNearer}
-use Rattle.event_loop.specs.Order.{in_turn, is_of, writes_in}
+use Rattle.event_loop.specs.Order.{in_turn, is_of_kind, writes_in}
 use Rattle.event_loop.specs.declared.order.Kind.{Kind}
 use Rattle.event_loop.specs.declared.order.Kind.TheVariants.{Any, Reader, Writer}
 use Rattle.event_loop.specs.declared.order.Turns.{Turns}
@@ -52,7 +52,7 @@ module _ {T D : Type 0} {g : Ghosts D} (hub : Hub D g) (turns : Turns) where
   TurnedBelow count old new = (key : ℕ) → slot_at new key ≡ cond (nat_lt key count) (turned_slot key (slot_at old key)) (slot_at old key)
 
 -- the same keys wait
-next_as : (waits then : ℕ → Bool) → ((key : ℕ) → waits key ≡ then key) → (last next : ℕ) → IsNext waits last next → IsNext then last next
+next_as : (waits then : ℕ → Bool) → ((key : ℕ) → waits key ≡ then key) → (last next : ℕ) → HasNextTurn waits last next → HasNextTurn then last next
 next_as waits then same last next (inl first) = inl (record {
   place = first.place;
   waiting = sym (same next) ∙ first.waiting;
@@ -126,43 +126,42 @@ ready_at Idle is = absurd (cc)
 ready_at Gone is = absurd (cc)
 
 -- what the poll reported was there before
-was_told : {T : Type 0} (events : List Event) (key : ℕ) (slot : Option (Entry (BufferedStream T))) (entry : Entry (BufferedStream T))
+was_answered_then : {T : Type 0} (events : List Event) (key : ℕ) (slot : Option (Entry (BufferedStream T))) (entry : Entry (BufferedStream T))
     → after_poll events key slot ≡ Some entry
     → (before : Entry (BufferedStream T)) × (slot ≡ Some before)
-was_told {T} events key slot entry is = let m = told_was (λ (x : T). untouched) events key slot entry is in (m.0, m.1)
+was_answered_then {T} events key slot entry is = let m = answered_as_it_was (λ (x : T). untouched) events key slot entry is in (m.0, m.1)
 
 -- who is idle stays as it was
-module _ {T : Type 0} (tells : Type 0) (traffic : T → Traffic) where
-  idle_entry : (state : EntryState) (earlier : Point) (old : Entry T) (later : Point) (new : Entry T) → DrivenIn tells traffic state earlier old later new
+module _ {T : Type 0} (reports : Type 0) (traffic : T → Traffic) where
+  idle_entry : (state : EntryState) (earlier : Point) (old : Entry T) (later : Point) (new : Entry T) → DrivenIn reports traffic state earlier old later new
       → state ≡ Idle → new ≡ old
   idle_entry Idle earlier old later new d idle = d.0
   idle_entry Ready earlier old later new d idle = absurd (cc)
   idle_entry Gone earlier old later new d idle = d.0
 
-  idle_slot : (earlier : Point) (slot : Option (Entry T)) (later : Point) (after : Option (Entry T)) → DrivenSlot tells traffic earlier slot later after
+  idle_slot : (earlier : Point) (slot : Option (Entry T)) (later : Point) (after : Option (Entry T)) → DrivenSlot reports traffic earlier slot later after
       → (was : Entry T) → slot ≡ Some was → was.state ≡ Idle → after ≡ Some was
   idle_slot earlier None later after d was e idle = absurd (let bad : None ≡ Some was = e in cc)
   idle_slot earlier (Some old) later after (new, is, d) was e idle =
       let same : old ≡ was = some_same e in
       is ∙ ap (λ (x : Entry T). Some x) (idle_entry old.state earlier old later new d (ap (λ (x : Entry T). x.state) same ∙ idle) ∙ same)
 
-  idle_stays : (earlier : Point) (slots : Slots T) (later : Point) (new : Slots T) → DrivenAll tells traffic earlier slots later new → (key : ℕ) (was : Entry T)
-      → slot_at slots key ≡ Some was → was.state ≡ Idle
-      → slot_at new key ≡ Some was
+  idle_stays : (earlier : Point) (slots : Slots T) (later : Point) (new : Slots T) → DrivenAll reports traffic earlier slots later new
+      → (key : ℕ) (was : Entry T) → slot_at slots key ≡ Some was → was.state ≡ Idle → slot_at new key ≡ Some was
   idle_stays earlier [] later new d key was e idle = absurd (no_entry [] refl key was e)
   idle_stays earlier (slot ∷ slots) later new (first, mid, others, is, d, rest) zero was e idle =
       ap (λ l. slot_at l zero) is ∙ idle_slot earlier slot mid first d was e idle
   idle_stays earlier (slot ∷ slots) later new (first, mid, others, is, d, rest) (suc key) was e idle =
       ap (λ l. slot_at l (suc key)) is ∙ idle_stays mid slots later others rest key was e idle
 
-module _ {T : Type 0} (tells : Type 0) (traffic : T → Traffic) (moment : ℕ) where
+module _ {T : Type 0} (reports : Type 0) (traffic : T → Traffic) (moment : ℕ) where
   -- who has no share of the turn is ready at its end
-  ended_ready : (was : Entry (BufferedStream T)) (new : Option (Entry (BufferedStream T))) → EndsTurn tells traffic moment (Some was) new → was.state ≡ Idle
+  ended_ready : (was : Entry (BufferedStream T)) (new : Option (Entry (BufferedStream T))) → EndsTurn reports traffic moment (Some was) new → was.state ≡ Idle
       → was.stream.share ≡ 0
       → (entry : Entry (BufferedStream T)) × (new ≡ Some entry) × (entry.state ≡ Ready)
   ended_ready was new (mid, ends, is) idle none =
       let ready : mid.state ≡ Ready = ends.state ∙ ap (λ s. state_at_end s (has_had_share was.stream)) idle ∙ ap (λ n. state_at_end Idle (n == 0)) none in
-      let lasts : is_over mid ≡ false = ap (λ s. is_gone s && is_settled mid.stream) ready in
+      let lasts : is_over mid ≡ false = ap (λ s. is_gone s && is_flushed_or_failed mid.stream) ready in
       (mid, is ∙ ap (λ b. cond b None (Some mid)) lasts, ready)
 
   -- as it is passed over
@@ -175,8 +174,8 @@ module _ {T : Type 0} (tells : Type 0) (traffic : T → Traffic) (moment : ℕ) 
   driven : (entry : Entry (BufferedStream T)) → entry.state ≡ Ready → is_ready_slot (after_turn false (Some entry)) ≡ true
   driven entry ready = ap (λ s. is_ready (in_turn s false entry).state) ready ∙ ap is_ready ready
 
-module _ {D : Type 0} {g : Ghosts D} (tells : Type 0) (traffic : Socket
-    → Traffic) (old new : EventLoop D g) (turn : IsTurn tells traffic old new) (key : ℕ) where
+module _ {D : Type 0} {g : Ghosts D} (reports : Type 0) (traffic : Socket
+    → Traffic) (old new : EventLoop D g) (turn : IsTurn reports traffic old new) (key : ℕ) where
   abbrev polled : Option (Entry (BufferedStream Socket))
   polled = after_poll (items new.poller.events) key (slot_at old.table.slots key)
 
@@ -184,8 +183,8 @@ module _ {D : Type 0} {g : Ghosts D} (tells : Type 0) (traffic : Socket
   accepted_stays : (due : Bool) → Accepted due turn.driven turn.accepted → (entry : Entry (BufferedStream Socket))
       → slot_at turn.driven.table.slots key ≡ Some entry → slot_at new.table.slots key ≡ Some entry
   accepted_stays true accepts entry e =
-      ap (λ (t : Slab (Entry (BufferedStream Socket))). slot_at t.slots key) turn.gives_back.table ∙ each_stays accepts.became.0 key entry e
-  accepted_stays false untouched entry e = ap (λ (t : Slab (Entry (BufferedStream Socket))). slot_at t.slots key) (turn.gives_back.table ∙ untouched.table) ∙ e
+      ap (λ (t : Slab (Entry (BufferedStream Socket))). slot_at t.slots key) turn.collects.table ∙ each_stays accepts.became.0 key entry e
+  accepted_stays false untouched entry e = ap (λ (t : Slab (Entry (BufferedStream Socket))). slot_at t.slots key) (turn.collects.table ∙ untouched.table) ∙ e
 
   -- one that was passed over is ready at the end
   still_ready : (was : Entry (BufferedStream Socket)) → slot_at turn.drives.ready key ≡ Some was → was.state ≡ Idle → was.stream.share ≡ 0
@@ -193,9 +192,10 @@ module _ {D : Type 0} {g : Ghosts D} (tells : Type 0) (traffic : Socket
   still_ready was e idle none =
       seen_after (hlevel props) old.stands turn.drives.drives.leads (λ h k was_stood stands d.
       let there : slot_at turn.drives.driven key ≡ Some was =
-      idle_stays tells (traffic_through traffic) h turn.drives.ready k turn.drives.driven d key was e idle in
-      let ended = ended_ready tells traffic (g.moment (device turn.driven.hub)) was (slot_at turn.driven.table.slots key)
-      (subst (λ slot. EndsTurn tells traffic (g.moment (device turn.driven.hub)) slot (slot_at turn.driven.table.slots key)) there (turn.drives.ended key)) idle
+      idle_stays reports (traffic_through traffic) h turn.drives.ready k turn.drives.driven d key was e idle in
+      let ended = ended_ready reports traffic (g.moment (device turn.driven.hub)) was (slot_at turn.driven.table.slots key)
+      (subst (λ slot. EndsTurn reports traffic (g.moment (device turn.driven.hub)) slot (slot_at turn.driven.table.slots key)) there (turn.drives.ended key))
+      idle
       none in
       ap is_ready_slot (accepted_stays (accepts_now old.backlog (items new.poller.events)) turn.accepts ended.0 ended.1) ∙ ap is_ready ended.2)
 
@@ -210,13 +210,13 @@ module _ {D : Type 0} {g : Ghosts D} (tells : Type 0) (traffic : Socket
     turned = turn.drives.turned key ∙ ap (λ slot. after_turn (is_passed old.hub turn.driven.turns key slot) slot) is
 
     by_passed : (b : Bool) → is_passed old.hub turn.driven.turns key (Some entry) ≡ b → Soon
-    by_passed false not_passed = inl (ap is_ready_slot (turned ∙ ap (λ b. after_turn b (Some entry)) not_passed) ∙ driven tells traffic 0 entry ready)
+    by_passed false not_passed = inl (ap is_ready_slot (turned ∙ ap (λ b. after_turn b (Some entry)) not_passed) ∙ driven reports traffic 0 entry ready)
     by_passed true is_so =
-        let another = key == turn.driven.turns.next || (key == turn.driven.turns.beside && is_of old.hub turn.driven.turns.kind entry) in
-        let parts = and_parts (not another) (is_of old.hub Any entry) is_so in
-        let waits : waits_as old.hub Any polled ≡ true = ap (waits_as old.hub Any) is ∙ ap (λ s. is_ready s && is_of old.hub Any entry) ready ∙ parts.1 in
+        let another = key == turn.driven.turns.next || (key == turn.driven.turns.beside && is_of_kind old.hub turn.driven.turns.kind entry) in
+        let parts = and_parts (not another) (is_of_kind old.hub Any entry) is_so in
+        let waits : waits_as old.hub Any polled ≡ true = ap (waits_as old.hub Any) is ∙ ap (λ s. is_ready s && is_of_kind old.hub Any entry) ready ∙ parts.1 in
         let differs : (key == turn.driven.turns.next) ≡ false = not_first (key == turn.driven.turns.next) _ parts.0 in
-        let after = passed tells traffic 0 entry ready in
+        let after = passed reports traffic 0 entry ready in
         let ends = still_ready after.0 (turned ∙ ap (λ b. after_turn b (Some entry)) is_so ∙ after.1) after.2 after.3 in
         elim (nearer (λ other. waits_as old.hub Any (after_poll (items new.poller.events) other (slot_at old.table.slots other))) old.turns.next
         turn.driven.turns.next key turn.drives.turn_of.next old.next_place place waits) [
@@ -224,19 +224,19 @@ module _ {D : Type 0} {g : Ghosts D} (tells : Type 0) (traffic : Socket
           | inr near ↦ inr (subst (λ (n : Turns). behind n.next key < behind old.turns.next key) (sym turn.turns_are) near, ends)
         ]
 
-    pub soon : IsDrivenSoon tells traffic old new turn key
+    pub soon : IsDrivenSoon reports traffic old new turn key
     soon = record { soon = by_passed (is_passed old.hub turn.driven.turns key (Some entry)) refl; bound = behind_few old.turns.next key place }
 
   -- who is ready once the poll reported stands at a place of the table
   polled_place : (entry : Entry (BufferedStream Socket)) → polled ≡ Some entry → key < 128
   polled_place entry is =
-      let before = was_told (items new.poller.events) key (slot_at old.table.slots key) entry is in
+      let before = was_answered_then (items new.poller.events) key (slot_at old.table.slots key) entry is in
       old.places key before.0 before.1
 
   pub each_soon : ((waits : ℕ → Bool) (last next key : ℕ) → ComesNearer waits last next key) → is_ready_slot polled ≡ true
-      → IsDrivenSoon tells traffic old new turn key
+      → IsDrivenSoon reports traffic old new turn key
   each_soon nearer ready = by polled refl
     where
-      by : (slot : Option (Entry (BufferedStream Socket))) → polled ≡ slot → IsDrivenSoon tells traffic old new turn key
+      by : (slot : Option (Entry (BufferedStream Socket))) → polled ≡ slot → IsDrivenSoon reports traffic old new turn key
       by None is = absurd (let bad : true ≡ false = sym ready ∙ ap is_ready_slot is in cc)
       by (Some entry) is = soon nearer entry is (ready_at entry.state (sym (ap is_ready_slot is) ∙ ready)) (polled_place entry is)

@@ -19,11 +19,11 @@ use Rattle.socket_calls.specs.declared.counted.AcceptedSocket.{AcceptedSocket}
 use Rattle.stream_driver.proofs.Carry.{run_then}
 use Rattle.stream_driver.proofs.States.{at_point, point_of}
 use Rattle.stream_driver.specs.Buffers.{buffered_in, fresh, has_had_share, traffic_through}
-use Rattle.stream_driver.specs.Drives.{EndsAs, Why}
-use Rattle.stream_driver.specs.Entries.{DrivenAll, DrivenEntry, DrivenIn, EndsIn, state_after, state_at_end}
+use Rattle.stream_driver.specs.Drives.{LeavesIfGone, Why}
+use Rattle.stream_driver.specs.Entries.{DrivenAll, DrivenEntry, DrivenIn, EndsIn, entry_state_after, state_at_end}
 use Rattle.stream_driver.specs.Sessions.{AwaitsMore, Leads, Point, inbox_in, pending_at}
 use Rattle.stream_driver.specs.Traffic.{Traffic}
-use Rattle.stream_driver.specs.Waits.{EachWaits, IsSound, Waits}
+use Rattle.stream_driver.specs.Waits.{EachWaits, IsSound, SaysWhyBlocked}
 use Rattle.stream_driver.specs.declared.answers.Call.TheVariants.{Read, Write}
 use Rattle.stream_driver.specs.declared.answers.Progress.{Progress}
 use Rattle.stream_driver.specs.declared.answers.Progress.TheVariants.{Waiting}
@@ -40,10 +40,10 @@ use Rattle.event_loop.proofs.Slots.{Slots}
 use Rattle.event_loop.proofs.TableBytes.{AreOwn, all_other, driven_at, same_numbers, slot_driven, slot_other}
 use Rattle.event_loop.proofs.TableBytes.{was_alive}
 use Rattle.event_loop.proofs.Tables.{admits_table}
-use Rattle.event_loop.specs.Numbers.{AreBelow}
+use Rattle.event_loop.specs.Numbers.{SessionsAreBelow}
 use Rattle.event_loop.specs.Order.{after_turn, in_turn}
 use Rattle.event_loop.specs.Peers.{AreRested, IdleWait, LackNothing, WaitsForPeer}
-use Rattle.event_loop.specs.Sockets.{CameShort, IsNewSocket, SocketsTell, traffic_of}
+use Rattle.event_loop.specs.Sockets.{CameShort, IsNewSocket, SocketsReport, traffic_of}
 use Rattle.event_loop.specs.Tables.{Admits, AdmitsEach, EndsTurn, LetsIn, TableStands, after_event, after_poll}
 use Rattle.event_loop.specs.Tables.{join_of, join_tried, joins_of, reported_slot, slot_at}
 use Rattle.event_loop.specs.Tables.AdmitsEach.{Nobody, OneMore}
@@ -60,8 +60,8 @@ why_idle : (s : ℕ) (h : HubState) (before after : Traffic) (served : ℕ) → 
 why_idle s h before after served (inl why) = inl (why.0.1, why.1)
 why_idle s h before after served (inr why) = inr (why.0.1, why.1)
 
-idle_as : (s : ℕ) (last later : Point) (before after : Traffic) (served : ℕ) (answer : Progress) → state_after answer ≡ Idle → EndsAs s last later answer
-    → Why s last.hub before after served answer → WhyIdle s later.hub after
+idle_as : (s : ℕ) (last later : Point) (before after : Traffic) (served : ℕ) (answer : Progress) → entry_state_after answer ≡ Idle
+    → LeavesIfGone s last later answer → Why s last.hub before after served answer → WhyIdle s later.hub after
 idle_as s last later before after served Waiting e ends why =
     subst (λ (p : Point). WhyIdle s p.hub after) (sym ends) (why_idle s last.hub before after served why)
 idle_as s last later before after served _ e ends why = absurd (cc)
@@ -81,7 +81,7 @@ idle_same : (s : ℕ) (h k : HubState) (after : Traffic) → stream_of k s ≡ s
 idle_same s h k after same (inl why) = inl (why.0, still_pending h k s same why.1)
 idle_same s h k after same (inr why) = inr (why.0, awaits_same h k s same why.1)
 
-module _ {T : Type 0} (tells : Type 0) (traffic : T → Traffic) where
+module _ {T : Type 0} (reports : Type 0) (traffic : T → Traffic) where
   -- an entry that is idle after the drives was driven, and its last call blocked; or it is as it was
   abbrev Stays : Point → Point → Entry T → Entry T → Type 0
   Stays h k was entry =
@@ -89,7 +89,7 @@ module _ {T : Type 0} (tells : Type 0) (traffic : T → Traffic) where
       ⊎ ((entry ≡ was) × (stream_of k.hub was.session ≡ stream_of h.hub was.session))
 
   idle_driven : (state : EntryState) (earlier : Point) (old : Entry T) (later : Point) (new : Entry T) → old.state ≡ state
-      → DrivenIn tells traffic state earlier old later new → new.state ≡ Idle → Stays earlier later old new
+      → DrivenIn reports traffic state earlier old later new → new.state ≡ Idle → Stays earlier later old new
   idle_driven Ready earlier old later new is d idle =
       inl (
         is,
@@ -99,15 +99,15 @@ module _ {T : Type 0} (tells : Type 0) (traffic : T → Traffic) where
   idle_driven Idle earlier old later new is d idle = inr (d.0, ap (λ (p : Point). stream_of p.hub old.session) d.1)
   idle_driven Gone earlier old later new is d idle = inr (d.0, ap (λ (p : Point). stream_of p.hub old.session) d.1)
 
-  one_waits : (earlier : Point) (slots : Slots T) (later : Point) (new : Slots T) → DrivenAll tells traffic earlier slots later new
+  one_waits : (earlier : Point) (slots : Slots T) (later : Point) (new : Slots T) → DrivenAll reports traffic earlier slots later new
       → (key : ℕ) (was entry : Entry T) → slot_at slots key ≡ Some was → slot_at new key ≡ Some entry
       → ((other : ℕ) (another : Entry T) → slot_at slots other ≡ Some another → another.state ≢ Gone → was.session ≡ another.session → key ≡ other)
       → entry.state ≡ Idle → Stays earlier later was entry
   one_waits earlier [] later new d key was entry e f own idle = absurd (no_entry [] refl key was e)
   one_waits earlier (slot ∷ slots) later new (first, mid, others, is, d, rest) zero was entry e f own idle =
-      let here = slot_driven tells traffic earlier slot mid first d was entry e (ap (λ l. slot_at l zero) (sym is) ∙ f) in
-      let session : entry.session ≡ was.session = (same_numbers tells traffic was.state earlier was mid entry here).0 in
-      let stays : stream_of later.hub was.session ≡ stream_of mid.hub was.session = all_other tells traffic mid slots later others rest was.session
+      let here = slot_driven reports traffic earlier slot mid first d was entry e (ap (λ l. slot_at l zero) (sym is) ∙ f) in
+      let session : entry.session ≡ was.session = (same_numbers reports traffic was.state earlier was mid entry here).0 in
+      let stays : stream_of later.hub was.session ≡ stream_of mid.hub was.session = all_other reports traffic mid slots later others rest was.session
       (λ other another g too same. (let bad : zero ≡ suc other = own (suc other) another g too same in omega arith)) in
       elim (idle_driven was.state earlier was mid entry refl here idle) [
         | inl why ↦ inl (
@@ -125,7 +125,7 @@ module _ {T : Type 0} (tells : Type 0) (traffic : T → Traffic) where
         | inr same ↦ inr (
           same.0,
           same.1
-              ∙ slot_other tells traffic earlier slot mid first d was.session
+              ∙ slot_other reports traffic earlier slot mid first d was.session
               (λ another g too same. (let bad : suc key ≡ zero = own zero another g too same in omega arith)),
         )
       ]
@@ -205,8 +205,8 @@ module _ {T : Type 0} where
       (turn_rests (polled key).0 (after_poll events key (slot_at slots key))
       (poll_rests events key (slot_at slots key) (slot_rests slots key rested (slot_at slots key) refl)))
 
-  module _ (tells : Type 0) (traffic : T → Traffic) (moment : ℕ) where
-    end_rests : (state : EntryState) (old new : BufferedStream T) → EndsIn tells traffic moment state old new
+  module _ (reports : Type 0) (traffic : T → Traffic) (moment : ℕ) where
+    end_rests : (state : EntryState) (old new : BufferedStream T) → EndsIn reports traffic moment state old new
         → (new.is_short ≡ false) × (new.is_drained ≡ false)
     end_rests Idle old new ends = (ap (λ (b : BufferedStream T). b.is_short) ends, ap (λ (b : BufferedStream T). b.is_drained) ends)
     end_rests _ old new ends = elim ends [
@@ -214,10 +214,10 @@ module _ {T : Type 0} where
       | inr y ↦ (y.2.kept.short, y.2.kept.drained)
     ]
 
-    pub ended_rested : (driven new : Slots (BufferedStream T)) → ((key : ℕ) → EndsTurn tells traffic moment (slot_at driven key) (slot_at new key))
+    pub ended_rested : (driven new : Slots (BufferedStream T)) → ((key : ℕ) → EndsTurn reports traffic moment (slot_at driven key) (slot_at new key))
         → AreRested new
     ended_rested driven new ended key entry e =
-        let b = was_driven tells traffic moment (slot_at driven key) (slot_at new key) entry (ended key) e in
+        let b = was_driven reports traffic moment (slot_at driven key) (slot_at new key) entry (ended key) e in
         end_rests entry.state b.0.stream entry.stream b.2.stream
 
 -- ---- the drives of a turn
@@ -231,7 +231,7 @@ module _ {T : Type 0} (traffic : T → Traffic) (short : T → Type 0) where
   waits_same h k s b same (inr (read, awaits)) = inr (read, awaits_same h k s same awaits)
 
   -- an entry that was driven, and whose share isn't used up
-  waits_driven : (h : HubState) (s : ℕ) (b : BufferedStream T) → (b.share ≡ zero → ⊥) → WhyIdle s h (traffic_through traffic b) → Waits short traffic b
+  waits_driven : (h : HubState) (s : ℕ) (b : BufferedStream T) → (b.share ≡ zero → ⊥) → WhyIdle s h (traffic_through traffic b) → SaysWhyBlocked short traffic b
       → WaitsForPeer traffic short h s b
   waits_driven h s b left (inl why) waits = elim (waits (Write WriteBlocked) why.0) [
     | inl none ↦ absurd (left none)
@@ -243,20 +243,20 @@ module _ {T : Type 0} (traffic : T → Traffic) (short : T → Type 0) where
     | inr (inr read) ↦ inr (read, why.1)
   ]
 
-  module _ (tells : Type 0) (slots ready driven new : Slots (BufferedStream T)) (events : List Event) (polled : TakesTurns slots ready events)
-      (own : AreOwn ready) (moment : ℕ) (ended : (key : ℕ) → EndsTurn tells traffic moment (slot_at driven key) (slot_at new key))
-      (since : EachWaits (IsSound short) (Waits short traffic) ready driven) (rested : AreRested slots) where
-    pub drives_wait : (h k : Point) → DrivenAll tells (traffic_through traffic) h ready k driven → IdleWait traffic short h.hub slots
+  module _ (reports : Type 0) (slots ready driven new : Slots (BufferedStream T)) (events : List Event) (polled : TakesTurns slots ready events)
+      (own : AreOwn ready) (moment : ℕ) (ended : (key : ℕ) → EndsTurn reports traffic moment (slot_at driven key) (slot_at new key))
+      (since : EachWaits (IsSound short) (SaysWhyBlocked short traffic) ready driven) (rested : AreRested slots) where
+    pub drives_wait : (h k : Point) → DrivenAll reports (traffic_through traffic) h ready k driven → IdleWait traffic short h.hub slots
         → IdleWait traffic short k.hub new
     drives_wait h k d has key entry e idle =
-        let b = was_driven tells traffic moment (slot_at driven key) (slot_at new key) entry (ended key) e in
+        let b = was_driven reports traffic moment (slot_at driven key) (slot_at new key) entry (ended key) e in
         let x = b.0 in
         let at = idle_at_end x.state (has_had_share x.stream) (sym b.2.state ∙ idle) in
         let left : x.stream.share ≡ zero → ⊥ = λ none. (let had = at.1 in grind (arith, common_steps)) in
-        let w = driven_at tells (traffic_through traffic) h ready k driven d key x b.1 in
+        let w = driven_at reports (traffic_through traffic) h ready k driven d key x b.1 in
         let was = w.0 in
-        let alive : was.state ≢ Gone = was_alive tells (traffic_through traffic) was.state w.2 was w.3 x refl w.4 (λ gone. (let is = at.0 in cc)) in
-        let stays = one_waits tells (traffic_through traffic) h ready k driven d key was x w.1 b.1
+        let alive : was.state ≢ Gone = was_alive reports (traffic_through traffic) was.state w.2 was w.3 x refl w.4 (λ gone. (let is = at.0 in cc)) in
+        let stays = one_waits reports (traffic_through traffic) h ready k driven d key was x w.1 b.1
         (λ other another g too same. own key other was another w.1 g alive too same) at.0 in
         let rests = polled_rested slots ready events polled rested key was w.1 in
         let sound : IsSound short was.stream = record {
@@ -274,7 +274,7 @@ module _ {T : Type 0} (traffic : T → Traffic) (short : T → Type 0) where
                 | inr none ↦ absurd (left none)
               ]
         ] in
-        let stream : entry.stream ≡ fresh x.stream = subst (λ s. EndsIn tells traffic moment s x.stream entry.stream) idle b.2.stream in
+        let stream : entry.stream ≡ fresh x.stream = subst (λ s. EndsIn reports traffic moment s x.stream entry.stream) idle b.2.stream in
         subst (λ (y : BufferedStream T). WaitsForPeer traffic short k.hub entry.session y) (sym stream)
         (subst (λ s. WaitsForPeer traffic short k.hub s (fresh x.stream)) (sym b.2.session) waits)
 
@@ -282,7 +282,7 @@ module _ {T : Type 0} (traffic : T → Traffic) (short : T → Type 0) where
 
 module _ {T D : Type 0} {g : Ghosts D} (traffic : T → Traffic) (short : T → Type 0) (IsNew : ℕ → ℕ → BufferedStream T → Type 0) where
   module _ (hub later : Hub D g) (next then : ℕ) (slots new : Slots (BufferedStream T)) (h : HubState) (stands : StandsFor hub h)
-      (numbers : AreBelow next slots) (has : IdleWait traffic short h slots) where
+      (numbers : SessionsAreBelow next slots) (has : IdleWait traffic short h slots) where
     in_waits : (l : LetsIn IsNew hub next slots later then new) → IdleWait traffic short (hub_step h (Joins next) l.joined.0).0 new
     in_waits l key entry e idle = elim (cases_eq key l.key) [
       | inl at ↦
@@ -318,8 +318,8 @@ module _ {T D : Type 0} {g : Ghosts D} (traffic : T → Traffic) (short : T → 
 module _ {T D : Type 0} {g : Ghosts D} (traffic : T → Traffic) (short : T → Type 0)
     (IsNew : AcceptedSocket → ℕ → ℕ → BufferedStream T → Type 0) where
   each_waits : {hub : Hub D g} {next : ℕ} {slots : Slots (BufferedStream T)} {came : List AcceptedSocket} {later : Hub D g} {then : ℕ}
-      {new : Slots (BufferedStream T)} (each : AdmitsEach IsNew hub next slots came later then new) (h : HubState) → StandsFor hub h → TableStands hub next slots
-      → IdleWait traffic short h slots
+      {new : Slots (BufferedStream T)} (each : AdmitsEach IsNew hub next slots came later then new) (h : HubState) → StandsFor hub h
+      → TableStands hub next slots → IdleWait traffic short h slots
       → StandsFor later (run h (joins_of each)) × TableStands later then new × IdleWait traffic short (run h (joins_of each)) new
   each_waits Nobody h stands holds has = (stands, holds, has)
   each_waits (OneMore came accepted mid later number then between new each admits) h stands holds has =

@@ -9,7 +9,7 @@ use Rattle.mio.specs.Event.{event_token, is_priority, is_read_closed}
 use Rattle.mio.specs.declared.event.event.Event.{Event}
 use Rattle.model.proofs.Lookups.{some_same}
 use Rattle.stream_driver.proofs.OneEntry.{below}
-use Rattle.stream_driver.specs.Buffers.{has_had_share, is_settled, traffic_through}
+use Rattle.stream_driver.specs.Buffers.{has_had_share, is_flushed_or_failed, traffic_through}
 use Rattle.stream_driver.specs.Entries.{state_at_end, EndsDrive, is_gone, is_over}
 use Rattle.stream_driver.specs.Traffic.{Traffic}
 use Rattle.stream_driver.specs.declared.buffered.BufferedStream.{BufferedStream}
@@ -21,7 +21,7 @@ use Rattle.event_loop.specs.Leavings.{EndAll, EndEach, EndsAt, LeavesAs, LeavesI
 use Rattle.event_loop.specs.Leavings.EndEach.{NoneEnded, OneMore}
 use Rattle.event_loop.specs.Lingerings.{Lingerers}
 use Rattle.event_loop.specs.Order.{after_turn}
-use Rattle.event_loop.specs.Sockets.{SocketsTell, traffic_of}
+use Rattle.event_loop.specs.Sockets.{SocketsReport, traffic_of}
 use Rattle.event_loop.specs.Tables.{EndsTurn, after_event, after_poll, slot_at, reported, reported_slot}
 use Rattle.event_loop.specs.declared.socket.Socket.{Socket}
 
@@ -127,9 +127,9 @@ module _ {T : Type 0} where
           },
         )
 
-    pub told_was : (events : List Event) (key : ℕ) (slot : Option (Entry (BufferedStream T))) (entry : Entry (BufferedStream T))
+    pub answered_as_it_was : (events : List Event) (key : ℕ) (slot : Option (Entry (BufferedStream T))) (entry : Entry (BufferedStream T))
         → after_poll events key slot ≡ Some entry → (before : Entry (BufferedStream T)) × (slot ≡ Some before) × IsLeft entry before
-    told_was events key slot entry is = is_left slot (after_poll events key slot) entry (poll_left events key slot) is
+    answered_as_it_was events key slot entry is = is_left slot (after_poll events key slot) entry (poll_left events key slot) is
 
     module _ (old new : Slots (BufferedStream T)) (events : List Event) (polled : TakesTurns old new events) where
       pub was_polled : (key : ℕ) (entry : Entry (BufferedStream T)) → slot_at new key ≡ Some entry
@@ -144,26 +144,26 @@ module _ {T : Type 0} where
 
   -- ---- the end of a turn
 
-  module _ (tells : Type 0) (traffic : T → Traffic) (moment : ℕ) where
+  module _ (reports : Type 0) (traffic : T → Traffic) (moment : ℕ) where
     -- what an entry was before the end of its drive
-    pub was_driven : (slot after : Option (Entry (BufferedStream T))) (entry : Entry (BufferedStream T)) → EndsTurn tells traffic moment slot after
+    pub was_driven : (slot after : Option (Entry (BufferedStream T))) (entry : Entry (BufferedStream T)) → EndsTurn reports traffic moment slot after
         → after ≡ Some entry
-        → (was : Entry (BufferedStream T)) × (slot ≡ Some was) × EndsDrive tells traffic moment was entry
+        → (was : Entry (BufferedStream T)) × (slot ≡ Some was) × EndsDrive reports traffic moment was entry
     was_driven None after entry none e = absurd (let bad : None ≡ Some entry = sym none ∙ e in cc)
     was_driven (Some was) after entry (mid, ends, is) e =
         elim (is_over mid) as (λ b. after ≡ cond b None (Some mid)
-        → (x : Entry (BufferedStream T)) × (Some was ≡ Some x) × EndsDrive tells traffic moment x entry) [
+        → (x : Entry (BufferedStream T)) × (Some was ≡ Some x) × EndsDrive reports traffic moment x entry) [
           | true ↦ λ none. absurd (let bad : None ≡ Some entry = sym none ∙ e in cc)
-          | false ↦ λ there. (was, refl, subst (λ (x : Entry (BufferedStream T)). EndsDrive tells traffic moment was x) (some_same (sym there ∙ e)) ends)
+          | false ↦ λ there. (was, refl, subst (λ (x : Entry (BufferedStream T)). EndsDrive reports traffic moment was x) (some_same (sym there ∙ e)) ends)
         ] is
 
     -- it was gone where it is taken out, or is gone
-    pub gone_before : (was : Entry (BufferedStream T)) (after : Option (Entry (BufferedStream T))) → EndsTurn tells traffic moment (Some was) after
+    pub gone_before : (was : Entry (BufferedStream T)) (after : Option (Entry (BufferedStream T))) → EndsTurn reports traffic moment (Some was) after
         → ((entry : Entry (BufferedStream T)) → after ≡ Some entry → entry.session ≡ was.session → entry.state ≡ Gone) → was.state ≡ Gone
     gone_before was after (mid, ends, is) without =
         was_gone was.state (has_had_share was.stream) (sym ends.state
         ∙ elim (is_over mid) as (λ b. is_over mid ≡ b → after ≡ cond b None (Some mid) → mid.state ≡ Gone) [
-          | true ↦ λ over none. gone_at mid.state (and_parts (is_gone mid.state) (is_settled mid.stream) over).0
+          | true ↦ λ over none. gone_at mid.state (and_parts (is_gone mid.state) (is_flushed_or_failed mid.stream) over).0
           | false ↦ λ lasts there. without mid there ends.session
         ] refl is)
 
@@ -175,23 +175,23 @@ module _ {moment : ℕ} {slots : Slots (BufferedStream Socket)} {old : Lingerers
   each_rest (OneMore key between new mid later each at) other le = at.others other (λ same. absurd (omega arith)) ∙ each_rest each other (omega arith)
 
   each_ended : {key : ℕ} {new : Slots (BufferedStream Socket)} {later : Lingerers} → EndEach moment slots old key new later → (other : ℕ) → other < key
-      → EndsTurn SocketsTell traffic_of moment (slot_at slots other) (slot_at new other)
+      → EndsTurn SocketsReport traffic_of moment (slot_at slots other) (slot_at new other)
   each_ended NoneEnded other lt = absurd (omega arith)
   each_ended (OneMore key between new mid later each at) other lt = elim (cases_eq other key) [
     | inl same ↦
-        subst (λ (k : ℕ). EndsTurn SocketsTell traffic_of moment (slot_at slots k) (slot_at new k)) (sym same)
-        (subst (λ slot. EndsTurn SocketsTell traffic_of moment slot (slot_at new key)) (each_rest each key (omega arith)) at.ended)
-    | inr differs ↦ subst (λ slot. EndsTurn SocketsTell traffic_of moment (slot_at slots other) slot) (sym (at.others other differs))
+        subst (λ (k : ℕ). EndsTurn SocketsReport traffic_of moment (slot_at slots k) (slot_at new k)) (sym same)
+        (subst (λ slot. EndsTurn SocketsReport traffic_of moment slot (slot_at new key)) (each_rest each key (omega arith)) at.ended)
+    | inr differs ↦ subst (λ slot. EndsTurn SocketsReport traffic_of moment (slot_at slots other) slot) (sym (at.others other differs))
         (each_ended each other (omega arith))
   ]
 
   pub all_ended : (new : Slots (BufferedStream Socket)) (later : Lingerers) → EndAll moment slots old new later → (key : ℕ)
-      → EndsTurn SocketsTell traffic_of moment (slot_at slots key) (slot_at new key)
+      → EndsTurn SocketsReport traffic_of moment (slot_at slots key) (slot_at new key)
   all_ended new later all key = elim (cases_lt key all.keys) [
     | inl lt ↦ each_ended all.each key lt
     | inr le ↦
         let none : slot_at slots key ≡ None = get_or-eq_default slots None (omega (arith, all.all, le)) in
-        subst (λ slot. EndsTurn SocketsTell traffic_of moment slot (slot_at new key)) (sym none) (each_rest all.each key le ∙ none)
+        subst (λ slot. EndsTurn SocketsReport traffic_of moment slot (slot_at new key)) (sym none) (each_rest all.each key le ∙ none)
   ]
 
 -- ---- what becomes of the connection at a key
@@ -199,7 +199,7 @@ module _ {moment : ℕ} {slots : Slots (BufferedStream Socket)} {old : Lingerers
 module _ (moment key : ℕ) (slots new : Slots (BufferedStream Socket)) (others : (other : ℕ) → other ≢ key → slot_at new other ≡ slot_at slots other) where
   -- at the slot alone
   Ends : Option (Entry (BufferedStream Socket)) → Lingerers → Lingerers → Type 0
-  Ends slot old later = (ended : EndsTurn SocketsTell traffic_of moment slot (slot_at new key)) × LeavesAs moment slot (slot_at new key) ended old later
+  Ends slot old later = (ended : EndsTurn SocketsReport traffic_of moment slot (slot_at new key)) × LeavesAs moment slot (slot_at new key) ended old later
 
   ends : (slot : Option (Entry (BufferedStream Socket))) (old later : Lingerers) → slot_at slots key ≡ slot → Ends slot old later
       → EndsAt moment key slots old new later
@@ -213,7 +213,7 @@ module _ (moment key : ℕ) (slots new : Slots (BufferedStream Socket)) (others 
   vacant old was is = ends None old old was (is, refl)
 
   pub there : (old later : Lingerers) (before entry : Entry (BufferedStream Socket)) → slot_at slots key ≡ Some before
-      → EndsDrive SocketsTell traffic_of moment before entry → (over : Bool) → over ≡ is_over entry
+      → EndsDrive SocketsReport traffic_of moment before entry → (over : Bool) → over ≡ is_over entry
       → slot_at new key ≡ cond over None (Some entry) → LeavesIf over entry.stream.inner old later → EndsAt moment key slots old new later
   unfolding Ends
   there old later before entry was drove over over_is is leaves =

@@ -1,7 +1,7 @@
 -- A hub that was opened.
 use Rattle.model.specs.Machine.{opened}
 use Rattle.sector.specs.declared.device.Sectors.{Ghosts}
-use Rattle.sessions.specs.Lives.{IsOpened}
+use Rattle.sessions.specs.Restarts.{IsOpened}
 use Rattle.sessions.specs.SessionStreams.{hub_over}
 use Rattle.sessions.specs.declared.hub.Hub.{Hub}
 use Rattle.stream_driver.specs.Sessions.{Stands}

@@ -9,7 +9,7 @@ use Rattle.stream_driver.proofs.Carry.{one_history}
 use Rattle.stream_driver.proofs.OneEntry.{ends_last, entry_other}
 use Rattle.stream_driver.specs.Buffers.{fresh, has_had_share, traffic_through}
 use Rattle.stream_driver.specs.Drives.{Why}
-use Rattle.stream_driver.specs.Entries.{DrivenAll, DrivenEntry, DrivenIn, DrivenSlot, EndsIn, state_after}
+use Rattle.stream_driver.specs.Entries.{DrivenAll, DrivenEntry, DrivenIn, DrivenSlot, EndsIn, entry_state_after}
 use Rattle.stream_driver.specs.Sessions.{Point}
 use Rattle.stream_driver.specs.Traffic.{DepartAt, Traffic}
 use Rattle.stream_driver.specs.declared.answers.Progress.{Progress}
@@ -36,27 +36,27 @@ AreOwn {T} slots =
     (key other : ℕ) (entry another : Entry T) → slot_at slots key ≡ Some entry → slot_at slots other ≡ Some another → entry.state ≢ EntryGone
     → another.state ≢ EntryGone → entry.session ≡ another.session → key ≡ other
 
-module _ {T : Type 0} (tells : Type 0) (traffic : T → Traffic) where
+module _ {T : Type 0} (reports : Type 0) (traffic : T → Traffic) where
   -- ---- one entry is driven
 
-  pub same_numbers : (state : EntryState) (earlier : Point) (old : Entry T) (later : Point) (new : Entry T) → DrivenIn tells traffic state earlier old later new
-      → (new.session ≡ old.session) × ((traffic new.stream).connection ≡ (traffic old.stream).connection)
+  pub same_numbers : (state : EntryState) (earlier : Point) (old : Entry T) (later : Point) (new : Entry T)
+      → DrivenIn reports traffic state earlier old later new → (new.session ≡ old.session) × ((traffic new.stream).connection ≡ (traffic old.stream).connection)
   same_numbers Ready earlier old later new d =
       (d.session, why_same old.session d.drove.last.hub (traffic old.stream) (traffic new.stream) _ d.answer d.drove.why)
   same_numbers _ earlier old later new d = (ap (λ (x : Entry T). x.session) d.0, ap (λ (x : Entry T). (traffic x.stream).connection) d.0)
 
   -- it was not gone before
   pub was_alive : (state : EntryState) (earlier : Point) (old : Entry T) (later : Point) (new : Entry T) → old.state ≡ state
-      → DrivenIn tells traffic state earlier old later new → new.state ≢ EntryGone → old.state ≢ EntryGone
+      → DrivenIn reports traffic state earlier old later new → new.state ≢ EntryGone → old.state ≢ EntryGone
   was_alive state earlier old later new is d alive = grind arith
 
-  entry_bytes : (state : EntryState) (earlier : Point) (old : Entry T) (later : Point) (new : Entry T) → DrivenIn tells traffic state earlier old later new
+  entry_bytes : (state : EntryState) (earlier : Point) (old : Entry T) (later : Point) (new : Entry T) → DrivenIn reports traffic state earlier old later new
       → new.state ≢ EntryGone
-      → HasItsBytes tells traffic earlier.hub old → HasItsBytes tells traffic later.hub new
+      → HasItsBytes reports traffic earlier.hub old → HasItsBytes reports traffic later.hub new
   entry_bytes Ready earlier old later new d alive has =
       let runs = d.drove.carried.runs in
       let history = runs.history in
-      let going : d.answer ≢ Gone = λ gone. alive (d.state ∙ ap state_after gone) in
+      let going : d.answer ≢ Gone = λ gone. alive (d.state ∙ ap entry_state_after gone) in
       let ends : later ≡ d.drove.last = ends_last old.session d.drove.last later d.answer going d.drove.ends in
       let same : has.0 ≡ runs.first = one_history has.0 runs.first (sym has.1 ∙ runs.first_is) in (
         runs.last,
@@ -67,23 +67,23 @@ module _ {T : Type 0} (tells : Type 0) (traffic : T → Traffic) where
         ),
       )
   entry_bytes _ earlier old later new d alive has =
-      subst (λ (p : Point). HasItsBytes tells traffic p.hub new) (sym d.1) (subst (λ (x : Entry T). HasItsBytes tells traffic earlier.hub x) (sym d.0) has)
+      subst (λ (p : Point). HasItsBytes reports traffic p.hub new) (sym d.1) (subst (λ (x : Entry T). HasItsBytes reports traffic earlier.hub x) (sym d.0) has)
 
   -- ---- all are driven
 
-  pub slot_driven : (earlier : Point) (slot : Option (Entry T)) (later : Point) (after : Option (Entry T)) → DrivenSlot tells traffic earlier slot later after
+  pub slot_driven : (earlier : Point) (slot : Option (Entry T)) (later : Point) (after : Option (Entry T)) → DrivenSlot reports traffic earlier slot later after
       → (was entry : Entry T) → slot ≡ Some was → after ≡ Some entry
-      → DrivenEntry tells traffic earlier was later entry
+      → DrivenEntry reports traffic earlier was later entry
   slot_driven earlier None later after d was entry e f = absurd (let bad : None ≡ Some was = e in cc)
   slot_driven earlier (Some old) later after (new, is, d) was entry e f =
-      subst (λ (x : Entry T). DrivenEntry tells traffic earlier x later entry) (some_same e)
-      (subst (λ (x : Entry T). DrivenEntry tells traffic earlier old later x) (some_same (sym is ∙ f)) d)
+      subst (λ (x : Entry T). DrivenEntry reports traffic earlier x later entry) (some_same e)
+      (subst (λ (x : Entry T). DrivenEntry reports traffic earlier old later x) (some_same (sym is ∙ f)) d)
 
   -- each entry was driven between some two points
   abbrev pub WasDriven : Option (Entry T) → Entry T → Type 0
-  WasDriven slot entry = (was : Entry T) × (slot ≡ Some was) × (h : Point) × (k : Point) × DrivenEntry tells traffic h was k entry
+  WasDriven slot entry = (was : Entry T) × (slot ≡ Some was) × (h : Point) × (k : Point) × DrivenEntry reports traffic h was k entry
 
-  pub driven_at : (earlier : Point) (slots : Slots T) (later : Point) (new : Slots T) → DrivenAll tells traffic earlier slots later new
+  pub driven_at : (earlier : Point) (slots : Slots T) (later : Point) (new : Slots T) → DrivenAll reports traffic earlier slots later new
       → (key : ℕ) (entry : Entry T) → slot_at new key ≡ Some entry → WasDriven (slot_at slots key) entry
   driven_at earlier [] later new d key entry e = absurd (no_entry new d.0 key entry e)
   driven_at earlier (None ∷ slots) later new (first, mid, others, is, d, rest) zero entry e =
@@ -94,7 +94,7 @@ module _ {T : Type 0} (tells : Type 0) (traffic : T → Traffic) where
       driven_at mid slots later others rest key entry (ap (λ l. slot_at l (suc key)) (sym is) ∙ e)
 
   -- each keeps its session and the number of its connection
-  pub driven_was : (earlier : Point) (slots : Slots T) (later : Point) (new : Slots T) → DrivenAll tells traffic earlier slots later new
+  pub driven_was : (earlier : Point) (slots : Slots T) (later : Point) (new : Slots T) → DrivenAll reports traffic earlier slots later new
       → (key : ℕ) (entry : Entry T) → slot_at new key ≡ Some entry
       → (was : Entry T) × (slot_at slots key ≡ Some was) × (entry.session ≡ was.session) × ((traffic entry.stream).connection ≡ (traffic was.stream).connection)
   driven_was earlier slots later new d key entry e =
@@ -102,13 +102,13 @@ module _ {T : Type 0} (tells : Type 0) (traffic : T → Traffic) where
       let same = same_numbers w.0.state w.2 w.0 w.3 entry w.4 in
       (w.0, w.1, same.0, same.1)
 
-  pub slot_other : (earlier : Point) (slot : Option (Entry T)) (later : Point) (new : Option (Entry T)) → DrivenSlot tells traffic earlier slot later new
+  pub slot_other : (earlier : Point) (slot : Option (Entry T)) (later : Point) (new : Option (Entry T)) → DrivenSlot reports traffic earlier slot later new
       → (s : ℕ) → ((entry : Entry T) → slot ≡ Some entry → entry.state ≢ EntryGone → s ≢ entry.session)
       → stream_of later.hub s ≡ stream_of earlier.hub s
   slot_other earlier None later new d s apart = ap (λ (p : Point). stream_of p.hub s) d.1
-  slot_other earlier (Some old) later new d s apart = entry_other tells traffic old.state earlier old later d.0 refl d.2 s (apart old refl)
+  slot_other earlier (Some old) later new d s apart = entry_other reports traffic old.state earlier old later d.0 refl d.2 s (apart old refl)
 
-  pub all_other : (earlier : Point) (slots : Slots T) (later : Point) (new : Slots T) → DrivenAll tells traffic earlier slots later new → (s : ℕ)
+  pub all_other : (earlier : Point) (slots : Slots T) (later : Point) (new : Slots T) → DrivenAll reports traffic earlier slots later new → (s : ℕ)
       → ((key : ℕ) (entry : Entry T) → slot_at slots key ≡ Some entry → entry.state ≢ EntryGone → s ≢ entry.session)
       → stream_of later.hub s ≡ stream_of earlier.hub s
   all_other earlier [] later new d s apart = ap (λ (p : Point). stream_of p.hub s) d.1
@@ -116,11 +116,11 @@ module _ {T : Type 0} (tells : Type 0) (traffic : T → Traffic) where
       all_other mid slots later others rest s (λ key entry e. apart (suc key) entry e) ∙ slot_other earlier slot mid first d s (λ entry e. apart zero entry e)
 
   -- an entry whose session no other has that isn't gone
-  one_bytes : (earlier : Point) (slots : Slots T) (later : Point) (new : Slots T) → DrivenAll tells traffic earlier slots later new
+  one_bytes : (earlier : Point) (slots : Slots T) (later : Point) (new : Slots T) → DrivenAll reports traffic earlier slots later new
       → (key : ℕ) (was entry : Entry T) → slot_at slots key ≡ Some was → slot_at new key ≡ Some entry
       → ((other : ℕ) (another : Entry T) → slot_at slots other ≡ Some another → another.state ≢ EntryGone → was.session ≡ another.session → key ≡ other)
       → entry.state ≢ EntryGone
-      → HasItsBytes tells traffic earlier.hub was → HasItsBytes tells traffic later.hub entry
+      → HasItsBytes reports traffic earlier.hub was → HasItsBytes reports traffic later.hub entry
   one_bytes earlier [] later new d key was entry e f own alive has = absurd (no_entry [] refl key was e)
   one_bytes earlier (slot ∷ slots) later new (first, mid, others, is, d, rest) zero was entry e f own alive has =
       let here = slot_driven earlier slot mid first d was entry e (ap (λ l. slot_at l zero) (sym is) ∙ f) in
@@ -138,8 +138,8 @@ module _ {T : Type 0} (tells : Type 0) (traffic : T → Traffic) where
         has.2,
       )
 
-  driven_bytes : (earlier : Point) (slots : Slots T) (later : Point) (new : Slots T) → DrivenAll tells traffic earlier slots later new → AreOwn slots
-      → HaveBytes tells traffic earlier.hub slots → HaveBytes tells traffic later.hub new
+  driven_bytes : (earlier : Point) (slots : Slots T) (later : Point) (new : Slots T) → DrivenAll reports traffic earlier slots later new → AreOwn slots
+      → HaveBytes reports traffic earlier.hub slots → HaveBytes reports traffic later.hub new
   driven_bytes earlier slots later new d own has key entry e alive =
       let w = driven_at earlier slots later new d key entry e in
       let before = was_alive w.0.state w.2 w.0 w.3 entry refl w.4 alive in
@@ -148,18 +148,18 @@ module _ {T : Type 0} (tells : Type 0) (traffic : T → Traffic) where
 
   -- ---- entries that are gone
 
-  one_left : (earlier : Point) (slots : Slots T) (later : Point) (new : Slots T) → DrivenAll tells traffic earlier slots later new
+  one_left : (earlier : Point) (slots : Slots T) (later : Point) (new : Slots T) → DrivenAll reports traffic earlier slots later new
       → (key : ℕ) (was entry : Entry T) → slot_at slots key ≡ Some was → slot_at new key ≡ Some entry
       → (was.state ≢ EntryGone → (other : ℕ) (another : Entry T) → slot_at slots other ≡ Some another → another.state ≢ EntryGone
       → was.session ≡ another.session → key ≡ other)
-      → tells → (was.state ≢ EntryGone → HasItsBytes tells traffic earlier.hub was)
+      → reports → (was.state ≢ EntryGone → HasItsBytes reports traffic earlier.hub was)
       → (was.state ≡ EntryGone → HasLeft earlier.hub was.session (traffic was.stream).received) → entry.state ≡ EntryGone
       → HasLeft later.hub entry.session (traffic entry.stream).received
   one_left earlier [] later new d key was entry e f own t has left gone = absurd (no_entry [] refl key was e)
   one_left earlier (slot ∷ slots) later new (first, mid, others, is, d, rest) zero was entry e f own t has left gone =
       let here = slot_driven earlier slot mid first d was entry e (ap (λ l. slot_at l zero) (sym is) ∙ f) in
-      stays_left mid.hub later.hub entry.session (traffic entry.stream).received (all_grow tells traffic mid slots later others rest)
-      (entry_left tells traffic was.state earlier was mid entry refl here t has left gone)
+      stays_left mid.hub later.hub entry.session (traffic entry.stream).received (all_grow reports traffic mid slots later others rest)
+      (entry_left reports traffic was.state earlier was mid entry refl here t has left gone)
   one_left earlier (slot ∷ slots) later new (first, mid, others, is, d, rest) (suc key) was entry e f own t has left gone =
       one_left mid slots later others rest key was entry e (ap (λ l. slot_at l (suc key)) (sym is) ∙ f)
       (λ alive other another g too same. (let up : suc key ≡ suc other = own alive (suc other) another g too same in omega arith)) t
@@ -169,12 +169,12 @@ module _ {T : Type 0} (tells : Type 0) (traffic : T → Traffic) where
             ∙ b.1,
         b.2,
       )))
-      (λ before. stays_left earlier.hub mid.hub was.session (traffic was.stream).received (slot_grows tells traffic earlier slot mid first d) (left before))
+      (λ before. stays_left earlier.hub mid.hub was.session (traffic was.stream).received (slot_grows reports traffic earlier slot mid first d) (left before))
       gone
 
   -- the session of each has left
-  pub driven_left : (earlier : Point) (slots : Slots T) (later : Point) (new : Slots T) → DrivenAll tells traffic earlier slots later new → AreOwn slots
-      → tells → HaveBytes tells traffic earlier.hub slots
+  pub driven_left : (earlier : Point) (slots : Slots T) (later : Point) (new : Slots T) → DrivenAll reports traffic earlier slots later new → AreOwn slots
+      → reports → HaveBytes reports traffic earlier.hub slots
       → ((key : ℕ) (entry : Entry T) → slot_at slots key ≡ Some entry → entry.state ≡ EntryGone
       → HasLeft earlier.hub entry.session (traffic entry.stream).received)
       → (key : ℕ) (entry : Entry T) → slot_at new key ≡ Some entry → entry.state ≡ EntryGone
@@ -187,29 +187,29 @@ module _ {T : Type 0} (tells : Type 0) (traffic : T → Traffic) where
   -- ---- the table alone changes
 
   kept_bytes : (h : HubState) (before entry : Entry T) → entry.session ≡ before.session
-      → (tells → ((traffic entry.stream).received ≡ (traffic before.stream).received) × ((traffic entry.stream).sent ≡ (traffic before.stream).sent))
-      → HasItsBytes tells traffic h before → HasItsBytes tells traffic h entry
+      → (reports → ((traffic entry.stream).received ≡ (traffic before.stream).received) × ((traffic entry.stream).sent ≡ (traffic before.stream).sent))
+      → HasItsBytes reports traffic h before → HasItsBytes reports traffic h entry
   kept_bytes h before entry session moved has = (has.0, ap (stream_of h) session ∙ has.1, λ t. ((moved t).0 ∙ (has.2 t).0, (moved t).1 ∙ (has.2 t).1))
 
 -- ---- streams that buffer bytes
 
-module _ {T : Type 0} (tells : Type 0) (traffic : T → Traffic) (moment : ℕ) where
+module _ {T : Type 0} (reports : Type 0) (traffic : T → Traffic) (moment : ℕ) where
   abbrev through : BufferedStream T → Traffic
   through = traffic_through traffic
 
   -- what the end of a drive leaves of a stream: nothing was written to it, and what left leaves now
   pub record IsFinished (old new : BufferedStream T) : Type 0 where
     pub connection : (through new).connection ≡ (through old).connection
-    pub received : tells → (through new).received ≡ (through old).received
-    pub sent : tells → (through new).sent ≡ (through old).sent
-    pub departed : tells → DepartAt moment (through old) (through new)
+    pub received : reports → (through new).received ≡ (through old).received
+    pub sent : reports → (through new).sent ≡ (through old).sent
+    pub departed : reports → DepartAt moment (through old) (through new)
 
   still_finished : (old new : BufferedStream T) → new ≡ fresh old → IsFinished old new
   still_finished old new same =
       subst (λ (b : BufferedStream T). IsFinished old b) (sym same)
       (record { connection = refl; received = λ t. refl; sent = λ t. refl; departed = λ t. none_departed refl })
 
-  pub finished : (state : EntryState) (old new : BufferedStream T) → EndsIn tells traffic moment state old new → IsFinished old new
+  pub finished : (state : EntryState) (old new : BufferedStream T) → EndsIn reports traffic moment state old new → IsFinished old new
   finished Idle old new ends = still_finished old new ends
   finished _ old new ends = elim ends [
     | inl same ↦ still_finished old new same.1
@@ -224,18 +224,18 @@ module _ {T : Type 0} (tells : Type 0) (traffic : T → Traffic) (moment : ℕ) 
   -- ---- the drives of a turn
 
   pub polled_bytes : (slots ready : Slots (BufferedStream T)) (events : List Event) → TakesTurns slots ready events → (h : HubState)
-      → HaveBytes tells through h slots → HaveBytes tells through h ready
+      → HaveBytes reports through h slots → HaveBytes reports through h ready
   polled_bytes slots ready events polled h has key entry e alive =
       let b = was_polled traffic slots ready events polled key entry e in
-      kept_bytes tells through h b.0 entry b.2.session (λ t. (ap (λ (x : Traffic). x.received) b.2.through, ap (λ (x : Traffic). x.sent) b.2.through))
+      kept_bytes reports through h b.0 entry b.2.session (λ t. (ap (λ (x : Traffic). x.received) b.2.through, ap (λ (x : Traffic). x.sent) b.2.through))
       (has key b.0 b.1 (λ gone. alive (gone_as b.0.state entry.state (sym b.2.gone) gone)))
 
   module _ (slots ready driven new : Slots (BufferedStream T)) (events : List Event) (polled : TakesTurns slots ready events)
-      (own : AreOwn ready) (ended : (key : ℕ) → EndsTurn tells traffic moment (slot_at driven key) (slot_at new key)) where
-    pub drives_bytes : (h k : Point) → DrivenAll tells through h ready k driven → HaveBytes tells through h.hub slots → HaveBytes tells through k.hub new
+      (own : AreOwn ready) (ended : (key : ℕ) → EndsTurn reports traffic moment (slot_at driven key) (slot_at new key)) where
+    pub drives_bytes : (h k : Point) → DrivenAll reports through h ready k driven → HaveBytes reports through h.hub slots → HaveBytes reports through k.hub new
     drives_bytes h k d has key entry e alive =
-        let b = was_driven tells traffic moment (slot_at driven key) (slot_at new key) entry (ended key) e in
+        let b = was_driven reports traffic moment (slot_at driven key) (slot_at new key) entry (ended key) e in
         let f = finished entry.state b.0.stream entry.stream b.2.stream in
-        kept_bytes tells through k.hub b.0 entry b.2.session (λ t. (f.received t, f.sent t))
-        (driven_bytes tells through h ready k driven d own (polled_bytes slots ready events polled h.hub has) key b.0 b.1
+        kept_bytes reports through k.hub b.0 entry b.2.session (λ t. (f.received t, f.sent t))
+        (driven_bytes reports through h ready k driven d own (polled_bytes slots ready events polled h.hub has) key b.0 b.1
         (λ gone. alive (b.2.state ∙ gone_at_end b.0.state (has_had_share b.0.stream) gone)))

@@ -32,9 +32,9 @@ use Rattle.stream_driver.specs.declared.entries.EntryState.TheVariants.{Ready, G
 use Rattle.event_loop.proofs.Present.{joins_other, joins_same, joins_not}
 use Rattle.event_loop.proofs.Slots.{Slots}
 use Rattle.event_loop.specs.Accepts.{Accepts, IsGiven, after_accept, after_accepted, more}
-use Rattle.event_loop.specs.Numbers.{AreBelow}
+use Rattle.event_loop.specs.Numbers.{SessionsAreBelow}
 use Rattle.event_loop.specs.Outcomes.{AcceptsAs}
-use Rattle.event_loop.specs.Tables.{Admits, LetsIn, IsCause, IsFromOutside, IsTried, IsWithoutEntry, slot_at}
+use Rattle.event_loop.specs.Tables.{Admits, LetsIn, IsCause, IsOutsideCause, JoinIsRefused, IsWithoutEntry, slot_at}
 use Rattle.event_loop.specs.Tables.{ComeEach, Comes, ComesAs, TableStands}
 use Rattle.event_loop.specs.Tables.{join_of, joins_of, refusals_as, refusals_in, refusals_of}
 use Rattle.event_loop.specs.Tables.AdmitsEach.{Nobody, OneMore}
@@ -64,7 +64,7 @@ module _ {D : Type 0} {g : Ghosts D} (hub later : Hub D g) (s : ℕ) (outcome : 
   still t how has = (joined_stands, subst (λ v. v ≢ Absent) (sym (same_status t how)) has.1)
 
 module _ {T : Type 0} where
-  pub below_after : (next : ℕ) (old new : Slots T) → AreBelow next old → KeepSessions old new → AreBelow next new
+  pub below_after : (next : ℕ) (old new : Slots T) → SessionsAreBelow next old → KeepSessions old new → SessionsAreBelow next new
   below_after next old new numbers kept = λ key entry e. let was = kept key entry e in subst (λ s. s < next) (sym was.2) (numbers key was.0 was.1)
 
   -- a new entry, whose session has just joined
@@ -85,7 +85,7 @@ module _ {T : Type 0} where
       | inr differs ↦ inr (differs, sym (up.others other differs) ∙ e)
     ]
 
-    pub joined_sessions : Stands hub → AreBelow entry.session old.slots → HaveSessions hub old.slots → HaveSessions later new.slots
+    pub joined_sessions : Stands hub → SessionsAreBelow entry.session old.slots → HaveSessions hub old.slots → HaveSessions later new.slots
     joined_sessions some numbers has =
         let apart : (other : ℕ) (another : Entry T) → get_or old.slots other None ≡ Some another → another.session ≢ entry.session =
         λ other another e same. (let lt : another.session < entry.session = numbers other another e in omega arith) in
@@ -111,7 +111,7 @@ module _ {T : Type 0} where
           ];
         }
 
-    pub joined_numbers : AreBelow entry.session old.slots → AreBelow (entry.session + 1) new.slots
+    pub joined_numbers : SessionsAreBelow entry.session old.slots → SessionsAreBelow (entry.session + 1) new.slots
     joined_numbers numbers = λ other another e. elim (back other another e) [
       | inl (at, which) ↦ subst (λ (x : Entry T). x.session < entry.session + 1) (sym which) (omega arith)
       | inr (differs, was) ↦ (let lt : another.session < entry.session = numbers other another was in omega arith)
@@ -122,7 +122,7 @@ module _ {T : Type 0} where
 module _ {T D : Type 0} {g : Ghosts D} where
   module _ (hub later : Hub D g) (next then : ℕ) (slots new : Slots T) where
     -- a session was to join, or nothing was to happen
-    tried_table : (later ≡ hub) ⊎ IsTried hub later next → TableStands hub next slots → TableStands later next slots
+    tried_table : (later ≡ hub) ⊎ JoinIsRefused hub later next → TableStands hub next slots → TableStands later next slots
     tried_table how h = elim how [
       | inl same ↦ subst (λ (x : Hub D g). TableStands x next slots) (sym same) h
       | inr j ↦ record {
@@ -143,11 +143,11 @@ module _ {T D : Type 0} {g : Ghosts D} where
           let slab : Slots T → Slab (Entry T) = λ slots. record { slots = slots; vacant_key = 0; capacity = 0 } in
           let up : Updates (slab slots) (slab new) l.key (Some l.entry) = record { changed = l.changed; others = l.others } in
           let leads : HubLeads hub later (Joins l.entry.session) Done = subst (λ s. HubLeads hub later (Joins s) Done) (sym l.session) l.joined in
-          let numbers : AreBelow l.entry.session slots = subst (λ s. AreBelow s slots) (sym l.session) h.numbers in
+          let numbers : SessionsAreBelow l.entry.session slots = subst (λ s. SessionsAreBelow s slots) (sym l.session) h.numbers in
           record {
             stands = joined_stands hub later next Done l.joined h.stands;
             sessions = joined_sessions hub later (slab slots) (slab new) l.key l.entry up leads h.stands numbers h.sessions;
-            numbers = subst (λ s. AreBelow s new) (ap (λ s. s + 1) l.session
+            numbers = subst (λ s. SessionsAreBelow s new) (ap (λ s. s + 1) l.session
                 ∙ sym l.next_is) (joined_numbers hub later (slab slots) (slab new) l.key l.entry up leads numbers);
             entries = λ s without.
                 let apart : s ≢ next = λ same. (let bad : Ready ≡ Gone = sym l.state ∙ without l.key l.entry l.changed (l.session ∙ sym same) in cc) in
@@ -241,7 +241,7 @@ module _ {T D : Type 0} {g : Ghosts D} (IsNew : ℕ → ℕ → T → Type 0) (h
   )
 
   -- so for memory, or by the system
-  pub away_outside : NoneRuns hub → (cause : Refusal) → IsFromOutside cause → ComesAs IsNew hub next slots (Err cause) hub next new
+  pub away_outside : NoneRuns hub → (cause : Refusal) → IsOutsideCause cause → ComesAs IsNew hub next slots (Err cause) hub next new
   away_outside none Room why = away none Room why
   away_outside none System why = away none System why
   away_outside none Numbers why = elim why [ ]

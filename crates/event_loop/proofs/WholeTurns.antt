@@ -30,23 +30,23 @@ use Rattle.stream_driver.specs.declared.entries.EntryState.TheVariants.{Gone}
 use Rattle.event_loop.proofs.Present.{joins_not, joins_other, joins_same}
 use Rattle.event_loop.proofs.Slots.{Slots}
 use Rattle.event_loop.proofs.Tables.{admits_table}
-use Rattle.event_loop.specs.Numbers.{AreBelow}
-use Rattle.event_loop.specs.Sockets.{IsNewSocket, SocketsTell, traffic_of}
+use Rattle.event_loop.specs.Numbers.{SessionsAreBelow}
+use Rattle.event_loop.specs.Sockets.{IsNewSocket, SocketsReport, traffic_of}
 use Rattle.event_loop.specs.TableBytes.{HaveBytes, KeepBytes, SpeaksFor}
 use Rattle.event_loop.specs.Tables.{Admits, AdmitsEach, LetsIn, TableStands, join_of, join_tried, joins_of, slot_at}
 use Rattle.event_loop.specs.Tables.AdmitsEach.{Nobody, OneMore}
-use Rattle.event_loop.specs.Turns.{Accepted, IsGivenBack, accepted_joins}
+use Rattle.event_loop.specs.Turns.{Accepted, CollectsGarbage, accepted_joins}
 use Rattle.event_loop.specs.declared.server.EventLoop.{EventLoop}
 use Rattle.event_loop.specs.declared.socket.Socket.{Socket}
 
 -- ---- a connection that comes
 
-module _ {T D : Type 0} {g : Ghosts D} (tells : Type 0) (traffic : T → Traffic) (IsNew : ℕ → ℕ → T → Type 0)
-    (begins : (key s : ℕ) (stream : T) → IsNew key s stream → tells
+module _ {T D : Type 0} {g : Ghosts D} (reports : Type 0) (traffic : T → Traffic) (IsNew : ℕ → ℕ → T → Type 0)
+    (begins : (key s : ℕ) (stream : T) → IsNew key s stream → reports
     → ((traffic stream).received ≡ []) × ((traffic stream).sent ≡ [])) where
-  module _ (hub later : Hub D g) (next then : ℕ) (slots new : Slots T) (h : HubState) (stands : StandsFor hub h) (numbers : AreBelow next slots)
-      (has : HaveBytes tells traffic h slots) where
-    in_bytes : (l : LetsIn IsNew hub next slots later then new) → HaveBytes tells traffic (hub_step h (Joins next) l.joined.0).0 new
+  module _ (hub later : Hub D g) (next then : ℕ) (slots new : Slots T) (h : HubState) (stands : StandsFor hub h) (numbers : SessionsAreBelow next slots)
+      (has : HaveBytes reports traffic h slots) where
+    in_bytes : (l : LetsIn IsNew hub next slots later then new) → HaveBytes reports traffic (hub_step h (Joins next) l.joined.0).0 new
     in_bytes l key entry e alive = elim (cases_eq key l.key) [
       | inl at ↦
           let which : l.entry ≡ entry = some_same (sym l.changed ∙ ap (slot_at new) (sym at) ∙ e) in
@@ -64,45 +64,46 @@ module _ {T D : Type 0} {g : Ghosts D} (tells : Type 0) (traffic : T → Traffic
     ]
 
     tried_bytes : (how : (later ≡ hub) ⊎ ((outcome : Outcome) × (outcome ≢ Done) × HubLeads hub later (Joins next) outcome))
-        → StandsFor later (run h (join_tried hub later next how)) × HaveBytes tells traffic (run h (join_tried hub later next how)) slots
+        → StandsFor later (run h (join_tried hub later next how)) × HaveBytes reports traffic (run h (join_tried hub later next how)) slots
     tried_bytes (inl same) = (subst (λ (x : Hub D g). StandsFor x h) (sym same) stands, has)
     tried_bytes (inr tried) =
         let there = reached hub later (Joins next) tried.0 tried.2 h stands in (
           there.stands,
-          subst (λ (x : HubState). HaveBytes tells traffic x slots) (sym (joins_not h next tried.2.0 (λ done. tried.1 (there.outcome_is ∙ done))))
+          subst (λ (x : HubState). HaveBytes reports traffic x slots) (sym (joins_not h next tried.2.0 (λ done. tried.1 (there.outcome_is ∙ done))))
               has,
         )
 
     come_bytes : (admits : Admits IsNew hub next slots later then new)
         → StandsFor later (run h (join_of IsNew hub next slots later then new admits))
-        × HaveBytes tells traffic (run h (join_of IsNew hub next slots later then new admits)) new
+        × HaveBytes reports traffic (run h (join_of IsNew hub next slots later then new admits)) new
     come_bytes (inl away) = let r =
-        tried_bytes away.hub_is in (r.0, subst (λ l. HaveBytes tells traffic (run h (join_tried hub later next away.hub_is)) l) (sym away.slots_are) r.1)
+        tried_bytes away.hub_is in (r.0, subst (λ l. HaveBytes reports traffic (run h (join_tried hub later next away.hub_is)) l) (sym away.slots_are) r.1)
     come_bytes (inr within) = ((reached hub later (Joins next) Done within.joined h stands).stands, in_bytes within)
 
 -- and more of them
-module _ {T D : Type 0} {g : Ghosts D} (tells : Type 0) (traffic : T → Traffic) (IsNew : AcceptedSocket → ℕ → ℕ → T → Type 0)
-    (begins : (accepted : AcceptedSocket) (key s : ℕ) (stream : T) → IsNew accepted key s stream → tells
+module _ {T D : Type 0} {g : Ghosts D} (reports : Type 0) (traffic : T → Traffic) (IsNew : AcceptedSocket → ℕ → ℕ → T → Type 0)
+    (begins : (accepted : AcceptedSocket) (key s : ℕ) (stream : T) → IsNew accepted key s stream → reports
     → ((traffic stream).received ≡ []) × ((traffic stream).sent ≡ [])) where
   pub each_bytes : {hub : Hub D g} {next : ℕ} {slots : Slots T} {came : List AcceptedSocket} {later : Hub D g} {then : ℕ} {new : Slots T}
       (each : AdmitsEach IsNew hub next slots came later then new) (h : HubState)
-      → StandsFor hub h → TableStands hub next slots → HaveBytes tells traffic h slots
-      → StandsFor later (run h (joins_of each)) × TableStands later then new × HaveBytes tells traffic (run h (joins_of each)) new
+      → StandsFor hub h → TableStands hub next slots → HaveBytes reports traffic h slots
+      → StandsFor later (run h (joins_of each)) × TableStands later then new × HaveBytes reports traffic (run h (joins_of each)) new
   each_bytes Nobody h stands holds has = (stands, holds, has)
   each_bytes (OneMore came accepted mid later number then between new each admits) h stands holds has =
       let before = each_bytes each h stands holds has in
-      let now = come_bytes tells traffic (IsNew accepted) (begins accepted) mid later number then between new (run h (joins_of each)) before.0 before.1.numbers
+      let now = come_bytes reports traffic (IsNew accepted)
+      (begins accepted) mid later number then between new (run h (joins_of each)) before.0 before.1.numbers
       before.2 admits in
       let joined = run_then h (joins_of each) (join_of (IsNew accepted) mid number between later then new admits) in (
         subst (λ (x : HubState). StandsFor later x) (sym joined) now.0,
         admits_table mid later number then between new (IsNew accepted) admits before.1,
-        subst (λ (x : HubState). HaveBytes tells traffic x new) (sym joined) now.1,
+        subst (λ (x : HubState). HaveBytes reports traffic x new) (sym joined) now.1,
       )
 
 -- ---- sockets
 
 -- nothing has moved through a new connection
-pub new_begins : (accepted : AcceptedSocket) (key s : ℕ) (b : BufferedStream Socket) → IsNewSocket accepted key s b → SocketsTell
+pub new_begins : (accepted : AcceptedSocket) (key s : ℕ) (b : BufferedStream Socket) → IsNewSocket accepted key s b → SocketsReport
     → ((traffic_through traffic_of b).received ≡ []) × ((traffic_through traffic_of b).sent ≡ [])
 new_begins accepted key s b n t = (
   ap (λ (s : Socket). (traffic_of s).received) n.2.inner_is ∙ n.1.received t,
@@ -116,13 +117,13 @@ pub all_found : (P : SessionStream → Type 0) (s : ℕ) (es : List (ℕ × Sess
     → lookup (test s) es ≡ Some st → P st
 all_found P s es st all e = subst (λ o. IfSome o P) e (All-lookup P (test s) es (All-from_recursion (λ x. P x.1) es all))
 
-pub they_speak : (h : HubState) (slots : Slots (BufferedStream Socket)) → IsLawful h → HaveBytes SocketsTell (traffic_through traffic_of) h slots → SocketsTell
-    → (key : ℕ) (entry : Entry (BufferedStream Socket)) → slot_at slots key ≡ Some entry → entry.state ≢ Gone
+pub they_speak : (h : HubState) (slots : Slots (BufferedStream Socket)) → IsLawful h → HaveBytes SocketsReport (traffic_through traffic_of) h slots
+    → SocketsReport → (key : ℕ) (entry : Entry (BufferedStream Socket)) → slot_at slots key ≡ Some entry → entry.state ≢ Gone
     → (st : SessionStream) × (stream_of h entry.session ≡ Some st) × SpeaksFor entry.stream st
-they_speak h slots lawful bytes tells key entry e alive =
+they_speak h slots lawful bytes reports key entry e alive =
     let has = bytes key entry e alive in
     let is : IsSessionStream has.0 = all_found IsSessionStream entry.session h.present has.0 lawful.present has.1 in
-    let carried = has.2 tells in (
+    let carried = has.2 reports in (
       has.0,
       has.1,
       record {
@@ -158,14 +159,14 @@ module _ {D : Type 0} {g : Ghosts D} (follow : Follow D g) (old : Hub D g) (driv
       let holds : TableStands driven.hub driven.next driven.table.slots =
       record { stands = driven.stands; sessions = driven.sessions; numbers = driven.numbers; entries = driven.entries } in
       leads_two_at follow old driven.hub accepted.hub _ _ _ keeps accepts.became.1 (λ h k l stands last kept adds has.
-      subst (λ (x : HubState). HaveBytes SocketsTell (traffic_through traffic_of) x accepted.table.slots) (sym adds.run_is)
-      (each_bytes SocketsTell (traffic_through traffic_of) IsNewSocket new_begins accepts.became.0 k.hub stands holds (kept has)).2)
+      subst (λ (x : HubState). HaveBytes SocketsReport (traffic_through traffic_of) x accepted.table.slots) (sym adds.run_is)
+      (each_bytes SocketsReport (traffic_through traffic_of) IsNewSocket new_begins accepts.became.0 k.hub stands holds (kept has)).2)
   accepts_keep slots keeps false untouched =
       subst (λ (t : Slab (Entry (BufferedStream Socket))). KeepBytes old slots accepted.hub t.slots) (sym untouched.table)
       (subst (λ (x : Hub D g). KeepBytes old slots x driven.table.slots) (sym untouched.hub) keeps)
 
 -- what led to the hub before it rested leads to it
-module _ {D : Type 0} {g : Ghosts D} (follow : Follow D g) (old : Hub D g) (accepted new : EventLoop D g) (received : IsGivenBack accepted new) where
+module _ {D : Type 0} {g : Ghosts D} (follow : Follow D g) (old : Hub D g) (accepted new : EventLoop D g) (received : CollectsGarbage accepted new) where
   pub rest_leads : (P : Point → Point → Type 0) → Leads old accepted.hub P → Leads old new.hub P
   rest_leads P leads =
       leads_then follow old accepted.hub new.hub P _ P leads (leads_rest received.hub.ran) (λ h k l stands p same. subst (λ (x : Point). P h x) (sym same) p)

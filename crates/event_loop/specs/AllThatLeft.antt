@@ -4,7 +4,7 @@ use Rattle.std.specs.List.{AllByRecursion}
 use Rattle.std.specs.Prelude.{◌≡◌, ◌≢◌, ℕ, ⊤, Bool, true, Some}
 use Rattle.sector.specs.declared.device.Sectors.{Ghosts}
 use Rattle.sessions.specs.Laws.{IsLawful}
-use Rattle.sessions.specs.Lives.{Served}
+use Rattle.sessions.specs.Restarts.{Served}
 use Rattle.sessions.specs.SessionStreams.{SessionStream, stream_of}
 use Rattle.sessions.specs.StandsFor.{StandsFor, device}
 use Rattle.stream_driver.specs.Entries.{is_gone}
@@ -13,7 +13,7 @@ use Rattle.stream_driver.specs.declared.buffered.BufferedStream.{BufferedStream}
 use Rattle.stream_driver.specs.declared.entries.Entry.{Entry}
 use Rattle.stream_driver.specs.declared.entries.EntryState.TheVariants.{Gone}
 use Rattle.event_loop.specs.Departures.{HoldsAtEnds, IsExplained, present_state}
-use Rattle.event_loop.specs.Sockets.{SocketsTell, session_of, traffic_of}
+use Rattle.event_loop.specs.Sockets.{SocketsReport, socket_session, traffic_of}
 use Rattle.event_loop.specs.TableBytes.{SpeaksFor}
 use Rattle.event_loop.specs.Tables.{slot_at}
 use Rattle.event_loop.specs.Turns.{IsTurn, IsUntouched}
@@ -23,7 +23,7 @@ use Rattle.event_loop.specs.declared.socket.Socket.{Socket}
 -- turns, one after another; where the poll of one failed, nothing else was done
 pub data TurnsTo {D : Type 0} {g : Ghosts D} (first : EventLoop D g) : EventLoop D g → Type 0 where
   NoTurn : TurnsTo first first
-  OneMore : (old new : EventLoop D g) → TurnsTo first old → IsTurn SocketsTell traffic_of old new → TurnsTo first new
+  OneMore : (old new : EventLoop D g) → TurnsTo first old → IsTurn SocketsReport traffic_of old new → TurnsTo first new
   Fault : (old new : EventLoop D g) → TurnsTo first old → IsUntouched old new → TurnsTo first new
 
 -- this holds of each session and of what its connection has moved, as each of these turns left or ended it
@@ -48,10 +48,10 @@ pub record IsOneRun {D : Type 0} {g : Ghosts D} {first last : EventLoop D g} (se
       → entry.state ≢ Gone
       → (st : SessionStream) × (stream_of (present_state served) entry.session ≡ Some st) × SpeaksFor entry.stream st
   pub entries : (key : ℕ) (entry : Entry (BufferedStream Socket)) → slot_at last.table.slots key ≡ Some entry
-      → (session_of entry.stream.inner ≡ entry.session)
+      → (socket_session entry.stream.inner ≡ entry.session)
       × IsExplained served (is_gone entry.state) entry.session (traffic_of entry.stream.inner)
   pub linger :
-      AllByRecursion (λ l. IsExplained served true (session_of l.socket) (traffic_of l.socket))
+      AllByRecursion (λ l. IsExplained served true (socket_session l.socket) (traffic_of l.socket))
       last.lingering.queue.items
   pub ended : HoldsAtAllEnds (IsExplained served) turns
 

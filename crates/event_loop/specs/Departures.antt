@@ -7,8 +7,8 @@ use Rattle.model.specs.Map.{KeyMap}
 use Rattle.model.specs.Operations.{Commit, Response}
 use Rattle.model.specs.Operations.Response.{Number}
 use Rattle.sector.specs.declared.device.Sectors.{Ghosts}
-use Rattle.sessions.specs.Life.{Holds, MayFind}
-use Rattle.sessions.specs.Lives.{FollowOn, Life, LoseNothing, Served}
+use Rattle.sessions.specs.FoundMaps.{HoldsFound, MayFind}
+use Rattle.sessions.specs.Restarts.{FollowOn, Restart, LoseNothing, Served}
 use Rattle.sessions.specs.Readings.{HasOneReading}
 use Rattle.sessions.specs.SessionStreams.{Choice, HubEvent, HubState, SessionStream, hub_over, replies_text}
 use Rattle.sessions.specs.SessionStreams.{requests_text, run}
@@ -16,12 +16,12 @@ use Rattle.sessions.specs.StandsFor.{device}
 use Rattle.sessions.specs.declared.hub.Hub.{Hub}
 use Rattle.stream_driver.specs.Buffers.{traffic_through}
 use Rattle.stream_driver.specs.Entries.{EndsDrive, is_gone}
-use Rattle.stream_driver.specs.Sends.{IsAnswered, IsToldBefore}
+use Rattle.stream_driver.specs.Sends.{IsAnswered, WasAnsweredBefore}
 use Rattle.stream_driver.specs.Traffic.{Departure, IsBeginning, Traffic}
 use Rattle.stream_driver.specs.declared.buffered.BufferedStream.{BufferedStream}
 use Rattle.stream_driver.specs.declared.entries.Entry.{Entry}
 use Rattle.event_loop.specs.Lingerings.{DropsInput}
-use Rattle.event_loop.specs.Sockets.{SocketsTell, session_of, traffic_of}
+use Rattle.event_loop.specs.Sockets.{SocketsReport, socket_session, traffic_of}
 use Rattle.event_loop.specs.TableBytes.{HaveBytes}
 use Rattle.event_loop.specs.Tables.{slot_at}
 use Rattle.event_loop.specs.declared.lingering.Dropped.{Dropped}
@@ -54,8 +54,8 @@ present_state served = run (first_state served) served.choices
 module _ {D : Type 0} {g : Ghosts D} {hub : Hub D g} (served : Served hub) where
   -- the run passes a hub whose device stands at the moment of the departure, and by then the session had been answered
   -- the bytes
-  abbrev pub IsTold : ℕ → Departure → Type 0
-  IsTold s d = IsToldBefore s (first_state served) served.first hub served.choices d
+  abbrev pub WasAnsweredInRun : ℕ → Departure → Type 0
+  WasAnsweredInRun s d = WasAnsweredBefore s (first_state served) served.first hub served.choices d
 
   -- The session has left, and what was served for it had come in: the spellings of the requests begin these bytes.
   pub record WasRequested (s : ℕ) (received : List ℕ) : Type 0 where
@@ -65,20 +65,21 @@ module _ {D : Type 0} {g : Ghosts D} {hub : Hub D g} (served : Served hub) where
 
   -- So it is of each departure of the session's stream, which has its number. All that was written to the stream was
   -- answered, so what it buffers may leave later. And where the session is gone, what was served for it was requested.
-  pub record Tells (gone : Bool) (s : ℕ) (t : Traffic) : Type 0 where
+  pub record StreamWasAnswered (gone : Bool) (s : ℕ) (t : Traffic) : Type 0 where
     pub number : t.connection ≡ s
-    pub told : AllByRecursion (IsTold s) t.departed
+    pub was_answered : AllByRecursion (WasAnsweredInRun s) t.departed
     pub answered : IsAnswered s (first_state served) served.choices t.sent
     pub requested : gone ≡ true → WasRequested s t.received
 
   -- so it is of each entry, gone or not
-  abbrev pub EntriesTell : List (Option (Entry (BufferedStream Socket))) → Type 0
-  EntriesTell slots = (key : ℕ) (entry : Entry (BufferedStream Socket)) → slot_at slots key ≡ Some entry
-      → Tells (is_gone entry.state) entry.session (traffic_through traffic_of entry.stream)
+  abbrev pub EntriesWereAnswered : List (Option (Entry (BufferedStream Socket))) → Type 0
+  EntriesWereAnswered slots = (key : ℕ) (entry : Entry (BufferedStream Socket)) → slot_at slots key ≡ Some entry
+      → StreamWasAnswered (is_gone entry.state) entry.session (traffic_through traffic_of entry.stream)
 
   -- and of each connection that lingers, of the session that it had
-  abbrev pub LingerersTell : List Lingerer → Type 0
-  LingerersTell all = AllByRecursion (λ l. Tells true (session_of l.socket) (traffic_of l.socket)) all
+  abbrev pub LingerersWereAnswered : List Lingerer → Type 0
+  LingerersWereAnswered all = AllByRecursion (λ l. StreamWasAnswered true (socket_session l.socket)
+      (traffic_of l.socket)) all
 
   -- This map is that after some number of the run's commits, or that with one more, which was under way or the device
   -- failed in; none that was committed by these events is above that number.
@@ -90,29 +91,29 @@ module _ {D : Type 0} {g : Ghosts D} {hub : Hub D g} (served : Served hub) where
 
   -- What left begins the texts of the machine's replies, which have one reading, and each number among these is that of
   -- a transaction committed by then. A crash at the moment of the departure or since leaves no map that is older than
-  -- the one committed there: one after at least as many commits. So whatever lives follow, the first begins with such a
-  -- map, and each other with one that the life before it may have left.
+  -- the one committed there: one after at least as many commits. So whatever restarts follow, the first begins with
+  -- such a map, and each other with one that the restart before it may have left.
   pub record IsKept (s : ℕ) (d : Departure) : Type 0 where
-    pub told : IsTold s d
-    pub texts : IsBeginning d.bytes (replies_text told.told.stream)
-    pub reading : HasOneReading told.told.stream
-    pub committed : AllByRecursion (IsCommitted (run (first_state served) told.before).machine.history)
-        told.told.stream.replies
+    pub was_answered : WasAnsweredInRun s d
+    pub texts : IsBeginning d.bytes (replies_text was_answered.was_answered.stream)
+    pub reading : HasOneReading was_answered.was_answered.stream
+    pub committed : AllByRecursion (IsCommitted (run (first_state served) was_answered.before).machine.history)
+        was_answered.was_answered.stream.replies
     pub left : g.keeps_model → (c : List (List ℕ)) → g.left_since (device hub) d.moment c
-        → Holds (first_state served) served.choices (length told.before) c
-    pub counted : (map : KeyMap) → MayFind (first_state served) served.choices (length told.before) map
-        → IsAfterCommits told.before map
-    pub found : g.keeps_model → (lives : List (Life D g)) → FollowOn (g.left_since (device hub) d.moment) lives
-        → LoseNothing (MayFind (first_state served) served.choices (length told.before)) lives
+        → HoldsFound (first_state served) served.choices (length was_answered.before) c
+    pub counted : (map : KeyMap) → MayFind (first_state served) served.choices (length was_answered.before) map
+        → IsAfterCommits was_answered.before map
+    pub found : g.keeps_model → (restarts : List (Restart D g)) → FollowOn (g.left_since (device hub) d.moment) restarts
+        → LoseNothing (MayFind (first_state served) served.choices (length was_answered.before)) restarts
 
 -- The hub is on a run from an opening. In the state to which it has come each connection has the bytes of its session;
 -- what left over each was answered before.
 pub record Serving {D : Type 0} {g : Ghosts D} (hub : Hub D g) (slots : List (Option (Entry (BufferedStream Socket))))
     (lingerers : List Lingerer) : Type 0 where
   pub served : Served hub
-  pub bytes : HaveBytes SocketsTell (traffic_through traffic_of) (present_state served) slots
-  pub tells : SocketsTell → EntriesTell served slots
-  pub lingerers_tell : SocketsTell → LingerersTell served lingerers
+  pub bytes : HaveBytes SocketsReport (traffic_through traffic_of) (present_state served) slots
+  pub reports : SocketsReport → EntriesWereAnswered served slots
+  pub lingerers_report : SocketsReport → LingerersWereAnswered served lingerers
 
 abbrev pub IsServing : {D : Type 0} {g : Ghosts D} → Hub D g → List (Option (Entry (BufferedStream Socket)))
     → List Lingerer → Type 0
@@ -124,12 +125,12 @@ IsServing hub slots lingerers = ∥ Serving hub slots lingerers ∥₁
 pub record HoldsAtEnds (P : Bool → ℕ → Traffic → Type 0) (moment : ℕ)
     (driven : List (Option (Entry (BufferedStream Socket)))) (lingered turned : List Lingerer) : Type 0 where
   pub entries : (key : ℕ) (was entry : Entry (BufferedStream Socket)) → slot_at driven key ≡ Some was
-      → EndsDrive SocketsTell traffic_of moment was entry
+      → EndsDrive SocketsReport traffic_of moment was entry
       → P (is_gone entry.state) entry.session (traffic_of entry.stream.inner)
-  pub linger : AllByRecursion (λ l. P true (session_of l.socket) (traffic_of l.socket)) lingered
+  pub linger : AllByRecursion (λ l. P true (socket_session l.socket) (traffic_of l.socket)) lingered
   pub ends :
       AllByRecursion (λ l. (dropped : Dropped) (later : Lingerer) → DropsInput moment l dropped later
-      → P true (session_of l.socket) (traffic_of later.socket)) turned
+      → P true (socket_session l.socket) (traffic_of later.socket)) turned
 
 -- each departure is kept, and what was served for a session that is gone was requested
 pub record IsExplained {D : Type 0} {g : Ghosts D} {hub : Hub D g} (served : Served hub) (gone : Bool) (s : ℕ)

@@ -5,20 +5,21 @@ use Rattle.event_loop.specs.declared.lingering.Dropped.{Dropped}
 use Rattle.event_loop.specs.declared.lingering.Dropped.TheVariants.{Blocked, All, Over}
 
 -- the count rose, or could not
-abbrev pub Rose : ℕ → ℕ → Type 0
-Rose old new = one_more old ≤ new
+abbrev pub CountRose : ℕ → ℕ → Type 0
+CountRose old new = one_more old ≤ new
 
 -- so many bytes were read, `most` at most
-abbrev pub GivesAtMost : Dropped → ℕ → ℕ → ℕ → Type 0
-GivesAtMost (Blocked n) most before after = after ≡ before + n
-GivesAtMost All most before after = after ≡ before + most
-GivesAtMost Over most before after = after ≤ before + most
+abbrev pub DropsUpTo : Dropped → ℕ → ℕ → ℕ → Type 0
+DropsUpTo (Blocked n) most before after = after ≡ before + n
+DropsUpTo All most before after = after ≡ before + most
+DropsUpTo Over most before after = after ≤ before + most
 
 -- why no more was dropped
 abbrev pub WhyDropped : Dropped → ℕ → Traffic → Traffic → Type 0
-WhyDropped (Blocked n) most before after = (n < most) × Rose before.read_blocked after.read_blocked
+WhyDropped (Blocked n) most before after = (n < most) × CountRose before.read_blocked after.read_blocked
 WhyDropped All most before after = Unit {0}
-WhyDropped Over most before after = Rose before.read_failed after.read_failed ⊎ Rose before.read_ended after.read_ended
+WhyDropped Over most before after = CountRose before.read_failed after.read_failed
+    ⊎ CountRose before.read_ended after.read_ended
 
 -- what was dropped is taken from what may still be dropped
 abbrev pub left_after : Dropped → ℕ → ℕ → ℕ

@@ -3,26 +3,26 @@ use Rattle.std.specs.Prelude.{◌≡◌, ◌≢◌, ℕ, ◌+◌, ◌≤◌, Boo
 use Rattle.stream_driver.specs.Entries.{is_over}
 use Rattle.stream_driver.specs.declared.buffered.BufferedStream.{BufferedStream}
 use Rattle.stream_driver.specs.declared.entries.Entry.{Entry}
-use Rattle.event_loop.specs.Lingerings.{AreTurned, Leaves, Lingerers}
-use Rattle.event_loop.specs.Sockets.{SocketsTell, traffic_of}
+use Rattle.event_loop.specs.Lingerings.{AreTurned, LingersOrCloses, Lingerers}
+use Rattle.event_loop.specs.Sockets.{SocketsReport, traffic_of}
 use Rattle.event_loop.specs.Tables.{EndsTurn, slot_at}
 use Rattle.event_loop.specs.declared.socket.Socket.{Socket}
 
 abbrev pub LeavesIf : Bool → Socket → Lingerers → Lingerers → Type 0
 LeavesIf false socket old new = new ≡ old
-LeavesIf true socket old new = Leaves socket old new
+LeavesIf true socket old new = LingersOrCloses socket old new
 
 module _ (moment : ℕ) where
   -- the connection of an entry that was taken out lingers or is closed
   abbrev pub LeavesAs : (slot new : Option (Entry (BufferedStream Socket)))
-      → EndsTurn SocketsTell traffic_of moment slot new → Lingerers → Lingerers → Type 0
+      → EndsTurn SocketsReport traffic_of moment slot new → Lingerers → Lingerers → Type 0
   LeavesAs None new ended old later = later ≡ old
   LeavesAs (Some entry) new ended old later = LeavesIf (is_over ended.0) ended.0.stream.inner old later
 
   -- the drive of the entry at a key has ended
   pub record EndsAt (key : ℕ) (slots : List (Option (Entry (BufferedStream Socket)))) (old : Lingerers)
       (new : List (Option (Entry (BufferedStream Socket)))) (later : Lingerers) : Type 0 where
-    pub ended : EndsTurn SocketsTell traffic_of moment (slot_at slots key) (slot_at new key)
+    pub ended : EndsTurn SocketsReport traffic_of moment (slot_at slots key) (slot_at new key)
     pub others : (other : ℕ) → other ≢ key → slot_at new other ≡ slot_at slots other
     pub leaves : LeavesAs (slot_at slots key) (slot_at new key) ended old later
 

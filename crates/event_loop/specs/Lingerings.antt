@@ -1,8 +1,8 @@
 -- The connections that linger.
 use Rattle.std.specs.Prelude.{◌≡◌, ◌⊎◌, ℕ, ◌<◌, ◌||◌, min, length, List, [], ◌∷◌, ◌++◌, Bool, true, false}
 use Rattle.stream_driver.specs.Traffic.{DepartAt, IsBeginning, Traffic, one_more}
-use Rattle.event_loop.specs.Drops.{GivesAtMost, WhyDropped, left_after, newest}
-use Rattle.event_loop.specs.Sockets.{IsHalfClosed, IsRefused, SocketsTell, traffic_of}
+use Rattle.event_loop.specs.Drops.{DropsUpTo, WhyDropped, left_after, newest}
+use Rattle.event_loop.specs.Sockets.{IsHalfClosed, SystemRefuses, SocketsReport, traffic_of}
 use Rattle.event_loop.specs.declared.connections.Backlog.{Backlog}
 use Rattle.event_loop.specs.declared.connections.Backlog.TheVariants.{Empty, More, Failed}
 use Rattle.event_loop.specs.declared.connections.TheConstants.{LINGERER}
@@ -26,7 +26,7 @@ lingers_in l = record { all = l.queue.items; has_more = l.has_more; refused = l.
 -- ---- how one begins
 
 -- no call of it failed, and its peer has not ended
-pub record IsInOrder (t : Traffic) : Type 0 where
+pub record IsHealthy (t : Traffic) : Type 0 where
   pub read : t.read_failed ≡ 0
   pub written : t.write_failed ≡ 0
   pub going : t.read_ended ≡ 0
@@ -42,11 +42,11 @@ with_one_more socket old =
 -- A connection whose session has left lingers, if it is in order and the system doesn't refuse, which is counted, and
 -- else is closed. One that lingers is shut down for writing, and the poll reports it under the token of those that
 -- linger.
-abbrev pub Leaves : Socket → Lingerers → Lingerers → Type 0
-Leaves socket old new =
-    ((IsInOrder (traffic_of socket) → ⊥) × (new ≡ old))
-    ⊎ (IsInOrder (traffic_of socket)
-    × ((IsRefused × (new ≡ record old { refused = one_more old.refused }))
+abbrev pub LingersOrCloses : Socket → Lingerers → Lingerers → Type 0
+LingersOrCloses socket old new =
+    ((IsHealthy (traffic_of socket) → ⊥) × (new ≡ old))
+    ⊎ (IsHealthy (traffic_of socket)
+    × ((SystemRefuses × (new ≡ record old { refused = one_more old.refused }))
     ⊎ (IsHalfClosed LINGERER socket.socket × (new ≡ with_one_more socket old))))
 
 -- ---- what a turn makes of them
@@ -57,11 +57,11 @@ most_of lingerer = min lingerer.left LINGERING_BYTES_A_TURN
 
 -- what came in was dropped, at this moment of the device
 pub record DropsInput (moment : ℕ) (old : Lingerer) (dropped : Dropped) (new : Lingerer) : Type 0 where
-  pub received : SocketsTell → GivesAtMost dropped (most_of old) (length (traffic_of old.socket).received)
+  pub received : SocketsReport → DropsUpTo dropped (most_of old) (length (traffic_of old.socket).received)
       (length (traffic_of new.socket).received)
-  pub goes_on : SocketsTell → IsBeginning (traffic_of old.socket).received (traffic_of new.socket).received
-  pub sent : SocketsTell → (traffic_of new.socket).sent ≡ (traffic_of old.socket).sent
-  pub departed : SocketsTell → DepartAt moment (traffic_of old.socket) (traffic_of new.socket)
+  pub goes_on : SocketsReport → IsBeginning (traffic_of old.socket).received (traffic_of new.socket).received
+  pub sent : SocketsReport → (traffic_of new.socket).sent ≡ (traffic_of old.socket).sent
+  pub departed : SocketsReport → DepartAt moment (traffic_of old.socket) (traffic_of new.socket)
   pub connection : (traffic_of new.socket).connection ≡ (traffic_of old.socket).connection
   pub why : WhyDropped dropped (most_of old) (traffic_of old.socket) (traffic_of new.socket)
   pub left : new.left ≡ left_after dropped (most_of old) old.left
@@ -74,8 +74,8 @@ is_all Over = false
 
 module _ (moment : ℕ) where
   -- its peer ended, a call of it failed, or as much was dropped of it as may be
-  abbrev pub Ends : Lingerer → Type 0
-  Ends old = (dropped : Dropped) × (new : Lingerer) × DropsInput moment old dropped new × (new.left ≡ 0)
+  abbrev pub EndsLingering : Lingerer → Type 0
+  EndsLingering old = (dropped : Dropped) × (new : Lingerer) × DropsInput moment old dropped new × (new.left ≡ 0)
 
   -- it lingers on, and more may be dropped of it
   abbrev pub Stays : Lingerer → Dropped → Lingerer → Type 0
@@ -85,7 +85,7 @@ module _ (moment : ℕ) where
   abbrev pub FirstTurned : List Lingerer → Lingerers → Lingerers → Type 0
   FirstTurned [] old new = new ≡ old
   FirstTurned (first ∷ others) old new =
-      (Ends first × (new ≡ record old { all = others }))
+      (EndsLingering first × (new ≡ record old { all = others }))
       ⊎ ((dropped : Dropped) × (later : Lingerer) × Stays first dropped later
       × (new ≡ record old { all = others ++ later ∷ []; has_more = old.has_more || is_all dropped }))
 
@@ -94,7 +94,7 @@ module _ (moment : ℕ) where
   abbrev pub AllTurned : List Lingerer → List Lingerer → Bool → Type 0
   AllTurned [] new more = (new ≡ []) × (more ≡ false)
   AllTurned (first ∷ others) new more =
-      (Ends first × AllTurned others new more)
+      (EndsLingering first × AllTurned others new more)
       ⊎ ((dropped : Dropped) × (later : Lingerer) × (rest : List Lingerer) × (of_rest : Bool)
       × Stays first dropped later × AllTurned others rest of_rest × (new ≡ later ∷ rest)
       × (more ≡ (is_all dropped || of_rest)))

@@ -25,12 +25,12 @@ pub record IsFirst (waits : ℕ → Bool) (last next : ℕ) : Type 0 where
   pub first : (key : ℕ) → key < 128 → waits key ≡ true → behind last next ≤ behind last key
 
 -- and where none waits, this one still
-abbrev pub IsNext : (ℕ → Bool) → ℕ → ℕ → Type 0
-IsNext waits last next = IsFirst waits last next ⊎ ((next ≡ last) × ((key : ℕ) → key < 128 → waits key ≡ false))
+abbrev pub HasNextTurn : (ℕ → Bool) → ℕ → ℕ → Type 0
+HasNextTurn waits last next = IsFirst waits last next ⊎ ((next ≡ last) × ((key : ℕ) → key < 128 → waits key ≡ false))
 
 -- a key that waits is the next, or that one is nearer to it
 abbrev pub ComesNearer : (ℕ → Bool) → ℕ → ℕ → ℕ → Type 0
-ComesNearer waits last next key = IsNext waits last next → last < 128 → key < 128 → waits key ≡ true
+ComesNearer waits last next key = HasNextTurn waits last next → last < 128 → key < 128 → waits key ≡ true
     → (key ≡ next) ⊎ (behind next key < behind last key)
 
 module _ {T D : Type 0} {g : Ghosts D} (hub : Hub D g) where
@@ -39,15 +39,15 @@ module _ {T D : Type 0} {g : Ghosts D} (hub : Hub D g) where
   is_writer entry = has_written hub entry.session || entry.stream.appended
 
   -- of those that take turns: all, those that write, and the others, whose last drive was heavy
-  abbrev pub is_of : Kind → Entry (BufferedStream T) → Bool
-  is_of Any entry = is_writer entry || entry.stream.is_heavy
-  is_of Writer entry = is_writer entry
-  is_of Reader entry = not (is_writer entry) && entry.stream.is_heavy
+  abbrev pub is_of_kind : Kind → Entry (BufferedStream T) → Bool
+  is_of_kind Any entry = is_writer entry || entry.stream.is_heavy
+  is_of_kind Writer entry = is_writer entry
+  is_of_kind Reader entry = not (is_writer entry) && entry.stream.is_heavy
 
   -- is it of this kind, and is it to be driven?
   abbrev pub waits_as : Kind → Option (Entry (BufferedStream T)) → Bool
   waits_as kind None = false
-  waits_as kind (Some entry) = is_ready entry.state && is_of kind entry
+  waits_as kind (Some entry) = is_ready entry.state && is_of_kind kind entry
 
   abbrev pub writes_in : Option (Entry (BufferedStream T)) → Bool
   writes_in None = false
@@ -56,7 +56,7 @@ module _ {T D : Type 0} {g : Ghosts D} (hub : Hub D g) where
   -- does it take turns, and is it another's?
   abbrev pub is_passed_over : Turns → ℕ → Entry (BufferedStream T) → Bool
   is_passed_over turns key entry =
-      not (key == turns.next || (key == turns.beside && is_of turns.kind entry)) && is_of Any entry
+      not (key == turns.next || (key == turns.beside && is_of_kind turns.kind entry)) && is_of_kind Any entry
 
   abbrev pub is_passed : Turns → ℕ → Option (Entry (BufferedStream T)) → Bool
   is_passed turns key None = false
@@ -65,9 +65,9 @@ module _ {T D : Type 0} {g : Ghosts D} (hub : Hub D g) where
   -- The turns of the entries at these keys: the next has one, and beside it the next of the other kind. So one at most
   -- that writes has one.
   pub record AreNext (slots : ℕ → Option (Entry (BufferedStream T))) (last turns : Turns) : Type 0 where
-    pub next : IsNext (λ key. waits_as Any (slots key)) last.next turns.next
+    pub next : HasNextTurn (λ key. waits_as Any (slots key)) last.next turns.next
     pub kind : turns.kind ≡ cond (writes_in (slots turns.next)) Reader Writer
-    pub beside : IsNext (λ key. waits_as turns.kind (slots key)) last.beside turns.beside
+    pub beside : HasNextTurn (λ key. waits_as turns.kind (slots key)) last.beside turns.beside
 
 -- is it to be driven?
 abbrev pub is_ready_slot : {T : Type 0} → Option (Entry T) → Bool

@@ -1,12 +1,12 @@
--- The premise that sockets tell the bytes that they move, over the open facts of a connection and the calls that were
+-- The premise that sockets report the bytes that they move, over the open facts of a connection and the calls that were
 -- really made of it.
 use Rattle.std.specs.Prelude.{◌≡◌, ℕ, List, [], ◌∷◌, ◌++◌, map, true, false}
 use Rattle.std.specs.declared.io.Error.{Error}
 use Rattle.mio.specs.declared.interest.Interest.{Interest}
 use Rattle.mio.specs.declared.token.Token.{Token}
-use Rattle.socket_calls.specs.HappenedCalls.{AsksWhetherThere, EndedWriting, SendsAtOnce, WasAnswered}
+use Rattle.socket_calls.specs.HappenedCalls.{AsksWhetherThere, EndedWriting, SendsAtOnce, SocketAnswered}
 use Rattle.socket_calls.specs.HappenedCalls.{WasReceived, WasRegistered, WasReregistered, WasSent}
-use Rattle.socket_calls.specs.OpenFacts.{IsOf, departed, bytes_received, bytes_sent, next}
+use Rattle.socket_calls.specs.OpenFacts.{IsConnectionOf, departed, bytes_received, bytes_sent, socket_after_call}
 use Rattle.socket_calls.specs.declared.counted.AcceptedSocket.{AcceptedSocket}
 use Rattle.socket_calls.specs.declared.counted.CountedSocket.{CountedSocket}
 use Rattle.stream_driver.specs.Buffers.{IsNew}
@@ -18,20 +18,21 @@ use Rattle.event_loop.specs.declared.socket.Socket.{Socket}
 -- Nothing has moved over a connection of which no call was made, and each call that the run really made of one moved
 -- the bytes that it read or wrote, and no others; those of a write left at the moment of the device that it was shown.
 -- It is neither claimed nor denied: which bytes moved, and which calls were made, is open.
-pub record SocketsTell : Type 0 where
+pub record SocketsReport : Type 0 where
   pub begins : (s : CountedSocket) → s.calls ≡ 0 → (bytes_received s ≡ []) × (departed s ≡ [])
   pub received : (s : CountedSocket) (bytes : List ℕ) → WasReceived s bytes
-      → (bytes_received (next s) ≡ bytes_received s ++ bytes) × (departed (next s) ≡ departed s)
+      → (bytes_received (socket_after_call s) ≡ bytes_received s ++ bytes)
+      × (departed (socket_after_call s) ≡ departed s)
   pub sent : (s : CountedSocket) (bytes : List ℕ) (moment : ℕ) → WasSent s bytes moment
-      → (bytes_received (next s) ≡ bytes_received s)
-      × (departed (next s) ≡ departed s ++ (bytes_sent s ++ bytes, moment) ∷ [])
+      → (bytes_received (socket_after_call s) ≡ bytes_received s)
+      × (departed (socket_after_call s) ≡ departed s ++ (bytes_sent s ++ bytes, moment) ∷ [])
 
 abbrev pub departure_of : List ℕ × ℕ → Departure
 departure_of d = record { bytes = d.0; moment = d.1 }
 
 -- the session that a connection was made for, whose number it has
-abbrev pub session_of : Socket → ℕ
-session_of s = s.socket.connection
+abbrev pub socket_session : Socket → ℕ
+socket_session s = s.socket.connection
 
 -- the bytes of a socket's connection, what left at which moment, its counts, its last call, and its number
 abbrev pub traffic_of : Socket → Traffic
@@ -66,16 +67,16 @@ pub record IsSetUp (token : Token) (s : CountedSocket) : Type 0 where
 -- nothing, and has its options
 abbrev pub IsNewSocket : AcceptedSocket → (key session : ℕ) → BufferedStream Socket → Type 0
 IsNewSocket accepted key session b =
-    (inner : Socket) × IsUncalled SocketsTell session (traffic_of inner) × IsNew inner b × HasItsOptions inner.socket
-    × HasItsPlace key inner.socket × IsOf accepted inner.socket
+    (inner : Socket) × IsUncalled SocketsReport session (traffic_of inner) × IsNew inner b × HasItsOptions inner.socket
+    × HasItsPlace key inner.socket × IsConnectionOf accepted inner.socket
 
 -- what comes in alone
 abbrev pub read_interests : Interest
 read_interests = record { priority = false; writable = false; readable = true }
 
 -- a call of the system answered an error
-abbrev pub IsRefused : Type 0
-IsRefused = (error : Error) × WasAnswered error
+abbrev pub SystemRefuses : Type 0
+SystemRefuses = (error : Error) × SocketAnswered error
 
 -- It was shut down for writing, and from then on the poll reports under this token what comes in, and nothing else.
 pub record IsHalfClosed (token : Token) (s : CountedSocket) : Type 0 where

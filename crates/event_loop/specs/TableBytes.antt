@@ -11,14 +11,14 @@ use Rattle.stream_driver.specs.Traffic.{Traffic}
 use Rattle.stream_driver.specs.declared.buffered.BufferedStream.{BufferedStream}
 use Rattle.stream_driver.specs.declared.entries.Entry.{Entry}
 use Rattle.stream_driver.specs.declared.entries.EntryState.TheVariants.{Gone}
-use Rattle.event_loop.specs.Sockets.{SocketsTell, traffic_of}
+use Rattle.event_loop.specs.Sockets.{SocketsReport, traffic_of}
 use Rattle.event_loop.specs.Tables.{slot_at}
 use Rattle.event_loop.specs.declared.socket.Socket.{Socket}
 
-module _ {T : Type 0} (tells : Type 0) (traffic : T → Traffic) where
+module _ {T : Type 0} (reports : Type 0) (traffic : T → Traffic) where
   -- what was read from the stream is what came in, and what was written to it is what was reported as sent
   abbrev pub IsCarried : T → SessionStream → Type 0
-  IsCarried stream st = tells → ((traffic stream).received ≡ st.received) × ((traffic stream).sent ≡ st.sent)
+  IsCarried stream st = reports → ((traffic stream).received ≡ st.received) × ((traffic stream).sent ≡ st.sent)
 
   -- so it is of the entry's session, which is present
   abbrev pub HasItsBytes : HubState → Entry T → Type 0
@@ -34,8 +34,8 @@ module _ {T : Type 0} (tells : Type 0) (traffic : T → Traffic) where
 abbrev pub KeepBytes : {D : Type 0} {g : Ghosts D} → Hub D g → List (Option (Entry (BufferedStream Socket))) → Hub D g
     → List (Option (Entry (BufferedStream Socket))) → Type 0
 KeepBytes hub slots later new =
-    Leads hub later (λ h k. HaveBytes SocketsTell (traffic_through traffic_of) h.hub slots
-    → HaveBytes SocketsTell (traffic_through traffic_of) k.hub new)
+    Leads hub later (λ h k. HaveBytes SocketsReport (traffic_through traffic_of) h.hub slots
+    → HaveBytes SocketsReport (traffic_through traffic_of) k.hub new)
 
 -- What came in over a connection is the spellings of its session's requests, and the beginning of one; what went over
 -- it, with what its stream buffers and what is pending, is the texts of the machine's replies to them.

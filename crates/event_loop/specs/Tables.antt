@@ -23,8 +23,8 @@ use Rattle.stream_driver.specs.declared.entries.Entry.{Entry}
 use Rattle.stream_driver.specs.declared.entries.EntryState.{EntryState}
 use Rattle.stream_driver.specs.declared.entries.EntryState.TheVariants.{Idle, Ready, Gone}
 use Rattle.event_loop.specs.Accepts.{Accepts, TurnAccepts, more}
-use Rattle.event_loop.specs.Numbers.{AreBelow}
-use Rattle.event_loop.specs.Sockets.{IsRefused}
+use Rattle.event_loop.specs.Numbers.{SessionsAreBelow}
+use Rattle.event_loop.specs.Sockets.{SystemRefuses}
 use Rattle.event_loop.specs.declared.connections.Backlog.{Backlog}
 use Rattle.event_loop.specs.declared.connections.Refusal.{Refusal}
 use Rattle.event_loop.specs.declared.connections.Refusal.TheVariants.{Full, Numbers, Room, Session, System}
@@ -51,12 +51,12 @@ readied Ready = Ready
 readied Gone = Gone
 
 -- memory was refused, of which a call leaves no trace that could be asked for; or the system answered an error
-abbrev pub IsFromOutside : Refusal → Type 0
-IsFromOutside Room = Unit {0}
-IsFromOutside System = IsRefused
-IsFromOutside Numbers = ⊥
-IsFromOutside Full = ⊥
-IsFromOutside Session = ⊥
+abbrev pub IsOutsideCause : Refusal → Type 0
+IsOutsideCause Room = Unit {0}
+IsOutsideCause System = SystemRefuses
+IsOutsideCause Numbers = ⊥
+IsOutsideCause Full = ⊥
+IsOutsideCause Session = ⊥
 
 -- how many refusals are counted: one for memory, or by the system
 abbrev pub refusals_as : Result (Unit {0}) Refusal → ℕ
@@ -69,11 +69,11 @@ refusals_as (Err Session) = 0
 
 module _ {D : Type 0} {g : Ghosts D} where
   -- a session was to join, and the hub refused it
-  abbrev pub IsTried : (hub later : Hub D g) → ℕ → Type 0
-  IsTried hub later next = (outcome : Outcome) × (outcome ≢ Done) × HubLeads hub later (Joins next) outcome
+  abbrev pub JoinIsRefused : (hub later : Hub D g) → ℕ → Type 0
+  JoinIsRefused hub later next = (outcome : Outcome) × (outcome ≢ Done) × HubLeads hub later (Joins next) outcome
 
   -- what happened to the hub as a connection was turned away: its session was to join, or nothing
-  abbrev pub join_tried : (hub later : Hub D g) (next : ℕ) → (later ≡ hub) ⊎ IsTried hub later next
+  abbrev pub join_tried : (hub later : Hub D g) (next : ℕ) → (later ≡ hub) ⊎ JoinIsRefused hub later next
       → List (HubEvent × Choice)
   join_tried hub later next (inl same) = []
   join_tried hub later next (inr tried) = (Joins next, tried.2.0) ∷ []
@@ -97,7 +97,7 @@ module _ {T : Type 0} where
     pub record TableStands (hub : Hub D g) (next : ℕ) (slots : List (Option (Entry T))) : Type 0 where
       pub stands : Stands hub
       pub sessions : HaveSessions hub slots
-      pub numbers : AreBelow next slots
+      pub numbers : SessionsAreBelow next slots
       pub entries : HaveEntries hub slots
 
     -- There is this cause to turn a connection away: no number is left; there are 128 entries; memory was refused, or
@@ -105,16 +105,16 @@ module _ {T : Type 0} where
     abbrev pub IsCause : Hub D g → ℕ → List (Option (Entry T)) → Hub D g → Refusal → Type 0
     IsCause hub next slots later Numbers = next ≡ 2 ^ 64 - 1
     IsCause hub next slots later Full = 128 ≤ count_by is_some slots
-    IsCause hub next slots later Room = IsFromOutside Room
-    IsCause hub next slots later System = IsFromOutside System
-    IsCause hub next slots later Session = IsTried hub later next
+    IsCause hub next slots later Room = IsOutsideCause Room
+    IsCause hub next slots later System = IsOutsideCause System
+    IsCause hub next slots later Session = JoinIsRefused hub later next
 
     -- a connection that was turned away, for a cause: the table is as it was, and no session has joined
     pub record TurnsAway (hub : Hub D g) (next : ℕ) (slots : List (Option (Entry T))) (later : Hub D g) (then : ℕ)
         (new : List (Option (Entry T))) : Type 0 where
       pub slots_are : new ≡ slots
       pub next_is : then ≡ next
-      pub hub_is : (later ≡ hub) ⊎ IsTried hub later next
+      pub hub_is : (later ≡ hub) ⊎ JoinIsRefused hub later next
       pub cause : Refusal
       pub why : IsCause hub next slots later cause
 
@@ -249,11 +249,11 @@ module _ {T : Type 0} where
   -- out if it is over
   abbrev pub EndsTurn : Type 0 → (T → Traffic) → ℕ → Option (Entry (BufferedStream T))
       → Option (Entry (BufferedStream T)) → Type 0
-  EndsTurn tells traffic moment None new = new ≡ None
-  EndsTurn tells traffic moment (Some old) new =
-      (entry : Entry (BufferedStream T)) × EndsDrive tells traffic moment old entry × (new ≡ unless_over entry)
+  EndsTurn reports traffic moment None new = new ≡ None
+  EndsTurn reports traffic moment (Some old) new =
+      (entry : Entry (BufferedStream T)) × EndsDrive reports traffic moment old entry × (new ≡ unless_over entry)
 
   abbrev pub EachEnds : Type 0 → (T → Traffic) → ℕ → List (Option (Entry (BufferedStream T)))
       → List (Option (Entry (BufferedStream T))) → Type 0
-  EachEnds tells traffic moment slots later = (key : ℕ)
-      → EndsTurn tells traffic moment (slot_at slots key) (slot_at later key)
+  EachEnds reports traffic moment slots later = (key : ℕ)
+      → EndsTurn reports traffic moment (slot_at slots key) (slot_at later key)

@@ -8,14 +8,14 @@ use Rattle.mio.specs.Events.{items, capacity as events_capacity}
 use Rattle.mio.specs.declared.event.event.Event.{Event}
 use Rattle.mio.specs.declared.token.Token.{Token}
 use Rattle.sector.specs.declared.device.Sectors.{Ghosts}
-use Rattle.sessions.specs.Laws.{GivesBack, HasRun}
+use Rattle.sessions.specs.Laws.{CollectsStep, HasRun}
 use Rattle.sessions.specs.SessionStreams.{HubEvent, Choice}
 use Rattle.sessions.specs.StandsFor.{device}
 use Rattle.sessions.specs.declared.hub.Hub.{Hub}
 use Rattle.stream_driver.specs.Appends.{AppendsAtMost, ready_count}
 use Rattle.stream_driver.specs.Buffers.{traffic_through}
 use Rattle.stream_driver.specs.Entries.{DrivenAll}
-use Rattle.stream_driver.specs.Sends.{DrivesTelling}
+use Rattle.stream_driver.specs.Sends.{DrivesAnswering}
 use Rattle.stream_driver.specs.Sessions.{Adds, Leads, Point}
 use Rattle.stream_driver.specs.Traffic.{Traffic}
 use Rattle.stream_driver.specs.declared.buffered.BufferedStream.{BufferedStream}
@@ -47,17 +47,17 @@ IsTurnOf hub turns key polled ready = ready ≡ after_turn (is_passed hub turns 
 -- others are passed over. Each other that is ready was driven once, by rising key, and no other event came to the hub.
 -- Each of these drives appended one record to the log at most. What their streams buffered was written, and those that
 -- are over were taken out.
-pub record DrivesReady {T D : Type 0} {g : Ghosts D} (tells : Type 0) (traffic : T
+pub record DrivesReady {T D : Type 0} {g : Ghosts D} (reports : Type 0) (traffic : T
     → Traffic) (events : List Event) (last : Turns) (hub : Hub D g) (slots : List (Option (Entry (BufferedStream T))))
     (next : Turns) (later : Hub D g) (new : List (Option (Entry (BufferedStream T)))) : Type 0 where
   pub turn_of : AreNext hub (λ key. after_poll events key (slot_at slots key)) last next
   pub ready : List (Option (Entry (BufferedStream T)))
   pub turned : (key : ℕ) → IsTurnOf hub next key (after_poll events key (slot_at slots key)) (slot_at ready key)
   pub driven : List (Option (Entry (BufferedStream T)))
-  pub drives : DrivesTelling (traffic_through traffic) tells hub ready later driven
-      (λ h k. DrivenAll tells (traffic_through traffic) h ready k driven)
+  pub drives : DrivesAnswering (traffic_through traffic) reports hub ready later driven
+      (λ h k. DrivenAll reports (traffic_through traffic) h ready k driven)
   pub appends : AppendsAtMost (ready_count ready) hub later
-  pub ended : (key : ℕ) → EndsTurn tells traffic (g.moment (device later)) (slot_at driven key) (slot_at new key)
+  pub ended : (key : ℕ) → EndsTurn reports traffic (g.moment (device later)) (slot_at driven key) (slot_at new key)
 
 -- what the listener has answered so far
 abbrev pub answers_of : Port → Accepts
@@ -79,8 +79,8 @@ pub record IsUntouched {D : Type 0} {g : Ghosts D} (old new : EventLoop D g) : T
 
 -- what no open transaction needs has gone, a step of it, and whether garbage is left is known; but for that all is as
 -- it was
-pub record IsGivenBack {D : Type 0} {g : Ghosts D} (old new : EventLoop D g) : Type 0 where
-  pub hub : GivesBack old.hub new.hub new.has_garbage
+pub record CollectsGarbage {D : Type 0} {g : Ghosts D} (old new : EventLoop D g) : Type 0 where
+  pub hub : CollectsStep old.hub new.hub new.has_garbage
   pub table : new.table ≡ old.table
   pub next : new.next ≡ old.next
   pub port : new.port ≡ old.port
@@ -104,8 +104,8 @@ accepted_joins false old new untouched = []
 -- the sessions that are ready were driven, by the events of the last poll, and the drives ended
 abbrev pub DrivesAndEnds :
     {D : Type 0} {g : Ghosts D} → Type 0 → (Socket → Traffic) → EventLoop D g → EventLoop D g → Type 0
-DrivesAndEnds {D} {g} tells traffic old new =
-    (drives : DrivesReady tells traffic (items old.poller.events) old.turns old.hub old.table.slots new.turns new.hub
+DrivesAndEnds {D} {g} reports traffic old new =
+    (drives : DrivesReady reports traffic (items old.poller.events) old.turns old.hub old.table.slots new.turns new.hub
     new.table.slots)
     × EndAll (g.moment (device new.hub)) drives.driven (lingers_in old.lingering) new.table.slots
     (lingers_in new.lingering)
@@ -124,10 +124,10 @@ accepts_now Failed events = true
 -- transaction needs is freed. The events of these drives, followed by the joins of these accepts, are one run of the
 -- hub: lawful at each moment, with the device's failures counted, and what a crash leaves known. After the drives it
 -- turned those that linger; they were closed where an accept failed.
-pub record IsTurn {D : Type 0} {g : Ghosts D} (tells : Type 0) (traffic : Socket
+pub record IsTurn {D : Type 0} {g : Ghosts D} (reports : Type 0) (traffic : Socket
     → Traffic) (old new : EventLoop D g) : Type 0 where
   pub driven : EventLoop D g
-  pub drives : DrivesReady tells traffic (items new.poller.events) old.turns old.hub old.table.slots driven.turns
+  pub drives : DrivesReady reports traffic (items new.poller.events) old.turns old.hub old.table.slots driven.turns
       driven.hub driven.table.slots
   pub turns_are : new.turns ≡ driven.turns
   pub next_is : driven.next ≡ old.next
@@ -140,30 +140,30 @@ pub record IsTurn {D : Type 0} {g : Ghosts D} (tells : Type 0) (traffic : Socket
   pub accepted : EventLoop D g
   pub accepts : Accepted (accepts_now old.backlog (items new.poller.events)) driven accepted
   pub lingerers_are : lingers_in accepted.lingering ≡ unless_failed accepted.backlog (lingers_in driven.lingering)
-  pub gives_back : IsGivenBack accepted new
+  pub collects : CollectsGarbage accepted new
   pub run : Leads old.hub new.hub (λ h l. (k : Point)
-      × DrivenAll tells (traffic_through traffic) h drives.ready k drives.driven
+      × DrivenAll reports (traffic_through traffic) h drives.ready k drives.driven
       × Adds k (accepted_joins (accepts_now old.backlog (items new.poller.events)) driven accepted accepts) l)
 
 -- what a turn does to its hub is a run of the hub
 abbrev pub TurnsAreRuns : {D : Type 0} {g : Ghosts D} → Type 0 → (Socket → Traffic) → EventLoop D g → Type 0
-TurnsAreRuns {D} {g} tells traffic events = (old new : EventLoop D g) → IsTurn tells traffic old new
+TurnsAreRuns {D} {g} reports traffic events = (old new : EventLoop D g) → IsTurn reports traffic old new
     → HasRun old.hub new.hub
 
 -- In a turn a session that is ready once the poll reported is driven, or it is ready still at the end of the turn, and
 -- the next of those that take turns is nearer to it: by at least one place of the 128 of the table.
-pub record IsDrivenSoon {D : Type 0} {g : Ghosts D} (tells : Type 0) (traffic : Socket
-    → Traffic) (old new : EventLoop D g) (turn : IsTurn tells traffic old new) (key : ℕ) : Type 0 where
+pub record IsDrivenSoon {D : Type 0} {g : Ghosts D} (reports : Type 0) (traffic : Socket
+    → Traffic) (old new : EventLoop D g) (turn : IsTurn reports traffic old new) (key : ℕ) : Type 0 where
   pub soon : (is_ready_slot (slot_at turn.drives.ready key) ≡ true)
       ⊎ ((behind new.turns.next key < behind old.turns.next key) × (is_ready_slot (slot_at new.table.slots key) ≡ true))
   pub bound : behind old.turns.next key ≤ 128
 
 -- so it is of each session, in each turn: so each is driven within 128 turns
 abbrev pub EachHasItsTurn : {D : Type 0} {g : Ghosts D} → Type 0 → (Socket → Traffic) → EventLoop D g → Type 0
-EachHasItsTurn {D} {g} tells traffic events =
-    (old new : EventLoop D g) (turn : IsTurn tells traffic old new) (key : ℕ)
+EachHasItsTurn {D} {g} reports traffic events =
+    (old new : EventLoop D g) (turn : IsTurn reports traffic old new) (key : ℕ)
     → is_ready_slot (after_poll (items new.poller.events) key (slot_at old.table.slots key)) ≡ true
-    → IsDrivenSoon tells traffic old new turn key
+    → IsDrivenSoon reports traffic old new turn key
 
 -- does the loop know of work: of garbage, of input to drop, of a session that is ready?
 abbrev pub has_work : {D : Type 0} {g : Ghosts D} → EventLoop D g → Bool

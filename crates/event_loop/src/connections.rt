@@ -7,8 +7,8 @@ ghost use Rattle.stream_driver.specs.Buffers.{IsNew};
 ghost use Rattle.event_loop.specs.Accepts.{more};
 ghost use Rattle.event_loop.specs.Leavings.{EndAll, EndsAt};
 ghost use Rattle.event_loop.specs.Lingerings.{lingers_in};
-ghost use Rattle.event_loop.specs.Sockets.{IsNewSocket, SocketsTell, traffic_of};
-ghost use Rattle.event_loop.specs.Tables.{AcceptsInto, Comes, ComesAs, EachEnds, IsFromOutside, TableStands};
+ghost use Rattle.event_loop.specs.Sockets.{IsNewSocket, SocketsReport, traffic_of};
+ghost use Rattle.event_loop.specs.Tables.{AcceptsInto, Comes, ComesAs, EachEnds, IsOutsideCause, TableStands};
 ghost use Rattle.event_loop.specs.Tables.{after_poll, is_any_ready, refusals_as};
 ghost use Rattle.event_loop.specs.Tables.{is_ready as is_ready_in, slot_at, reported};
 
@@ -57,7 +57,7 @@ pub(crate) fn any_ready(table: &Slab<Entry<BufferedStream<Socket>>>) -> bool
 }
 
 // Does an event report urgent bytes, at which a read ends early, or that the peer has ended, which no other event may report?
-fn tells_to_read_on(event: &event::Event) -> bool
+fn reports_to_read_on(event: &event::Event) -> bool
     ensures { result ≡ (is_priority event.now || is_read_closed event.now) }
 {
     event.is_priority() || event.is_read_closed()
@@ -83,7 +83,7 @@ pub(crate) fn make_polled_ready(events: &Events, table: &mut Slab<Entry<Buffered
     for event in events {
         let Token(key) = event.token();
         if let Some(entry) = table.get_mut(key) {
-            make_ready(entry, tells_to_read_on(event));
+            make_ready(entry, reports_to_read_on(event));
         }
     }
 }
@@ -118,7 +118,7 @@ pub(crate) fn end_drives<D: Sectors>(
     table: &mut Slab<Entry<BufferedStream<Socket>>>,
     lingering: &mut Lingering,
 )
-    ensures ended { EachEnds SocketsTell traffic_of (D.moment device.now) table.old.slots table.new.slots }
+    ensures ended { EachEnds SocketsReport traffic_of (D.moment device.now) table.old.slots table.new.slots }
     ensures left { EndAll (D.moment device.now) table.old.slots (lingers_in lingering.old) table.new.slots (lingers_in lingering.new) }
 {
     for key in 0..table.capacity() {
@@ -194,7 +194,7 @@ fn prepare(
     number: u64,
     key: usize,
 ) -> Result<BufferedStream<Socket>, Refusal>
-    ensures { MatchResult result (IsNewSocket accepted key number) IsFromOutside }
+    ensures { MatchResult result (IsNewSocket accepted key number) IsOutsideCause }
 {
     let mut socket = Socket::new(accepted, number);
     match socket.set_up(poll, Token(key)) {
@@ -212,7 +212,7 @@ fn make_place(
     number: u64,
     table: &mut Slab<Entry<BufferedStream<Socket>>>,
 ) -> Result<BufferedStream<Socket>, Refusal>
-    ensures fresh { MatchResult result (IsNewSocket accepted table.new.vacant_key number) IsFromOutside }
+    ensures fresh { MatchResult result (IsNewSocket accepted table.new.vacant_key number) IsOutsideCause }
     ensures place { OnOk result (HasRoomFor table.new 1 × (table.new.vacant_key < 128)) }
     ensures slots { table.new.slots ≡ table.old.slots }
 {

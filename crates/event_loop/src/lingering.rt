@@ -7,7 +7,7 @@ ghost use Rattle.std.specs.Prelude.{◌≡◌, ◌≤◌, length};
 ghost use Rattle.std.specs.VecDeque.{deque_len, deque_capacity};
 ghost use Rattle.event_loop.specs.declared.lingering.TheConstants.{LINGERING_MAX};
 ghost use Rattle.stream_driver.specs.Traffic.{DepartAt, IsBeginning};
-ghost use Rattle.event_loop.specs.Drops.{GivesAtMost, WhyDropped};
+ghost use Rattle.event_loop.specs.Drops.{DropsUpTo, WhyDropped};
 
 use crate::connections::LINGERER;
 use crate::socket::Socket;
@@ -53,10 +53,10 @@ impl Dropped {
 
 /// Reads at most so many bytes and drops them; each read is shown the device. Takes no memory.
 pub fn drop_input<D: Sectors, S: Stream>(device: &D, stream: &mut S, most: usize) -> Dropped
-    ensures received { S.tells → GivesAtMost result most (length (S.traffic stream.old).received) (length (S.traffic stream.new).received) }
-    ensures goes_on { S.tells → IsBeginning (S.traffic stream.old).received (S.traffic stream.new).received }
-    ensures sent { S.tells → (S.traffic stream.new).sent ≡ (S.traffic stream.old).sent }
-    ensures departed { S.tells → DepartAt (D.moment device.now) (S.traffic stream.old) (S.traffic stream.new) }
+    ensures received { S.reports → DropsUpTo result most (length (S.traffic stream.old).received) (length (S.traffic stream.new).received) }
+    ensures goes_on { S.reports → IsBeginning (S.traffic stream.old).received (S.traffic stream.new).received }
+    ensures sent { S.reports → (S.traffic stream.new).sent ≡ (S.traffic stream.old).sent }
+    ensures departed { S.reports → DepartAt (D.moment device.now) (S.traffic stream.old) (S.traffic stream.new) }
     ensures connection { (S.traffic stream.new).connection ≡ (S.traffic stream.old).connection }
     ensures why { WhyDropped result most (S.traffic stream.old) (S.traffic stream.new) }
 {
@@ -112,7 +112,8 @@ pub(crate) struct Lingering {
 
 impl Lingering {
     ghost use Rattle.std.specs.Prelude.{[], IfOk};
-    ghost use Rattle.event_loop.specs.Lingerings.{AreTurned, FirstTurned, Leaves, closed, lingers_in, with_one_more};
+    ghost use Rattle.event_loop.specs.Lingerings.{AreTurned, FirstTurned, LingersOrCloses, closed, lingers_in};
+    ghost use Rattle.event_loop.specs.Lingerings.{with_one_more};
 
     /// None lingers. Takes the memory for all.
     pub(crate) fn new(alloc: Global) -> Result<Lingering, AllocError>
@@ -134,7 +135,7 @@ impl Lingering {
 
     /// A connection's session has left. It lingers where it ended in good order, and else is closed. Takes no memory.
     pub(crate) fn begin(&mut self, poll: &CountedPoll, mut socket: Socket)
-        ensures { Leaves socket (lingers_in self.old) (lingers_in self.new) }
+        ensures { LingersOrCloses socket (lingers_in self.old) (lingers_in self.new) }
     {
         if !socket.is_in_order() {
             return;

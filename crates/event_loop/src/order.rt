@@ -5,8 +5,8 @@
 //! table, and one of the other kind, a reader if the next is a writer, and a writer if it is a reader. So between two polls one session
 //! writes at most, and one reads much. Each that waits is driven within as many turns as the table has places.
 ghost use Rattle.std.specs.Prelude.{◌≡◌, ◌<◌, ◌≤◌, ℕ, Bool};
-ghost use Rattle.event_loop.specs.Order.{AreNext, ComesNearer, IsNext, after_turn, behind, in_turn, is_of, is_passed};
-ghost use Rattle.event_loop.specs.Order.{is_passed_over, is_writer, waits_as, writes_in};
+ghost use Rattle.event_loop.specs.Order.{AreNext, ComesNearer, HasNextTurn, after_turn, behind, in_turn, is_of_kind};
+ghost use Rattle.event_loop.specs.Order.{is_passed, is_passed_over, is_writer, waits_as, writes_in};
 ghost use Rattle.event_loop.specs.Tables.{slot_at};
 
 use crate::socket::Socket;
@@ -58,8 +58,8 @@ fn is_writer<D: Sectors>(hub: &Hub<D>, entry: &Entry<BufferedStream<Socket>>) ->
 }
 
 // Is it of this kind?
-fn is_of<D: Sectors>(hub: &Hub<D>, kind: Kind, entry: &Entry<BufferedStream<Socket>>) -> bool
-    ensures { result ≡ is_of hub.now kind entry.now }
+fn is_of_kind<D: Sectors>(hub: &Hub<D>, kind: Kind, entry: &Entry<BufferedStream<Socket>>) -> bool
+    ensures { result ≡ is_of_kind hub.now kind entry.now }
 {
     let is_writer = is_writer(hub, entry);
     match kind {
@@ -79,7 +79,7 @@ fn waits_as<D: Sectors>(
     ensures { result ≡ waits_as hub.now kind (slot_at table.now.slots key) }
 {
     match table.get(key) {
-        Some(entry) => entry.state == EntryState::Ready && is_of(hub, kind, entry),
+        Some(entry) => entry.state == EntryState::Ready && is_of_kind(hub, kind, entry),
         None => false,
     }
 }
@@ -122,7 +122,7 @@ fn first_behind<D: Sectors>(
     last: usize,
 ) -> usize
     requires { last < 128 }
-    ensures next { IsNext (λ key. waits_as hub.now kind (slot_at table.now.slots key)) last result }
+    ensures next { HasNextTurn (λ key. waits_as hub.now kind (slot_at table.now.slots key)) last result }
     ensures place { result < 128 }
 {
     for places in 0..SESSIONS_MAX {
@@ -167,10 +167,10 @@ fn is_passed_over<D: Sectors>(
 ) -> bool
     ensures { result ≡ is_passed_over hub.now turns key entry.now }
 {
-    if key == turns.next || (key == turns.beside && is_of(hub, turns.kind, entry)) {
+    if key == turns.next || (key == turns.beside && is_of_kind(hub, turns.kind, entry)) {
         return false;
     }
-    is_of(hub, Kind::Any, entry)
+    is_of_kind(hub, Kind::Any, entry)
 }
 
 // An entry that is ready has a turn of its own, unless it is another's.

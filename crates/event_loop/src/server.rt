@@ -4,7 +4,7 @@ ghost use Rattle.mio.specs.Events.{capacity as events_capacity};
 ghost use Rattle.stream_driver.specs.Sessions.{Stands};
 ghost use Rattle.stream_driver.specs.Entries.{HaveSessions};
 ghost use Rattle.event_loop.specs.Departures.{IsServing};
-ghost use Rattle.event_loop.specs.Numbers.{AreBelow, HavePlaces};
+ghost use Rattle.event_loop.specs.Numbers.{SessionsAreBelow, HavePlaces};
 ghost use Rattle.event_loop.specs.Peers.{AreRested, LackNothing};
 ghost use Rattle.event_loop.specs.Tables.{HaveEntries};
 
@@ -60,7 +60,7 @@ pub struct EventLoop<D: Sectors> {
     ghost serving: { IsServing hub table.slots lingering.queue.items },
     ghost sessions: { HaveSessions hub table.slots },
     ghost entries: { HaveEntries hub table.slots },
-    ghost numbers: { AreBelow next table.slots },
+    ghost numbers: { SessionsAreBelow next table.slots },
     ghost places: { HavePlaces table.slots },
     ghost peers: { LackNothing hub table.slots },
     ghost rested: { AreRested table.slots },
@@ -71,15 +71,15 @@ pub struct EventLoop<D: Sectors> {
 impl<D: Sectors> EventLoop<D> {
     ghost use Rattle.std.specs.Prelude.{◌≡◌, true, IfOk, MatchResult, OnOk, OnErr};
     ghost use Rattle.mio.specs.Events.{items};
-    ghost use Rattle.sessions.specs.Lives.{IsOpened, IsServed};
+    ghost use Rattle.sessions.specs.Restarts.{IsOpened, IsServed};
     ghost use Rattle.sessions.specs.SessionStreams.{HubState};
     ghost use Rattle.sessions.specs.StandsFor.{StandsFor, device};
     ghost use Rattle.event_loop.specs.AllThatLeft.{HaveOneRun};
     ghost use Rattle.event_loop.specs.Lingerings.{lingers_in, unless_failed};
-    ghost use Rattle.event_loop.specs.Loops.{HasItsSessions, IsAt, ListensFor, hub_of};
-    ghost use Rattle.event_loop.specs.Sockets.{SocketsTell, traffic_of};
+    ghost use Rattle.event_loop.specs.Loops.{HasItsSessions, HasAddress, ListensFor, hub_of};
+    ghost use Rattle.event_loop.specs.Sockets.{SocketsReport, traffic_of};
     ghost use Rattle.event_loop.specs.TableBytes.{KeepBytes};
-    ghost use Rattle.event_loop.specs.Turns.{Accepted, DrivesAndEnds, IsGivenBack, IsTurn, IsUntouched};
+    ghost use Rattle.event_loop.specs.Turns.{Accepted, DrivesAndEnds, CollectsGarbage, IsTurn, IsUntouched};
     ghost use Rattle.event_loop.specs.Turns.{EachHasItsTurn, TurnsAreRuns, Waits};
     ghost use Rattle.event_loop.specs.Turns.{accepts_now, has_work, is_reported_of, turn_waits};
     ghost use Rattle.event_loop.specs.Waits.{nanos_of};
@@ -121,7 +121,7 @@ impl<D: Sectors> EventLoop<D> {
 
     /// The address that it listens at. A fault is the system's. Takes no memory.
     pub fn address(&self) -> io::Result<SocketAddr>
-        ensures { IfOk result (λ address. IsAt self.now address) }
+        ensures { IfOk result (λ address. HasAddress self.now address) }
     {
         self.port.address()
     }
@@ -185,7 +185,7 @@ impl<D: Sectors> EventLoop<D> {
     /// What has left over all connections since the opening, those that a turn took out or closed among them, is kept in that run
     /// (`law_all_have_one_run`).
     pub fn turn(&mut self, timeout: Option<Duration>) -> io::Result<()>
-        ensures turned { OnOk result (IsTurn ⟦<Socket as Stream>⟧.tells ⟦<Socket as Stream>⟧.traffic self.old self.new) }
+        ensures turned { OnOk result (IsTurn ⟦<Socket as Stream>⟧.reports ⟦<Socket as Stream>⟧.traffic self.old self.new) }
         ensures fault { OnErr result (IsUntouched self.old self.new) }
         ensures bytes { OnOk result (KeepBytes self.old.hub self.old.table.slots self.new.hub self.new.table.slots) }
         ensures waits { Waits timeout self.old result self.new }
@@ -199,20 +199,20 @@ impl<D: Sectors> EventLoop<D> {
         let comes_more = self.is_reported(LINGERER);
         self.lingering.turn(self.hub.device(), comes_more);
         self.accept_reported();
-        self.give_back();
+        self.collect_garbage();
         Ok(())
     }
 
-    /// Does nothing, and takes no memory. Its contract says that what a turn does to its hub is a run of the hub, as a life of a store has
-    /// it.
+    /// Does nothing, and takes no memory. Its contract says that what a turn does to its hub is a run of the hub, as a restart of a store
+    /// has it.
     pub fn law_turns_are_runs(&self)
-        ensures runs { TurnsAreRuns ⟦<Socket as Stream>⟧.tells ⟦<Socket as Stream>⟧.traffic self.now }
+        ensures runs { TurnsAreRuns ⟦<Socket as Stream>⟧.reports ⟦<Socket as Stream>⟧.traffic self.now }
     {}
 
     /// Does nothing, and takes no memory. Its contract says that a session that is ready is driven within as many turns as the table has
     /// places: in each turn it is driven, or it is ready still and comes nearer.
     pub fn law_each_has_its_turn(&self)
-        ensures soon { EachHasItsTurn ⟦<Socket as Stream>⟧.tells ⟦<Socket as Stream>⟧.traffic self.now }
+        ensures soon { EachHasItsTurn ⟦<Socket as Stream>⟧.reports ⟦<Socket as Stream>⟧.traffic self.now }
     {
         law_each_comes_nearer();
     }
@@ -225,7 +225,7 @@ impl<D: Sectors> EventLoop<D> {
         ensures waits { LackNothing (hub_of self.now) self.now.table.slots }
     {}
 
-    /// Does nothing, and takes no memory. Its contract is one law of all connections that ever were, under the premise that sockets tell
+    /// Does nothing, and takes no memory. Its contract is one law of all connections that ever were, under the premise that sockets report
     /// the bytes that they move. For whatever turns are taken from here there is one run from the opening to the hub after them, and so one
     /// serial order, in which all of this holds.
     ///
@@ -235,14 +235,14 @@ impl<D: Sectors> EventLoop<D> {
     ///
     /// For each connection that is in the table, lingers, or was taken out or closed in any of the turns, and each of its departures, the
     /// run passes a hub whose device stood at the moment of the departure, and by then the session had been answered the bytes that had
-    /// left. A crash at that moment or since leaves no map that is older than the one committed at that hub, and so whatever lives follow
-    /// begin with such a map: it is that after some number of the run's commits, or that with one commit more, and no commit whose number
-    /// had been answered by then is above that number. So a COMMIT whose number has left over a connection is never lost.
+    /// left. A crash at that moment or since leaves no map that is older than the one committed at that hub, and so whatever restarts
+    /// follow begin with such a map: it is that after some number of the run's commits, or that with one commit more, and no commit whose
+    /// number had been answered by then is above that number. So a COMMIT whose number has left over a connection is never lost.
     ///
     /// And where a connection's session has left, what was served for it was requested: the spellings of all its requests are the beginning
     /// of what came in over the connection.
     pub fn law_all_have_one_run(&self)
-        ensures run { SocketsTell → HaveOneRun self.now }
+        ensures run { SocketsReport → HaveOneRun self.now }
     {
         self.hub.law_loses_nothing();
     }
@@ -262,8 +262,8 @@ impl<D: Sectors> EventLoop<D> {
     }
 
     // Frees what no open transaction needs, a step of it, and has the C library join what was freed.
-    fn give_back(&mut self)
-        ensures gives_back { IsGivenBack self.old self.new }
+    fn collect_garbage(&mut self)
+        ensures collects { CollectsGarbage self.old self.new }
         ensures poller { self.new.poller ≡ self.old.poller }
         ensures turns { self.new.turns ≡ self.old.turns }
     {
@@ -306,7 +306,7 @@ impl<D: Sectors> EventLoop<D> {
 
     // Drives the sessions that are ready and whose turn it is, those that the last poll reported among them.
     fn drive(&mut self)
-        ensures drives { DrivesAndEnds ⟦<Socket as Stream>⟧.tells ⟦<Socket as Stream>⟧.traffic self.old self.new }
+        ensures drives { DrivesAndEnds ⟦<Socket as Stream>⟧.reports ⟦<Socket as Stream>⟧.traffic self.old self.new }
         ensures poller { self.new.poller ≡ self.old.poller }
         ensures next { self.new.next ≡ self.old.next }
         ensures port { self.new.port ≡ self.old.port }

@@ -36,15 +36,15 @@ pub struct Socket {
 impl Socket {
     ghost use Rattle.stream_driver.specs.Traffic.{IsUncalled};
     ghost use Rattle.std.specs.Prelude.{IfErr, OnOk};
-    ghost use Rattle.socket_calls.specs.HappenedCalls.{AsksWhetherThere, SendsAtOnce, WasAnswered, WasRegistered};
-    ghost use Rattle.socket_calls.specs.OpenFacts.{IsOf};
-    ghost use Rattle.event_loop.specs.Lingerings.{IsInOrder};
-    ghost use Rattle.event_loop.specs.Sockets.{IsHalfClosed, IsSetUp, SocketsTell, all_interests, traffic_of};
+    ghost use Rattle.socket_calls.specs.HappenedCalls.{AsksWhetherThere, SendsAtOnce, SocketAnswered, WasRegistered};
+    ghost use Rattle.socket_calls.specs.OpenFacts.{IsConnectionOf};
+    ghost use Rattle.event_loop.specs.Lingerings.{IsHealthy};
+    ghost use Rattle.event_loop.specs.Sockets.{IsHalfClosed, IsSetUp, SocketsReport, all_interests, traffic_of};
 
     /// The connection under this number, of which nothing has been counted. Takes no memory.
     pub fn new(accepted: AcceptedSocket, connection: u64) -> Socket
-        ensures uncalled { IsUncalled SocketsTell connection (traffic_of result) }
-        ensures connection { IsOf accepted result.socket }
+        ensures uncalled { IsUncalled SocketsReport connection (traffic_of result) }
+        ensures connection { IsConnectionOf accepted result.socket }
     {
         Socket {
             socket: CountedSocket::new(accepted, connection),
@@ -57,7 +57,7 @@ impl Socket {
     pub(crate) fn register(&mut self, poll: &CountedPoll, token: Token) -> io::Result<()>
         ensures same { self.new ≡ self.old }
         ensures registered { OnOk result (WasRegistered self.old.socket token all_interests) }
-        ensures error { IfErr result (λ e. WasAnswered e) }
+        ensures error { IfErr result (λ e. SocketAnswered e) }
     {
         let interests = Interest::READABLE | Interest::WRITABLE | Interest::PRIORITY;
         self.socket.register(poll, token, interests)
@@ -66,7 +66,7 @@ impl Socket {
     /// Has the system send at once what is written. Answers the system's error.
     pub(crate) fn send_at_once(&self) -> io::Result<()>
         ensures sends { OnOk result (SendsAtOnce self.now.socket) }
-        ensures error { IfErr result (λ e. WasAnswered e) }
+        ensures error { IfErr result (λ e. SocketAnswered e) }
     {
         self.socket.send_at_once()
     }
@@ -75,7 +75,7 @@ impl Socket {
     /// vanished is gone for good at the fourth probe without an answer, four minutes after its last byte. Answers the system's error.
     pub(crate) fn ask_whether_there(&self) -> io::Result<()>
         ensures asks { OnOk result (AsksWhetherThere self.now.socket 120 30 4) }
-        ensures error { IfErr result (λ e. WasAnswered e) }
+        ensures error { IfErr result (λ e. SocketAnswered e) }
     {
         self.socket
             .ask_whether_there(SILENT_SECONDS, SECONDS_BETWEEN_PROBES, PROBES)
@@ -83,7 +83,7 @@ impl Socket {
 
     /// Has no call failed, and no read ended?
     pub(crate) fn is_in_order(&self) -> bool
-        ensures { (result ≡ true) ↔ IsInOrder (traffic_of self.now) }
+        ensures { (result ≡ true) ↔ IsHealthy (traffic_of self.now) }
     {
         let counts = &self.counts;
         counts.read_failed == 0 && counts.read_ended == 0 && counts.write_failed == 0
@@ -94,7 +94,7 @@ impl Socket {
     pub(crate) fn set_up(&mut self, poll: &CountedPoll, token: Token) -> io::Result<()>
         ensures same { self.new ≡ self.old }
         ensures set_up { OnOk result (IsSetUp token self.old.socket) }
-        ensures error { IfErr result (λ e. WasAnswered e) }
+        ensures error { IfErr result (λ e. SocketAnswered e) }
     {
         self.register(poll, token)?;
         self.send_at_once()?;
@@ -105,7 +105,7 @@ impl Socket {
     pub(crate) fn half_close(&mut self, poll: &CountedPoll, token: Token) -> io::Result<()>
         ensures same { self.new ≡ self.old }
         ensures half_closed { OnOk result (IsHalfClosed token self.old.socket) }
-        ensures error { IfErr result (λ e. WasAnswered e) }
+        ensures error { IfErr result (λ e. SocketAnswered e) }
     {
         self.socket.end_writing()?;
         self.socket.reregister(poll, token, Interest::READABLE)
@@ -159,9 +159,9 @@ fn write_answer(outcome: io::Result<usize>) -> WriteAnswer
 
 impl Stream for Socket {
     ghost use Rattle.std.specs.Prelude.{false};
-    ghost use Rattle.event_loop.specs.Sockets.{CameShort, SocketsTell, traffic_of};
+    ghost use Rattle.event_loop.specs.Sockets.{CameShort, SocketsReport, traffic_of};
 
-    ghost tells = { SocketsTell };
+    ghost reports = { SocketsReport };
 
     ghost takes_at_most = { λ most s. Unit {0} };
 

@@ -37,8 +37,8 @@ pub WasLink : List ℕ → Bool → Type 0
 WasLink path is = Unit {0}
 
 -- the system answered that a path leads to this one, in which no name is a symbolic link
-pub LeadsTo : List ℕ → List ℕ → Type 0
-LeadsTo path resolved = Unit {0}
+pub ResolvesTo : List ℕ → List ℕ → Type 0
+ResolvesTo path resolved = Unit {0}
 
 abbrev pub or_here : Option (List ℕ) → List ℕ
 or_here None = codes "."
@@ -51,10 +51,10 @@ directory_of path = or_here (path_parent path)
 
 -- once it was open the directory of this path was synced, and where the path is a symbolic link that of the file that
 -- it leads to, and that succeeded
-pub record HadNameSettled (file : OpenedFile) (path : List ℕ) : Type 0 where
+pub record HadNameSynced (file : OpenedFile) (path : List ℕ) : Type 0 where
   pub here : HadDirectorySynced file (directory_of path)
   pub there : WasLink path false
-      ⊎ ((resolved : List ℕ) × LeadsTo path resolved × HadDirectorySynced file (directory_of resolved))
+      ⊎ ((resolved : List ℕ) × ResolvesTo path resolved × HadDirectorySynced file (directory_of resolved))
 
 -- the system was advised how so many bytes from this offset on will be read, 0 for all that follow, and answered this
 pub WasAdvised : OpenedFile → ℤ → ℤ → ℤ → ℤ → Type 0
@@ -109,8 +109,8 @@ pub real_link : (path : List ℕ) (is : Bool) → WasLink path is
 unfolding WasLink
 real_link path is = tt
 
-pub real_way : (path resolved : List ℕ) → LeadsTo path resolved
-unfolding LeadsTo
+pub real_way : (path resolved : List ℕ) → ResolvesTo path resolved
+unfolding ResolvesTo
 real_way path resolved = tt
 
 pub real_advice : (file : OpenedFile) (offset len advice answer : ℤ) → WasAdvised file offset len advice answer

@@ -17,7 +17,7 @@ pub struct CountedFile {
 
 impl CountedFile {
     ghost use Rattle.file_calls.specs.HappenedCalls.{WasAnswered, WasClosed, WasRead, WasWritten, WasSynced};
-    ghost use Rattle.file_calls.specs.OpenFacts.{next};
+    ghost use Rattle.file_calls.specs.OpenFacts.{file_after_call};
 
     /// An opened file, of so many sectors, of which no call was made. Takes no memory.
     pub fn new(file: OpenedFile, sectors: u64) -> CountedFile
@@ -48,7 +48,7 @@ impl CountedFile {
 
     /// Reads bytes from this offset on. Answers the system's error, and `UnexpectedEof` where the file ends before. Takes no memory.
     pub fn read(&mut self, offset: u64, into: &mut [u8]) -> io::Result<()>
-        ensures next { self.new ≡ next self.old }
+        ensures next { self.new ≡ file_after_call self.old }
         ensures over { self.old.calls ≡ 2 ^ 64 - 1 → IsErr result }
         ensures happened { WasRead self.old offset into.new (is_ok result) }
         ensures error { self.old.calls < 2 ^ 64 - 1 → IfErr result (λ e. WasAnswered e) }
@@ -59,7 +59,7 @@ impl CountedFile {
 
     /// Writes bytes from this offset on. Answers the system's error. Takes no memory.
     pub fn write(&mut self, offset: u64, from: &[u8]) -> io::Result<()>
-        ensures next { self.new ≡ next self.old }
+        ensures next { self.new ≡ file_after_call self.old }
         ensures over { self.old.calls ≡ 2 ^ 64 - 1 → IsErr result }
         ensures happened { WasWritten self.old offset from.now (is_ok result) }
         ensures error { self.old.calls < 2 ^ 64 - 1 → IfErr result (λ e. WasAnswered e) }
@@ -70,7 +70,7 @@ impl CountedFile {
 
     /// Settles what was written. Answers the system's error. Takes no memory.
     pub fn sync(&mut self) -> io::Result<()>
-        ensures next { self.new ≡ next self.old }
+        ensures next { self.new ≡ file_after_call self.old }
         ensures over { self.old.calls ≡ 2 ^ 64 - 1 → IsErr result }
         ensures happened { WasSynced self.old (is_ok result) }
         ensures error { self.old.calls < 2 ^ 64 - 1 → IfErr result (λ e. WasAnswered e) }
@@ -82,7 +82,7 @@ impl CountedFile {
     /// Writes so many zeros from the beginning of a new file on, so that the file system gives it its blocks now. Answers the system's
     /// error. Takes no memory.
     pub fn write_zeros(&mut self, len: u64) -> io::Result<()>
-        ensures next { self.new ≡ next self.old }
+        ensures next { self.new ≡ file_after_call self.old }
         ensures over { self.old.calls ≡ 2 ^ 64 - 1 → IsErr result }
         ensures happened { WasWritten self.old 0 (replicate len 0) (is_ok result) }
         ensures error { self.old.calls < 2 ^ 64 - 1 → IfErr result (λ e. WasAnswered e) }
@@ -94,7 +94,7 @@ impl CountedFile {
 
     /// Settles what was written, and the file's size and times with it. Answers the system's error. Takes no memory.
     pub fn sync_all(&mut self) -> io::Result<()>
-        ensures next { self.new ≡ next self.old }
+        ensures next { self.new ≡ file_after_call self.old }
         ensures over { self.old.calls ≡ 2 ^ 64 - 1 → IsErr result }
         ensures happened { WasSynced self.old (is_ok result) }
         ensures error { self.old.calls < 2 ^ 64 - 1 → IfErr result (λ e. WasAnswered e) }
@@ -112,7 +112,7 @@ impl CountedFile {
 
     /// Counts a call; `Other` where no more can be counted.
     fn count_call(&mut self) -> io::Result<()>
-        ensures next { self.new ≡ next self.old }
+        ensures next { self.new ≡ file_after_call self.old }
         ensures over { IsErr result ↔ (self.old.calls ≡ 2 ^ 64 - 1) }
     {
         if self.calls == u64::MAX {

@@ -1,6 +1,6 @@
 //! Makes and opens files, syncs the directory of their names, and has the system drop its copies of their pages.
 ghost use Rattle.std.specs.Prelude.{IfErr, IfOk, OnOk};
-ghost use Rattle.file_calls.specs.HappenedCalls.{LeadsTo, WasAnswered, WasLink};
+ghost use Rattle.file_calls.specs.HappenedCalls.{ResolvesTo, WasAnswered, WasLink};
 
 use std::fs::{self, File, OpenFile, OpenOptions};
 use std::io::{self, ErrorKind};
@@ -14,14 +14,14 @@ use std::time::{Clock, SystemTime};
 #[derive(Drop)]
 pub struct OpenedFile {
     pub(crate) file: File,
-    /// When it was opened, as far as the clock tells. Nothing but clauses reads it: it tells the lives of a store apart.
+    /// When it was opened, as far as the clock tells. Nothing but clauses reads it: it tells the restarts of a store apart.
     opened: Option<SystemTime>,
 }
 
 impl OpenedFile {
     ghost use Rattle.std.specs.Path.{path_bytes};
     ghost use Rattle.file_calls.specs.HappenedCalls.{WasAnswered, WasMade, WasOpened, WasOpenedToRead, HadLength};
-    ghost use Rattle.file_calls.specs.HappenedCalls.{HadDirectorySynced, HadNameSettled, HadCopiesDropped};
+    ghost use Rattle.file_calls.specs.HappenedCalls.{HadDirectorySynced, HadNameSynced, HadCopiesDropped};
     ghost use Rattle.file_calls.specs.HappenedCalls.{WasAdvised, directory_of};
 
     /// Makes a new file, to be read and written. Answers the system's error, also where a file of this name exists. Takes no memory.
@@ -78,8 +78,8 @@ impl OpenedFile {
 
     /// Settles the names in the directory of this path, under which it was opened, and where that is a symbolic link those in the directory
     /// of the file that it leads to as well. Answers the system's error. Takes no memory.
-    pub fn settle_name<R: Files<File = File>>(&self, rt: &R, path: &str) -> io::Result<()>
-        ensures settled { OnOk result (HadNameSettled self.now path.now) }
+    pub fn sync_name<R: Files<File = File>>(&self, rt: &R, path: &str) -> io::Result<()>
+        ensures synced { OnOk result (HadNameSynced self.now path.now) }
         ensures error { IfErr result (λ e. WasAnswered e) }
     {
         self.sync_directory_of(rt, path)?;
@@ -134,7 +134,7 @@ impl OpenedFile {
 
 /// Is what this path names a symbolic link? Answers the system's error.
 fn is_link<R: Files<File = File>>(rt: &R, path: &str) -> io::Result<bool>
-    ensures told { IfOk result (λ is. WasLink path.now is) }
+    ensures was_link { IfOk result (λ is. WasLink path.now is) }
     ensures error { IfErr result (λ e. WasAnswered e) }
 {
     Ok(fs::symlink_metadata(rt, path)?.is_symlink())
@@ -142,7 +142,7 @@ fn is_link<R: Files<File = File>>(rt: &R, path: &str) -> io::Result<bool>
 
 /// The path of the same file in which no name is a link. Answers the system's error, and `InvalidFilename` where it is no UTF-8.
 fn without_links<'a>(path: &str, resolved: &'a mut [u8; libc::PATH_MAX]) -> io::Result<&'a str>
-    ensures leads { IfOk result (λ name. LeadsTo path.now name.now) }
+    ensures leads { IfOk result (λ name. ResolvesTo path.now name.now) }
     ensures error { IfErr result (λ e. WasAnswered e) }
 {
     if os::realpath(path.as_bytes(), resolved) < 0 {

@@ -7,11 +7,11 @@ ghost use Rattle.sector.specs.FileModel.{FileKeepsModel};
 ghost use Rattle.commit_log.specs.Format.{current};
 ghost use Rattle.commit_log.specs.RecordFormat.{IsWriteSet};
 ghost use Rattle.commit_log.specs.Appending.{Fails, IsAdded, KeepsLists};
-ghost use Rattle.commit_log.specs.LogState.{LacksRoom, is_stopped};
+ghost use Rattle.commit_log.specs.LogState.{LacksRoom, is_log_stopped};
 ghost use Rattle.sessions.specs.Crashes.{AppliesWhole, KeepsCommitted};
 ghost use Rattle.sessions.specs.StandsFor.{HubLeads, event_of};
-ghost use Rattle.sessions.specs.Lives.{LivesLoseNothing, LivesFromNothing};
-ghost use Rattle.sessions.specs.OneOrder.{LivesHaveOneHistory};
+ghost use Rattle.sessions.specs.Restarts.{RestartsLoseNothing, RestartsFromNothing};
+ghost use Rattle.sessions.specs.OneOrder.{RestartsHaveOneHistory};
 
 use commit_log::{Log, LogFault};
 use model::Write;
@@ -25,8 +25,8 @@ pub fn append(log: &mut Log<FileSectors>, alloc: Global, writes: &[Write]) -> Re
     requires { IsWriteSet current writes.now }
     ensures added { IfOk result (IsAdded log.old log.new writes.now) }
     ensures fails { IfErr result (Fails log.old log.new writes.now) }
-    ensures stopped { is_stopped log.old ≡ true → IsErrOf result LogFault.Stopped }
-    ensures full { is_stopped log.old ≡ false → LacksRoom log.old writes.now → IsErrOf result LogFault.Full }
+    ensures stopped { is_log_stopped log.old ≡ true → IsErrOf result LogFault.Stopped }
+    ensures full { is_log_stopped log.old ≡ false → LacksRoom log.old writes.now → IsErrOf result LogFault.Full }
     ensures keeps { FileKeepsModel → KeepsLists log.old log.new writes.now result }
 {
     log.append(alloc, writes)
@@ -42,13 +42,13 @@ pub fn step(hub: &mut Hub<FileSectors>, event: &Event<'_>) -> Outcome
     hub.step(event)
 }
 
-/// Does nothing. Through any number of lives over files, each opened over what the end of the one before left, a store begins with the
+/// Does nothing. Through any number of restarts over files, each opened over what the end of the one before left, a store begins with the
 /// map of the last answered COMMIT, or with that and one COMMIT more; it is never found damaged. All that was committed in them has one
 /// order, at whose end is the map that is found.
-pub fn lives(hub: &Hub<FileSectors>)
-    ensures lives { FileKeepsModel → LivesLoseNothing hub.now }
-    ensures from_nothing { FileKeepsModel → LivesFromNothing hub.now }
-    ensures one_history { FileKeepsModel → LivesHaveOneHistory hub.now }
+pub fn restarts(hub: &Hub<FileSectors>)
+    ensures restarts { FileKeepsModel → RestartsLoseNothing hub.now }
+    ensures from_nothing { FileKeepsModel → RestartsFromNothing hub.now }
+    ensures one_history { FileKeepsModel → RestartsHaveOneHistory hub.now }
 {
-    hub.law_lives_lose_nothing()
+    hub.law_restarts_lose_nothing()
 }

@@ -11,9 +11,9 @@ use Rattle.model.specs.Map.{Bytes, key_cmp}
 use Rattle.last_readers.proofs.StepLaws.{low, over_less, over_both, rises_left, rises_right}
 use Rattle.last_readers.specs.Merging.{IsJoined, with_step, later}
 use Rattle.last_readers.specs.Steps.{StepValue, number_from, number_at, merged_at, end_from, end_of, are_over}
-use Rattle.last_readers.specs.Steps.{steps_rise, cut, cut_step, is_told, swept, is_from, is_step_from, steps_from}
-use Rattle.last_readers.specs.Steps.{are_from, in_place_of, renumbered}
-use Rattle.last_readers.specs.Sweeping.{IsToldOf, IsTurned}
+use Rattle.last_readers.specs.Steps.{steps_rise, cut, cut_step, is_redundant, swept, is_from, is_step_from}
+use Rattle.last_readers.specs.Steps.{steps_from, are_from, in_place_of, renumbered}
+use Rattle.last_readers.specs.Sweeping.{IsInForce, IsTurned}
 
 -- ---- numbers that count as none
 
@@ -31,15 +31,15 @@ cut_max o a b = grind (arith, nat_tests)
 
 -- ---- the numbers of what was swept
 
--- none is told, or the number below
-abbrev TellsOf : ℕ → Option ℕ → ℕ → Type 0
-TellsOf o None b = Unit {0}
-TellsOf o (Some n) b = n ≡ cut o b
+-- none is in force, or the number below
+abbrev IsInForceBelow : ℕ → Option ℕ → ℕ → Type 0
+IsInForceBelow o None b = Unit {0}
+IsInForceBelow o (Some n) b = n ≡ cut o b
 
--- a step that says no more than what is told
-levelled : (o n b : ℕ) (s : StepValue) (ss : List StepValue) (k : Bytes) → are_over s.key ss ≡ true → n ≡ cut o b → is_told (Some n) (cut_step o s) ≡ true
+-- a step that says no more than what is in force
+levelled : (o n b : ℕ) (s : StepValue) (ss : List StepValue) (k : Bytes) → are_over s.key ss ≡ true → n ≡ cut o b → is_redundant (Some n) (cut_step o s) ≡ true
     → (now : ℕ) → now ≡ cut o (number_from s.above ss k) → now ≡ cut o (number_from b (s ∷ ss) k)
-levelled o n b s ss k over tells level now is =
+levelled o n b s ss k over is_in_force level now is =
     grind (arith, nat_tests, low s.above ss k, over_less k s.key ss, same_keys k s.key)
 
 -- whichever it is
@@ -48,67 +48,69 @@ pick : {X : Type 0} (f : List StepValue → X) (c : Bool) (xs ys : List StepValu
 pick f true xs ys x front _ = front refl
 pick f false xs ys x _ back = back refl
 
-told_is : (o n : ℕ) (s : StepValue) → is_told (Some n) (cut_step o s) ≡ true → n ≡ cut o s.above
-told_is o n s e = grind (arith, nat_tests)
+in_force_is : (o n : ℕ) (s : StepValue) → is_redundant (Some n) (cut_step o s) ≡ true → n ≡ cut o s.above
+in_force_is o n s e = grind (arith, nat_tests)
 
 -- a step that says more
 unlevelled : (o b : ℕ) (s : StepValue) (ss ts : List StepValue) (k : Bytes) → number_from (cut o s.above) ts k ≡ cut o (number_from s.above ss k)
     → number_from (cut o b) (cut_step o s ∷ ts) k ≡ cut o (number_from b (s ∷ ss) k)
 unlevelled o b s ss ts k is = grind (arith, is)
 
-pub numbers : (o : ℕ) (told : Option ℕ) (b : ℕ) (ss : List StepValue) (k : Bytes) → steps_rise ss ≡ true → TellsOf o told b
-    → number_from (cut o b) (swept o told ss) k ≡ cut o (number_from b ss k)
-numbers o told b [] k rise tells = refl
-numbers o None b (s ∷ ss) k rise tells =
+pub numbers : (o : ℕ) (in_force : Option ℕ) (b : ℕ) (ss : List StepValue) (k : Bytes) → steps_rise ss ≡ true → IsInForceBelow o in_force b
+    → number_from (cut o b) (swept o in_force ss) k ≡ cut o (number_from b ss k)
+numbers o in_force b [] k rise is_in_force = refl
+numbers o None b (s ∷ ss) k rise is_in_force =
     unlevelled o b s ss (swept o (Some (cut o s.above)) ss) k (numbers o (Some (cut o s.above)) s.above ss k (and_parts _ _ rise).1 refl)
-numbers o (Some n) b (s ∷ ss) k rise tells =
+numbers o (Some n) b (s ∷ ss) k rise is_in_force =
     let rest = and_parts (are_over s.key ss) (steps_rise ss) rise in
-    pick (λ l. number_from (cut o b) l k) (is_told (Some n) (cut_step o s)) _ _ _
+    pick (λ l. number_from (cut o b) l k) (is_redundant (Some n) (cut_step o s)) _ _ _
     (λ e.
-    let is = told_is o n s e in
-    levelled o n b s ss k rest.0 tells e _ (ap (λ m. number_from m (swept o (Some n) ss) k) (sym tells ∙ is) ∙ numbers o (Some n) s.above ss k rest.1 is))
+    let is = in_force_is o n s e in
+    levelled o n b s ss k rest.0 is_in_force e _ (ap (λ m. number_from m (swept o (Some n) ss) k) (sym is_in_force ∙ is)
+    ∙ numbers o (Some n) s.above ss k rest.1 is))
     (λ e. unlevelled o b s ss (swept o (Some (cut o s.above)) ss) k (numbers o (Some (cut o s.above)) s.above ss k rest.1 refl))
 
-telling : (o : ℕ) (told : Option ℕ) (xs ys : List StepValue) (k : Bytes) (b : ℕ) → IsToldOf told xs ys → max (number_at xs k) (number_at ys k) ≡ cut o b
-    → TellsOf o told b
-telling o None xs ys k b tells below = tt
-telling o (Some n) xs ys k b tells below = tells.0 ∙ (λ i. max (number_at (sym tells.1 i) k) (number_at (sym tells.2 i) k)) ∙ below
+number_is_in_force : (o : ℕ) (in_force : Option ℕ) (xs ys : List StepValue) (k : Bytes) (b : ℕ) → IsInForce in_force xs ys
+    → max (number_at xs k) (number_at ys k) ≡ cut o b → IsInForceBelow o in_force b
+number_is_in_force o None xs ys k b is_in_force below = tt
+number_is_in_force o (Some n) xs ys k b is_in_force below = is_in_force.0 ∙ (λ i. max (number_at (sym is_in_force.1 i) k) (number_at (sym is_in_force.2 i) k))
+    ∙ below
 
-pub merged_swept : (o : ℕ) (told : Option ℕ) (xs ys ts xs' ys' ts' : List StepValue) (k : Bytes) → steps_rise (xs ++ ts) ≡ true → steps_rise (ys ++ ts) ≡ true
-    → xs' ≡ swept o (Some 0) xs → ys' ≡ swept o (Some 0) ys → ts' ≡ swept o told ts → IsToldOf told xs' ys'
+pub merged_swept : (o : ℕ) (in_force : Option ℕ) (xs ys ts xs' ys' ts' : List StepValue) (k : Bytes) → steps_rise (xs ++ ts) ≡ true
+    → steps_rise (ys ++ ts) ≡ true → xs' ≡ swept o (Some 0) xs → ys' ≡ swept o (Some 0) ys → ts' ≡ swept o in_force ts → IsInForce in_force xs' ys'
     → merged_at xs' ys' ts' k ≡ cut o (merged_at xs ys ts k)
-merged_swept o told xs ys ts xs' ys' ts' k first second first_is second_is is tells =
+merged_swept o in_force xs ys ts xs' ys' ts' k first second first_is second_is is is_in_force =
     let b = max (number_at xs k) (number_at ys k) in
     let one = λ (ss : List StepValue) (rise : steps_rise ss ≡ true). ap (λ n. number_from n (swept o (Some 0) ss) k) (sym (cut_none o))
     ∙ numbers o (Some 0) 0 ss k rise (sym (cut_none o)) in
     let below : max (number_at xs' k) (number_at ys' k) ≡ cut o b =
     (λ i. max ((ap (λ l. number_at l k) first_is ∙ one xs (rises_left xs ts first)) i)
     ((ap (λ l. number_at l k) second_is ∙ one ys (rises_left ys ts second)) i)) ∙ cut_max o (number_at xs k) (number_at ys k) in
-    (λ i. number_from (below i) (is i) k) ∙ numbers o told b ts k (rises_right xs ts first) (telling o told xs' ys' k b tells below)
+    (λ i. number_from (below i) (is i) k) ∙ numbers o in_force b ts k (rises_right xs ts first) (number_is_in_force o in_force xs' ys' k b is_in_force below)
 
 -- ---- they rise
 
-over_swept : (x : Bytes) (o : ℕ) (told : Option ℕ) (ss : List StepValue) → are_over x ss ≡ true → are_over x (swept o told ss) ≡ true
-over_swept x o told [] h = refl
-over_swept x o told (s ∷ ss) h =
+over_swept : (x : Bytes) (o : ℕ) (in_force : Option ℕ) (ss : List StepValue) → are_over x ss ≡ true → are_over x (swept o in_force ss) ≡ true
+over_swept x o in_force [] h = refl
+over_swept x o in_force (s ∷ ss) h =
     let parts = and_parts _ _ h in
-    pick (are_over x) (is_told told (cut_step o s)) _ _ true (λ e. over_swept x o told ss parts.1)
+    pick (are_over x) (is_redundant in_force (cut_step o s)) _ _ true (λ e. over_swept x o in_force ss parts.1)
     (λ e. and_from _ _ parts.0 (over_swept x o (Some (cut o s.above)) ss parts.1))
 
-one_rises : (o : ℕ) (told : Option ℕ) (ss : List StepValue) → steps_rise ss ≡ true → steps_rise (swept o told ss) ≡ true
-one_rises o told [] h = refl
-one_rises o told (s ∷ ss) h =
+one_rises : (o : ℕ) (in_force : Option ℕ) (ss : List StepValue) → steps_rise ss ≡ true → steps_rise (swept o in_force ss) ≡ true
+one_rises o in_force [] h = refl
+one_rises o in_force (s ∷ ss) h =
     let parts = and_parts (are_over s.key ss) (steps_rise ss) h in
-    pick steps_rise (is_told told (cut_step o s)) _ _ true (λ e. one_rises o told ss parts.1)
+    pick steps_rise (is_redundant in_force (cut_step o s)) _ _ true (λ e. one_rises o in_force ss parts.1)
     (λ e. and_from _ _ (over_swept s.key o (Some (cut o s.above)) ss parts.0) (one_rises o (Some (cut o s.above)) ss parts.1))
 
-pub rises_swept : (o : ℕ) (told next : Option ℕ) (xs ts : List StepValue) → steps_rise (xs ++ ts) ≡ true
-    → steps_rise (swept o told xs ++ swept o next ts) ≡ true
-rises_swept o told next [] ts h = one_rises o next ts h
-rises_swept o told next (x ∷ xs) ts h =
+pub rises_swept : (o : ℕ) (in_force next : Option ℕ) (xs ts : List StepValue) → steps_rise (xs ++ ts) ≡ true
+    → steps_rise (swept o in_force xs ++ swept o next ts) ≡ true
+rises_swept o in_force next [] ts h = one_rises o next ts h
+rises_swept o in_force next (x ∷ xs) ts h =
     let parts = and_parts (are_over x.key (xs ++ ts)) (steps_rise (xs ++ ts)) h in
     let over = and_parts (are_over x.key xs) (are_over x.key ts) (sym (over_both x xs ts) ∙ parts.0) in
-    pick (λ l. steps_rise (l ++ swept o next ts)) (is_told told (cut_step o x)) _ _ true (λ e. rises_swept o told next xs ts parts.1)
+    pick (λ l. steps_rise (l ++ swept o next ts)) (is_redundant in_force (cut_step o x)) _ _ true (λ e. rises_swept o in_force next xs ts parts.1)
     (λ e. and_from _ _
     (over_both (cut_step o x) (swept o (Some (cut o x.above)) xs) (swept o next ts)
     ∙ and_from _ _ (over_swept x.key o (Some (cut o x.above)) xs over.0) (over_swept x.key o next ts over.1))
@@ -119,10 +121,10 @@ rises_swept o told next (x ∷ xs) ts h =
 cut_from : (o n : ℕ) → is_from (o + 1) (cut o n) ≡ true
 cut_from o n = grind (arith, nat_tests)
 
-pub from_swept : (o : ℕ) (told : Option ℕ) (ss : List StepValue) → steps_from (o + 1) (swept o told ss) ≡ true
-from_swept o told [] = refl
-from_swept o told (s ∷ ss) =
-    pick (steps_from (o + 1)) (is_told told (cut_step o s)) _ _ true (λ e. from_swept o told ss)
+pub from_swept : (o : ℕ) (in_force : Option ℕ) (ss : List StepValue) → steps_from (o + 1) (swept o in_force ss) ≡ true
+from_swept o in_force [] = refl
+from_swept o in_force (s ∷ ss) =
+    pick (steps_from (o + 1)) (is_redundant in_force (cut_step o s)) _ _ true (λ e. from_swept o in_force ss)
     (λ e. and_from _ _ (and_from _ _ (cut_from o s.at) (cut_from o s.above)) (from_swept o (Some (cut o s.above)) ss))
 
 number_is_from : (n b : ℕ) (ss : List StepValue) (k : Bytes) → is_from n b ≡ true → steps_from n ss ≡ true → is_from n (number_from b ss k) ≡ true
@@ -163,40 +165,41 @@ renumbered_are_from n (s ∷ ss) = and_from _ _ (and_from _ _ (placed s.at) (pla
 -- ---- one step after another, in place
 
 -- those before a place were swept, and stand behind the others
-pub record IsSoFar (o : ℕ) (first told : Option ℕ) (xs now : List StepValue) (i : ℕ) : Type 0 where
+pub record IsSoFar (o : ℕ) (first in_force : Option ℕ) (xs now : List StepValue) (i : ℕ) : Type 0 where
   pub kept : List StepValue
   pub items : now ≡ drop i xs ++ kept
-  pub all : kept ++ swept o told (drop i xs) ≡ swept o first xs
+  pub all : kept ++ swept o in_force (drop i xs) ≡ swept o first xs
 
 pub so_far_none : (o : ℕ) (first : Option ℕ) (xs : List StepValue) → IsSoFar o first first xs xs 0
 so_far_none o first xs = record { kept = []; items = sym (append-nil xs); all = refl }
 
-unrolled : (o : ℕ) (told : Option ℕ) (s : StepValue) (ss : List StepValue) (c : Bool) → is_told told (cut_step o s) ≡ c
-    → (if c then [] else cut_step o s ∷ []) ++ swept o (if c then told else Some (cut o s.above)) ss
-    ≡ (if c then swept o told ss else cut_step o s ∷ swept o (Some (cut o s.above)) ss)
-unrolled o told s ss true e = refl
-unrolled o told s ss false e = refl
+unrolled : (o : ℕ) (in_force : Option ℕ) (s : StepValue) (ss : List StepValue) (c : Bool) → is_redundant in_force (cut_step o s) ≡ c
+    → (if c then [] else cut_step o s ∷ []) ++ swept o (if c then in_force else Some (cut o s.above)) ss
+    ≡ (if c then swept o in_force ss else cut_step o s ∷ swept o (Some (cut o s.above)) ss)
+unrolled o in_force s ss true e = refl
+unrolled o in_force s ss false e = refl
 
-pub so_far_more : (o : ℕ) (first told later : Option ℕ) (xs now is : List StepValue) (i j : ℕ) → j ≡ suc i → i < length xs → IsTurned o told later now is
-    → IsSoFar o first told xs now i → IsSoFar o first later xs is j
-so_far_more o first told later xs now is i j next lt turned far =
+pub so_far_more : (o : ℕ) (first in_force later : Option ℕ) (xs now is : List StepValue) (i j : ℕ) → j ≡ suc i → i < length xs
+    → IsTurned o in_force later now is → IsSoFar o first in_force xs now i → IsSoFar o first later xs is j
+so_far_more o first in_force later xs now is i j next lt turned far =
     let s = turned.step in
     let front : drop i xs ≡ get_or xs i s ∷ drop j xs = drop-cons xs i s lt ∙ ap (λ n. get_or xs i s ∷ drop n xs) (sym next) in
     let both : s ∷ turned.rest ≡ get_or xs i s ∷ (drop j xs ++ far.kept) = sym turned.was ∙ far.items ∙ ap (λ l. l ++ far.kept) front in
     let own : s ≡ get_or xs i s = cc in
     let rest : turned.rest ≡ drop j xs ++ far.kept = cc in
-    let c = is_told told (cut_step o s) in
+    let c = is_redundant in_force (cut_step o s) in
     let back = if c then [] else cut_step o s ∷ [] in
     record {
       kept = far.kept ++ back;
       items = turned.is ∙ ap (λ l. l ++ back) rest ∙ append_assoc (drop j xs) far.kept back;
       all = append_assoc far.kept back (swept o later (drop j xs))
-          ∙ ap (λ l. far.kept ++ l) (ap (λ t. back ++ swept o t (drop j xs)) turned.tells ∙ unrolled o told s (drop j xs) c refl
-          ∙ ap (λ x. swept o told (x ∷ drop j xs)) own ∙ ap (swept o told) (sym front))
+          ∙ ap (λ l. far.kept ++ l) (ap (λ t. back ++ swept o t (drop j xs)) turned.is_in_force ∙ unrolled o in_force s (drop j xs) c refl
+          ∙ ap (λ x. swept o in_force (x ∷ drop j xs)) own ∙ ap (swept o in_force) (sym front))
           ∙ far.all;
     }
 
-pub so_far_all : (o : ℕ) (first told : Option ℕ) (xs now : List StepValue) (i : ℕ) → length xs ≤ i → IsSoFar o first told xs now i → now ≡ swept o first xs
-so_far_all o first told xs now i le far =
+pub so_far_all : (o : ℕ) (first in_force : Option ℕ) (xs now : List StepValue) (i : ℕ) → length xs ≤ i → IsSoFar o first in_force xs now i
+    → now ≡ swept o first xs
+so_far_all o first in_force xs now i le far =
     let none : drop i xs ≡ [] = drop_all i xs le in
-    far.items ∙ ap (λ l. l ++ far.kept) none ∙ sym (append-nil far.kept) ∙ ap (λ l. far.kept ++ swept o told l) (sym none) ∙ far.all
+    far.items ∙ ap (λ l. l ++ far.kept) none ∙ sym (append-nil far.kept) ∙ ap (λ l. far.kept ++ swept o in_force l) (sym none) ∙ far.all

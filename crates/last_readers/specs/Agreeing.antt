@@ -9,8 +9,9 @@ use Rattle.last_readers.specs.Steps.{StepValue, cut, is_run_from, number_in, ste
 use Rattle.last_readers.specs.declared.run.ReadRun.{ReadRun}
 
 -- at each key the numbers are the same, where those up to that one count as none
-abbrev pub Agree : ℕ → List ReadRun → List ReadRun → Type 0
-Agree oldest new old = (k : Bytes) → cut oldest (greatest_at (runs_in new) k) ≡ cut oldest (greatest_at (runs_in old) k)
+abbrev pub ReadersAgree : ℕ → List ReadRun → List ReadRun → Type 0
+ReadersAgree oldest new old = (k : Bytes)
+    → cut oldest (greatest_at (runs_in new) k) ≡ cut oldest (greatest_at (runs_in old) k)
 
 pub greatest-append : (rs qs : List ReadRun) (k : Bytes)
     → greatest_at (runs_in (rs ++ qs)) k ≡ max (greatest_at (runs_in rs) k) (greatest_at (runs_in qs) k)
@@ -20,9 +21,9 @@ greatest-append (r ∷ rs) qs k = let rest = greatest-append rs qs k in omega (a
 one_of_three : (o m a b n : ℕ) → cut o a ≡ cut o b → cut o (max m (max a n)) ≡ cut o (max m (max b n))
 one_of_three o m a b n same = grind (arith, nat_tests)
 
-pub agree_between : (o : ℕ) (front xs ys behind : List ReadRun) → Agree o xs ys
-    → Agree o (front ++ (xs ++ behind)) (front ++ (ys ++ behind))
-agree_between o front xs ys behind same k =
+pub readers_agree_between : (o : ℕ) (front xs ys behind : List ReadRun) → ReadersAgree o xs ys
+    → ReadersAgree o (front ++ (xs ++ behind)) (front ++ (ys ++ behind))
+readers_agree_between o front xs ys behind same k =
     let f = greatest_at (runs_in front) k in
     let b = greatest_at (runs_in behind) k in
     let all : (zs : List ReadRun)
@@ -36,8 +37,8 @@ pub from_more : (m n : ℕ) (ss : List StepValue) → m ≤ n → steps_from n s
 from_more m n [] le h = refl
 from_more m n (s ∷ ss) le h = grind (arith, nat_tests, from_more m n ss le)
 
-pub from_later : (o : ℕ) (r : ReadRun) → o < r.earliest → is_run_from (o + 1) (run_of r) ≡ true
-from_later o r lt =
+pub run_from_later : (o : ℕ) (r : ReadRun) → o < r.earliest → is_run_from (o + 1) (run_of r) ≡ true
+run_from_later o r lt =
     let more = λ (ss : List StepValue). from_more (o + 1) r.earliest ss (omega arith) in
     let numbers = r.numbers in
     grind (arith, more r.first.items, more r.second.items, more r.made.items)
@@ -45,5 +46,5 @@ from_later o r lt =
 none_up_to : (o n : ℕ) → n ≤ o → cut o 0 ≡ cut o (max n 0)
 none_up_to o n le = grind (arith, nat_tests)
 
-pub none_of_old : (o : ℕ) (r : ReadRun) → r.last ≤ o → Agree o [] (r ∷ [])
-none_of_old o r le k = let upto = r.upto k in none_up_to o (number_in (run_of r) k) (omega arith)
+pub no_old_readers : (o : ℕ) (r : ReadRun) → r.last ≤ o → ReadersAgree o [] (r ∷ [])
+no_old_readers o r le k = let upto = r.upto k in none_up_to o (number_in (run_of r) k) (omega arith)

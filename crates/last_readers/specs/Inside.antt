@@ -12,13 +12,13 @@ run_of r = record { first = r.first.items; second = r.second.items; made = r.mad
 abbrev pub runs_in : List ReadRun → List RunValue
 runs_in rs = map run_of rs
 
-abbrev pub ready_of : Option Ready → Option (List StepValue)
-ready_of ready = option_map (λ r. r.steps.items) ready
+abbrev pub ready_steps : Option Ready → Option (List StepValue)
+ready_steps ready = option_map (λ r. r.steps.items) ready
 
 -- how many steps it holds
-abbrev pub held_of : ReadRun → ℕ
-held_of r = deque_len r.first + deque_len r.second + deque_len r.made
+abbrev pub steps_held : ReadRun → ℕ
+steps_held r = deque_len r.first + deque_len r.second + deque_len r.made
 
 -- how far a run is merged
-abbrev pub sizes_of : ReadRun → RunSize
-sizes_of r = record { last = r.last; left = deque_len r.first + deque_len r.second; made = deque_len r.made }
+abbrev pub read_run_size : ReadRun → RunSize
+read_run_size r = record { last = r.last; left = deque_len r.first + deque_len r.second; made = deque_len r.made }

@@ -27,8 +27,8 @@ pub record LastReadersValue : Type 0 where
   pub refused : ℕ
 
 -- how much garbage the runs hold: what is to be freed, or looked at, as its numbers are forgotten
-abbrev pub garbage_of : LastReadersValue → ℕ
-garbage_of v = garbage_upto v.readers.oldest v.held
+abbrev pub garbage_of_readers : LastReadersValue → ℕ
+garbage_of_readers v = garbage_upto v.readers.oldest v.held
 
 -- the greatest number that a run has at the key
 abbrev pub greatest_at : List RunValue → Bytes → ℕ
@@ -44,8 +44,8 @@ abbrev pub last_reader : Readers → Bytes → ℕ
 last_reader r k = cut r.oldest (greatest_at r.runs k)
 
 -- the number, where it is above that of the begin
-abbrev pub after : ℕ → ℕ → Option ℕ
-after begin n = if nat_lt begin n then Some n else None
+abbrev pub if_after : ℕ → ℕ → Option ℕ
+if_after begin n = if nat_lt begin n then Some n else None
 
 -- each key has the last reader that it had, and the same numbers are forgotten
 pub record AnswerAlike (old new : Readers) : Type 0 where
@@ -69,11 +69,11 @@ abbrev pub NameNoneUpto : ℕ → Readers → Type 0
 NameNoneUpto oldest r = All (λ (run : RunValue). is_run_from (oldest + 1) run ≡ true) r.runs
 
 -- whether some step names the number
-abbrev pub is_named : Readers → ℕ → Bool
-is_named r n = list_any (λ run. is_named_in run n) r.runs
+abbrev pub is_named_reader : Readers → ℕ → Bool
+is_named_reader r n = list_any (λ run. is_named_in run n) r.runs
 
 -- some marks can be noted
-pub record IsReady (room : ReadersRoom) : Type 0 where
+pub record HasSomeReadersRoom (room : ReadersRoom) : Type 0 where
   pub place : 0 < room.places
   pub some : IsSome room.ready
 
@@ -83,8 +83,8 @@ ready_at None k = 0
 ready_at (Some ss) k = number_at ss k
 
 -- these marks can be noted
-pub record HasRoom (marks : List Mark) (room : ReadersRoom) : Type 0 where
-  pub ready : IsReady room
+pub record HasReadersRoom (marks : List Mark) (room : ReadersRoom) : Type 0 where
+  pub ready : HasSomeReadersRoom room
   pub covers : (k : Bytes) → ready_at room.ready k ≡ (if is_covered marks k then 1 else 0)
 
 abbrev pub ready_len : Option (List StepValue) → ℕ
@@ -93,8 +93,8 @@ ready_len (Some ss) = length ss
 
 -- The steps that were made ready came with number n as a run, and the merges under way were moved on; a move takes one
 -- step, or two of one key. No merge was begun, so no memory for one was refused.
-abbrev pub AreMoved : ℕ → LastReadersValue → LastReadersValue → Type 0
-AreMoved n old new =
+abbrev pub AddsRunAndMerges : ℕ → LastReadersValue → LastReadersValue → Type 0
+AddsRunAndMerges n old new =
     let count = ready_len old.room.ready in
     IsMoved 2 new.readers.oldest (moves_for count) (with_run n count old.runs) new.runs × (new.refused ≡ old.refused)
 

@@ -75,17 +75,17 @@ cut o n = if nat_lt o n then n else 0
 abbrev pub cut_step : ℕ → StepValue → StepValue
 cut_step o s = record { key = s.key; at = cut o s.at; above = cut o s.above }
 
--- whether the step says no more than that the numbers from its key on are the one that is told
-abbrev pub is_told : Option ℕ → StepValue → Bool
-is_told None s = false
-is_told (Some n) s = is_level n s
+-- whether the step says no more than that the numbers from its key on are the one in force
+abbrev pub is_redundant : Option ℕ → StepValue → Bool
+is_redundant None s = false
+is_redundant (Some n) s = is_level n s
 
--- 0 in the place of each number up to o, without the steps that say no more then than those before them, where `told`
--- is the number that they tell of the keys from theirs on
+-- 0 in the place of each number up to o, without the steps that say no more then than those before them, where
+-- `in_force` is the number that they have at the keys from theirs on
 abbrev pub swept : ℕ → Option ℕ → List StepValue → List StepValue
-swept o told [] = []
-swept o told (s ∷ ss) = let t =
-    cut_step o s in if is_told told t then swept o told ss else t ∷ swept o (Some t.above) ss
+swept o in_force [] = []
+swept o in_force (s ∷ ss) = let t =
+    cut_step o s in if is_redundant in_force t then swept o in_force ss else t ∷ swept o (Some t.above) ss
 
 -- whether the number is none, or one from n on
 abbrev pub is_from : ℕ → ℕ → Bool

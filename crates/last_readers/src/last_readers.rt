@@ -2,10 +2,11 @@
 ghost use Rattle.std.specs.Prelude.{◌≡◌, ◌<◌, ◌-◌, ◌||◌, ℕ, Bool, List, [], None, length, max, nat_lt, false, OnOk};
 ghost use Rattle.model.specs.Map.{Bytes};
 ghost use Rattle.model.specs.PrivateCopy.{Mark};
-ghost use Rattle.merging_runs.specs.Held.{garbage_upto, given_a_forget, size_in};
+ghost use Rattle.merging_runs.specs.Held.{garbage_upto, freed_a_forget, size_in};
 ghost use Rattle.merging_runs.specs.Next.{IsNext};
-ghost use Rattle.last_readers.specs.Readers.{AddsRun, AnswerAlike, AreMoved, AreUpto, HasRoom, IsForgotten, IsNoted};
-ghost use Rattle.last_readers.specs.Readers.{IsReady, NameNoneUpto, after, garbage_of, is_named, last_reader};
+ghost use Rattle.last_readers.specs.Readers.{AddsRun, AnswerAlike, AddsRunAndMerges, AreUpto, HasReadersRoom};
+ghost use Rattle.last_readers.specs.Readers.{IsForgotten, IsNoted, HasSomeReadersRoom, NameNoneUpto, if_after};
+ghost use Rattle.last_readers.specs.Readers.{garbage_of_readers, is_named_reader, last_reader};
 ghost use Rattle.merging_runs.specs.RunSizes.{IsTried, LeavesMerges, are_alike};
 
 use crate::gathering::steps_of;
@@ -35,13 +36,13 @@ pub struct LastReaders {
 
 impl Model for LastReaders {
     ghost use Rattle.last_readers.specs.Readers.{LastReadersValue};
-    ghost use Rattle.last_readers.specs.Inside.{runs_in, ready_of};
+    ghost use Rattle.last_readers.specs.Inside.{runs_in, ready_steps};
 
     ghost Value = { LastReadersValue };
 
     ghost view = { λ r. record {
       readers = record { runs = runs_in r.runs.runs; oldest = r.oldest };
-      room = record { places = r.runs.places; ready = ready_of r.ready };
+      room = record { places = r.runs.places; ready = ready_steps r.ready };
       held = r.runs.held;
       runs = r.runs.sizes;
       refused = r.runs.refused;
@@ -86,7 +87,7 @@ impl LastReaders {
     /// The number of the last commit that has read the key, where it is above `begin`; `None` where there is none. It takes a binary search
     /// in each run that has a number above `begin`, three in one that is being made of two, and no memory.
     pub fn last(&self, key: KeyRef<'_>, begin: u64) -> Option<u64>
-        ensures { result ≡ after begin (last_reader self.now.readers key.entry.bytes.now) }
+        ensures { result ≡ if_after begin (last_reader self.now.readers key.entry.bytes.now) }
     {
         let later = begin.max(self.oldest);
         let number = greatest_in(self.runs.as_slice(), key, later);
@@ -96,7 +97,7 @@ impl LastReaders {
     /// The number above `n` that was found, or the least above `n` that a step names, where that is less: the least of a commit of which
     /// something is kept. It looks at each step, and takes no memory.
     pub fn next_named(&self, found: Option<u64>, n: u64) -> Option<u64>
-        ensures { (p : ℕ → Bool) → IsNext p n found → IsNext (λ k. p k || is_named self.now.readers k) n result }
+        ensures { (p : ℕ → Bool) → IsNext p n found → IsNext (λ k. p k || is_named_reader self.now.readers k) n result }
     {
         self.runs.next_number(found, n)
     }
@@ -109,7 +110,7 @@ impl LastReaders {
     pub fn reserve(&mut self, marks: &Marks) -> Result<(), Memory>
         ensures readers { AnswerAlike self.old.readers self.new.readers }
         ensures tried { IsTried (are_alike self.old.readers.oldest) self.old.runs self.new.runs self.old.refused self.new.refused }
-        ensures room { OnOk result (HasRoom marks.now self.new.room) }
+        ensures room { OnOk result (HasReadersRoom marks.now self.new.room) }
     {
         self.runs.reserve(self.oldest)?;
         let steps = steps_of(self.runs.allocator(), marks.held())?;
@@ -121,8 +122,8 @@ impl LastReaders {
     fn add_ready(&mut self, n: u64) -> usize
         requires later { self.old.readers.oldest < n }
         requires upto { AreUpto n self.old.readers }
-        requires room { IsReady self.old.room }
-        ensures noted { (marks : List Mark) → HasRoom marks self.old.room → IsNoted marks n self.old.readers self.new.readers }
+        requires room { HasSomeReadersRoom self.old.room }
+        ensures noted { (marks : List Mark) → HasReadersRoom marks self.old.room → IsNoted marks n self.old.readers self.new.readers }
         ensures upto { AreUpto n self.new.readers }
         ensures oldest { self.new.readers.oldest ≡ self.old.readers.oldest }
         ensures run { AddsRun n result self.old self.new }
@@ -146,11 +147,11 @@ impl LastReaders {
     pub fn note(&mut self, n: u64)
         requires later { self.old.readers.oldest < n }
         requires upto { AreUpto n self.old.readers }
-        requires room { IsReady self.old.room }
-        ensures noted { (marks : List Mark) → HasRoom marks self.old.room → IsNoted marks n self.old.readers self.new.readers }
+        requires room { HasSomeReadersRoom self.old.room }
+        ensures noted { (marks : List Mark) → HasReadersRoom marks self.old.room → IsNoted marks n self.old.readers self.new.readers }
         ensures upto { AreUpto n self.new.readers }
         ensures oldest { self.new.readers.oldest ≡ self.old.readers.oldest }
-        ensures moved { AreMoved n self.old self.new }
+        ensures moved { AddsRunAndMerges n self.old self.new }
     {
         let count = self.add_ready(n);
         self.runs.move_on(self.oldest, count);
@@ -163,8 +164,8 @@ impl LastReaders {
         ensures forgotten { IsForgotten oldest self.old.readers self.new.readers }
         ensures upto { (n : ℕ) → AreUpto n self.old.readers → AreUpto n self.new.readers }
         ensures oldest { self.new.readers.oldest ≡ max self.old.readers.oldest oldest }
-        ensures garbage { garbage_of self.new ≡ garbage_upto self.new.readers.oldest self.old.held - given_a_forget }
-        ensures still { result ≡ nat_lt 0 (garbage_of self.new) }
+        ensures garbage { garbage_of_readers self.new ≡ garbage_upto self.new.readers.oldest self.old.held - freed_a_forget }
+        ensures still { result ≡ nat_lt 0 (garbage_of_readers self.new) }
         ensures named { result ≡ false → NameNoneUpto self.new.readers.oldest self.new.readers }
         ensures merges { LeavesMerges self.new.readers.oldest self.old.runs self.new.runs self.old.refused self.new.refused }
     {
@@ -178,7 +179,7 @@ impl LastReaders {
         ensures forgotten { IsForgotten oldest self.old.readers self.new.readers }
         ensures upto { (n : ℕ) → AreUpto n self.old.readers → AreUpto n self.new.readers }
         ensures oldest { self.new.readers.oldest ≡ max self.old.readers.oldest oldest }
-        ensures garbage { garbage_of self.new ≡ 0 }
+        ensures garbage { garbage_of_readers self.new ≡ 0 }
         ensures named { NameNoneUpto self.new.readers.oldest self.new.readers }
         ensures merges { LeavesMerges self.new.readers.oldest self.old.runs self.new.runs self.old.refused self.new.refused }
     {

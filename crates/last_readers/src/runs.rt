@@ -3,17 +3,17 @@ ghost use Rattle.std.specs.Prelude.{◌≡◌, ◌≤◌, ◌<◌, ◌+◌, ◌+
 ghost use Rattle.std.specs.VecDeque.{deque_len, deque_capacity};
 ghost use Rattle.last_readers.specs.Readers.{IsWithRun, greatest_at};
 ghost use Rattle.last_readers.specs.Steps.{cut, is_named_in, is_run_from};
-ghost use Rattle.last_readers.specs.Inside.{run_of, runs_in, held_of, sizes_of};
+ghost use Rattle.last_readers.specs.Inside.{run_of, runs_in, steps_held, read_run_size};
 ghost use Rattle.merging_runs.specs.RunSizes.{are_alike};
 ghost use Rattle.last_readers.specs.Merging.{IsMade};
-ghost use Rattle.last_readers.specs.Agreeing.{Agree, agree_between, from_later, none_of_old};
+ghost use Rattle.last_readers.specs.Agreeing.{ReadersAgree, readers_agree_between, run_from_later, no_old_readers};
 ghost use Rattle.std.proofs.Common.{refl, ◌∙◌};
 
 use crate::merging::{are_empty, move_greatest};
 use crate::naming::next_named;
 use crate::run::ReadRun;
 use crate::step::Step;
-use crate::sweeping::{sweep, told_of};
+use crate::sweeping::{number_in_force, sweep};
 use merging_runs::{Run, Runs};
 use model::KeyRef;
 use std::alloc::Global;
@@ -36,7 +36,7 @@ pub(crate) fn greatest_in(runs: &[ReadRun], key: KeyRef<'_>, begin: u64) -> u64
 // Adds a run in the room that is there.
 pub(crate) fn add_run(runs: &mut Runs<ReadRun>, run: ReadRun)
     requires { 0 < runs.old.places }
-    ensures sizes { runs.new.sizes ≡ runs.old.sizes ++ sizes_of run ∷ [] }
+    ensures sizes { runs.new.sizes ≡ runs.old.sizes ++ read_run_size run ∷ [] }
     ensures numbers { IsWithRun (runs_in runs.new.runs) (runs_in runs.old.runs) (run_of run) }
     ensures refused { runs.new.refused ≡ runs.old.refused }
 {
@@ -44,7 +44,7 @@ pub(crate) fn add_run(runs: &mut Runs<ReadRun>, run: ReadRun)
 }
 
 // Frees the room of the two runs that one is made of, once nothing is left of them.
-fn give_room_back(first: &mut VecDeque<Step>, second: &mut VecDeque<Step>)
+fn free_room(first: &mut VecDeque<Step>, second: &mut VecDeque<Step>)
     ensures first { first.new.items ≡ first.old.items }
     ensures second { second.new.items ≡ second.old.items }
     ensures lens { deque_len first.new + deque_len second.new ≡ deque_len first.old + deque_len second.old }
@@ -61,9 +61,9 @@ impl Run for ReadRun {
 
     type Stale = (VecDeque<Step>, VecDeque<Step>, VecDeque<Step>);
 
-    ghost sizes = { sizes_of };
+    ghost sizes = { read_run_size };
 
-    ghost held = { held_of };
+    ghost held = { steps_held };
 
     ghost from = { λ r. r.earliest };
 
@@ -82,7 +82,7 @@ impl Run for ReadRun {
 
     ghost makes = { λ o old new. IsMade o new.first.items new.second.items old.made.items new.made.items };
 
-    ghost agree = { Agree };
+    ghost agree = { ReadersAgree };
 
     fn last(&self) -> u64 {
         self.last
@@ -139,16 +139,16 @@ impl Run for ReadRun {
 
     fn move_one(&mut self, oldest: u64) {
         move_greatest(&mut self.first, &mut self.second, &mut self.made, oldest);
-        give_room_back(&mut self.first, &mut self.second);
+        free_room(&mut self.first, &mut self.second);
     }
 
     fn sweep(&mut self, oldest: u64) {
         sweep(&mut self.first, oldest, Some(0));
         sweep(&mut self.second, oldest, Some(0));
-        let told = told_of(&self.first, &self.second);
-        sweep(&mut self.made, oldest, told);
+        let in_force = number_in_force(&self.first, &self.second);
+        sweep(&mut self.made, oldest, in_force);
         self.earliest = oldest + 1;
-        give_room_back(&mut self.first, &mut self.second);
+        free_room(&mut self.first, &mut self.second);
     }
 
     fn into_stale(self) -> (VecDeque<Step>, VecDeque<Step>, VecDeque<Step>) {
@@ -165,9 +165,9 @@ impl Run for ReadRun {
 
     ghost through = { λ o xs ys zs first second k. first k ∙ second k };
 
-    ghost between = { agree_between };
+    ghost between = { readers_agree_between };
 
-    ghost old = { none_of_old };
+    ghost old = { no_old_readers };
 
-    ghost later = { from_later };
+    ghost later = { run_from_later };
 }

@@ -12,7 +12,7 @@ use Rattle.std.specs.declared.cmp.Ordering.TheVariants.{Less, Equal, Greater}
 use Rattle.model.proofs.Lookups.{same_key, value_after_write, IsMap-after_write, same_map}
 use Rattle.model.specs.Map.{Bytes, KeyMap, KeyWrite, IsMap, value_at, key_cmp, is_same_key, after_write, after_writes}
 use Rattle.latest_writes.proofs.Stable.{after_writes-push}
-use Rattle.latest_writes.specs.Rising.{is_before}
+use Rattle.latest_writes.specs.Rising.{has_lower_key}
 
 -- q is at most k
 abbrev pub IsUpTo : Bytes → Bytes → Type 0
@@ -26,13 +26,13 @@ Rises k (w ∷ ws) = IsUpTo k w.0 × Rises w.0 ws
 turned : (o : Ordering) → is_lt o ≡ false → is_gt (ordering_reverse o) ≡ false
 turned o e = grind (arith, common_steps)
 
-pub rises : (w : KeyWrite) (ws : List KeyWrite) → IsSortedBy is_before (w ∷ ws) → Rises w.0 ws
+pub rises : (w : KeyWrite) (ws : List KeyWrite) → IsSortedBy has_lower_key (w ∷ ws) → Rises w.0 ws
 rises w [] h = tt
 rises w (v ∷ ws) h = (
   ap is_gt (nat_list_cmp_total.antisymm w.0 v.0) ∙ turned (key_cmp v.0 w.0) (h 0 w (omega arith) (omega arith)),
   rises v ws (λ k d le lt.
       let step : suc k + 1 ≡ suc (k + 1) = omega arith in
-      subst (λ (n : ℕ). is_before (get_or (w ∷ v ∷ ws) n d) (get_or (w ∷ v ∷ ws) (suc k) d) ≡ false) step (h (suc k) d (omega arith) (omega arith))),
+      subst (λ (n : ℕ). has_lower_key (get_or (w ∷ v ∷ ws) n d) (get_or (w ∷ v ∷ ws) (suc k) d) ≡ false) step (h (suc k) d (omega arith) (omega arith))),
 )
 
 -- what the loop keeps: m is the map of the writes that were kept, p the write that is latest, and behind it come `rest`
@@ -42,12 +42,12 @@ pub record IsSwept (all : List KeyWrite) (m : KeyMap) (p : KeyWrite) (rest : Lis
   pub fresh : (q : Bytes) → IsUpTo p.0 q → value_at m q ≡ None
   pub rising : Rises p.0 rest
 
-pub begun : (all rest : List KeyWrite) (p : KeyWrite) → all ≡ p ∷ rest → IsSortedBy is_before all → IsSwept all [] p rest
+pub begun : (all rest : List KeyWrite) (p : KeyWrite) → all ≡ p ∷ rest → IsSortedBy has_lower_key all → IsSwept all [] p rest
 begun all rest p is h = record {
   is_map = tt;
   makes = ap (λ (l : List KeyWrite). after_writes [] l) (sym is);
   fresh = λ q le. refl;
-  rising = rises p rest (subst (λ (l : List KeyWrite). IsSortedBy is_before l) is h);
+  rising = rises p rest (subst (λ (l : List KeyWrite). IsSortedBy has_lower_key l) is h);
 }
 
 itself : (k : Bytes) → IsUpTo k k

@@ -4,5 +4,5 @@ use Rattle.std.specs.Prelude.{Bool}
 use Rattle.model.specs.Map.{KeyWrite, key_cmp}
 
 -- whether a write stands before another by rising key
-abbrev pub is_before : KeyWrite → KeyWrite → Bool
-is_before v w = is_lt (key_cmp v.0 w.0)
+abbrev pub has_lower_key : KeyWrite → KeyWrite → Bool
+has_lower_key v w = is_lt (key_cmp v.0 w.0)

@@ -97,7 +97,7 @@ fn sweep(alloc: Global, mut entries: Vec<Entry>) -> Result<LatestWrites, Memory>
 }
 
 // Gives the room of entries back, where no more than half of it is used.
-fn give_back(entries: &mut Vec<Entry>)
+fn free_last(entries: &mut Vec<Entry>)
     ensures items { entries.new.items ≡ entries.old.items }
     ensures less { vec_capacity entries.new ≤ vec_capacity entries.old }
     ensures none { length entries.old.items ≡ 0 → vec_capacity entries.new ≡ 0 }
@@ -115,7 +115,7 @@ fn put_all(alloc: Global, mut rest: Vec<Entry>) -> Result<Map, Memory>
     let mut map = Map::new(alloc);
     while let Some(entry) = rest.pop() {
         entry.apply(&mut map)?;
-        give_back(&mut rest);
+        free_last(&mut rest);
     }
     Ok(map)
 }

@@ -3,7 +3,7 @@ ghost use Rattle.std.specs.Prelude.{◌≡◌, ◌-◌, ◌^◌, min, [], OnOk, 
 ghost use Rattle.std.specs.List.Sorted.{IsSortedBy};
 ghost use Rattle.model.specs.Map.{after_writes};
 ghost use Rattle.latest_writes.specs.Held.{weight_of, HasOneOfEach};
-ghost use Rattle.latest_writes.specs.Rising.{is_before};
+ghost use Rattle.latest_writes.specs.Rising.{has_lower_key};
 
 use crate::entries::Entry;
 use model::Memory;
@@ -12,7 +12,7 @@ use std::alloc::Global;
 // Sorts the entries by rising key. Those of one key stay in their order.
 pub(crate) fn sort(entries: &mut Vec<Entry>) -> Result<(), Memory>
     ensures same { after_writes [] entries.new.items ≡ after_writes [] entries.old.items }
-    ensures rising { OnOk result (IsSortedBy is_before entries.new.items) }
+    ensures rising { OnOk result (IsSortedBy has_lower_key entries.new.items) }
 {
     entries.sort_by(|a, b| a.order(b))?;
     Ok(())
@@ -20,7 +20,7 @@ pub(crate) fn sort(entries: &mut Vec<Entry>) -> Result<(), Memory>
 
 // Of each key keeps the last write, and of deletions at most the last of all.
 pub(crate) fn keep_latest(alloc: Global, entries: Vec<Entry>) -> Result<Vec<Entry>, Memory>
-    requires { IsSortedBy is_before entries.items }
+    requires { IsSortedBy has_lower_key entries.items }
     ensures map { IfOk result (λ kept. after_writes [] kept.items ≡ after_writes [] entries.items) }
     ensures one_of_each { IfOk result (λ kept. HasOneOfEach kept.items) }
 {

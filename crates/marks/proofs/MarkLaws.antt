@@ -5,7 +5,7 @@ use Rattle.std.proofs.lemmas.Bool.{both_ways, lt-ltb, le-ltb}
 use Rattle.std.proofs.lemmas.List.{take_more}
 use Rattle.std.specs.Prelude.{nat_lt, if◌then◌else◌, IsTrue, ◌↔◌}
 use Rattle.model.specs.PrivateCopy.{Mark}
-use Rattle.marks.specs.Marked.{mark_of, marks_of, has_mark, is_full_for, with_mark}
+use Rattle.marks.specs.Marked.{mark_of, marks_of, has_mark, is_full_for_mark, with_mark}
 use Rattle.marks.specs.declared.faults.MarksFault.{MarksFault}
 use Rattle.marks.specs.declared.faults.MarksFault.TheVariants.{FullMarks}
 use Rattle.marks.specs.declared.owned.OwnedMark.{OwnedMark}
@@ -18,12 +18,12 @@ pub marks_of-push : (hs : List OwnedMark) (h : OwnedMark) → marks_of (hs ++ h 
 marks_of-push [] h = refl
 marks_of-push (x ∷ hs) h = ap (λ ms. mark_of x ∷ ms) (marks_of-push hs h)
 
-pub full : (hs : List OwnedMark) (ms : List Mark) (m : Mark) → marks_of hs ≡ ms → has_mark ms m ≡ false → 256 ≤ length hs → is_full_for ms m ≡ true
+pub full : (hs : List OwnedMark) (ms : List Mark) (m : Mark) → marks_of hs ≡ ms → has_mark ms m ≡ false → 256 ≤ length hs → is_full_for_mark ms m ≡ true
 full hs ms m is new many =
     let long : 256 ≤ length ms = omega (arith, length-marks_of hs, ap length is) in
     ap (λ b. not b && not (nat_lt (length ms) 256)) new ∙ ap not (le-ltb (length ms) 256 long)
 
-pub not_full : (hs : List OwnedMark) (ms : List Mark) (m : Mark) → marks_of hs ≡ ms → length hs < 256 → is_full_for ms m ≡ false
+pub not_full : (hs : List OwnedMark) (ms : List Mark) (m : Mark) → marks_of hs ≡ ms → length hs < 256 → is_full_for_mark ms m ≡ false
 not_full hs ms m is few =
     let short : length ms < 256 = omega (arith, length-marks_of hs, ap length is) in
     ap (λ b. not (has_mark ms m) && not b) (lt-ltb (length ms) 256 short) ∙ never (not (has_mark ms m))

@@ -34,8 +34,8 @@ abbrev pub has_mark : List Mark → Mark → Bool
 has_mark ms m = list_any (is_same_mark m) ms
 
 -- the mark is not there, and there is no room for one more
-abbrev pub is_full_for : List Mark → Mark → Bool
-is_full_for ms m = not (has_mark ms m) && not (nat_lt (length ms) 256)
+abbrev pub is_full_for_mark : List Mark → Mark → Bool
+is_full_for_mark ms m = not (has_mark ms m) && not (nat_lt (length ms) 256)
 
 -- the marks with this one
 abbrev pub with_mark : List Mark → Mark → List Mark

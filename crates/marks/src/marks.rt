@@ -4,7 +4,7 @@ ghost use Rattle.std.specs.Ordering.{is_le};
 ghost use Rattle.model.specs.PrivateCopy.{is_covered};
 ghost use Rattle.model.specs.Map.{key_cmp};
 ghost use Rattle.model.specs.PrivateCopy.Mark.{OfKey};
-ghost use Rattle.marks.specs.Marked.{has_mark, is_full_for, marks_of, with_mark, range_mark, closed_range_mark};
+ghost use Rattle.marks.specs.Marked.{has_mark, is_full_for_mark, marks_of, with_mark, range_mark, closed_range_mark};
 
 use crate::faults::MarksFault;
 use crate::owned::OwnedMark;
@@ -68,7 +68,7 @@ impl Marks {
     pub fn add_key(&mut self, key: KeyRef<'_>) -> Result<(), MarksFault>
         ensures ok { OnOk result (self.new ≡ with_mark self.old (OfKey key.entry.bytes.now)) }
         ensures err { OnErr result (self.new ≡ self.old) }
-        ensures full { (result ≡ Err MarksFault.FullMarks) ↔ IsTrue (is_full_for self.old (OfKey key.entry.bytes.now)) }
+        ensures full { (result ≡ Err MarksFault.FullMarks) ↔ IsTrue (is_full_for_mark self.old (OfKey key.entry.bytes.now)) }
         ensures known { IsTrue (has_mark self.old (OfKey key.entry.bytes.now)) → IsOk result }
     {
         if self.has_key(key) {
@@ -88,7 +88,7 @@ impl Marks {
     pub fn add_range(&mut self, range: RangeRef<'_>) -> Result<(), MarksFault>
         ensures ok { OnOk result (self.new ≡ with_mark self.old (range_mark range.entry)) }
         ensures err { OnErr result (self.new ≡ self.old) }
-        ensures full { (result ≡ Err MarksFault.FullMarks) ↔ IsTrue (is_full_for self.old (range_mark range.entry)) }
+        ensures full { (result ≡ Err MarksFault.FullMarks) ↔ IsTrue (is_full_for_mark self.old (range_mark range.entry)) }
         ensures known { IsTrue (has_mark self.old (range_mark range.entry)) → IsOk result }
     {
         if self.has_range(range) {
@@ -110,7 +110,7 @@ impl Marks {
         requires { IsTrue (is_le (key_cmp lo.bytes.now last.bytes.now)) }
         ensures ok { OnOk result (self.new ≡ with_mark self.old (closed_range_mark lo.entry last.entry)) }
         ensures err { OnErr result (self.new ≡ self.old) }
-        ensures full { (result ≡ Err MarksFault.FullMarks) ↔ IsTrue (is_full_for self.old (closed_range_mark lo.entry last.entry)) }
+        ensures full { (result ≡ Err MarksFault.FullMarks) ↔ IsTrue (is_full_for_mark self.old (closed_range_mark lo.entry last.entry)) }
         ensures known { IsTrue (has_mark self.old (closed_range_mark lo.entry last.entry)) → IsOk result }
     {
         if self.has_upto(lo, last) {

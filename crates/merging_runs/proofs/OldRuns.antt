@@ -6,7 +6,7 @@ use Rattle.std.proofs.lemmas.Bool.Decides.{nat_tests}
 use Rattle.std.proofs.lemmas.List.Quantifiers.{position-Some}
 use Rattle.std.specs.List.{remove, position}
 use Rattle.std.specs.Prelude.{nat_lt, nat_le, is_some}
-use Rattle.merging_runs.specs.Held.{HeldRun, mixed_upto, size_upto}
+use Rattle.merging_runs.specs.Held.{HeldRun, partial_upto, size_upto}
 use Rattle.merging_runs.specs.RunSizes.{RunSize}
 
 -- the run that was found
@@ -25,11 +25,11 @@ part_of f o (q ∷ rs) zero r lt is le = grind (arith, nat_tests, ap f is)
 part_of f o (q ∷ rs) (suc i) r lt is le = let rest = part_of f o rs i r (omega arith) is le in omega (arith, rest)
 
 -- an old run is not one with others above
-pub mixed_without : {R : Type 0} (f : R → HeldRun) (o : ℕ) (rs : List R) (i : ℕ) (r : R) → i < length rs → r ≡ get_or rs i r → (f r).last ≤ o
-    → mixed_upto o (map f (remove rs i)) ≡ mixed_upto o (map f rs)
-mixed_without f o [] i r lt is le = absurd (omega arith)
-mixed_without f o (q ∷ rs) zero r lt is le = grind (arith, nat_tests, ap f is)
-mixed_without f o (q ∷ rs) (suc i) r lt is le = let rest = mixed_without f o rs i r (omega arith) is le in omega (arith, rest)
+pub partial_without : {R : Type 0} (f : R → HeldRun) (o : ℕ) (rs : List R) (i : ℕ) (r : R) → i < length rs → r ≡ get_or rs i r → (f r).last ≤ o
+    → partial_upto o (map f (remove rs i)) ≡ partial_upto o (map f rs)
+partial_without f o [] i r lt is le = absurd (omega arith)
+partial_without f o (q ∷ rs) zero r lt is le = grind (arith, nat_tests, ap f is)
+partial_without f o (q ∷ rs) (suc i) r lt is le = let rest = partial_without f o rs i r (omega arith) is le in omega (arith, rest)
 
 -- no run is old
 none : {R : Type 0} (f : R → HeldRun) (o : ℕ) (rs : List R) → position (λ r. nat_le (f r).last o) rs ≡ None → size_upto o (map f rs) ≡ 0

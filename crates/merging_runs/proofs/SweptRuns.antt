@@ -9,7 +9,7 @@ use Rattle.std.proofs.lemmas.List.Quantifiers.{position-Some}
 use Rattle.std.specs.List.{position, AllByRecursion}
 use Rattle.std.specs.Prelude.{min, nat_le, ◌^◌, All}
 use Rattle.merging_runs.proofs.RunSteps.{left_changed}
-use Rattle.merging_runs.specs.Held.{HeldRun, mixed_upto, size_upto}
+use Rattle.merging_runs.specs.Held.{HeldRun, partial_upto, size_upto}
 use Rattle.merging_runs.specs.RunSizes.{RunSize, left_above}
 
 -- no run is wholly old: each has a number above
@@ -33,19 +33,20 @@ found_at {R} f o rs looked i r same found none at some =
     let within = position-Some low rs i r (ap (position low) same ∙ found) in
     record { within = within.0; from = leb-true (f r).from o (ap low at ∙ within.1); last = above_old f o rs i r none within.0 at some }
 
-pub mixed_at : {R : Type 0} (f : R → HeldRun) (o : ℕ) (rs : List R) (i : ℕ) (r : R) → i < length rs → r ≡ get_or rs i r → (f r).from ≤ o → o < (f r).last
-    → min (8 * (f r).size) (2 ^ 63) ≤ mixed_upto o (map f rs)
-mixed_at f o [] i r lt at from last = absurd (omega arith)
-mixed_at f o (q ∷ rs) zero r lt at from last = grind (arith, nat_tests, ap f at)
-mixed_at f o (q ∷ rs) (suc i) r lt at from last = let rest = mixed_at f o rs i r (omega arith) at from last in omega (arith, rest)
+pub partial_at : {R : Type 0} (f : R → HeldRun) (o : ℕ) (rs : List R) (i : ℕ) (r : R) → i < length rs → r ≡ get_or rs i r → (f r).from ≤ o → o < (f r).last
+    → min (8 * (f r).size) (2 ^ 63) ≤ partial_upto o (map f rs)
+partial_at f o [] i r lt at from last = absurd (omega arith)
+partial_at f o (q ∷ rs) zero r lt at from last = grind (arith, nat_tests, ap f at)
+partial_at f o (q ∷ rs) (suc i) r lt at from last = let rest = partial_at f o rs i r (omega arith) at from last in omega (arith, rest)
 
 -- it was swept
-pub mixed_swept : {R : Type 0} (f : R → HeldRun) (o : ℕ) (rs : List R) (i : ℕ) (was is : R) → i < length rs → was ≡ get_or rs i was → (f was).from ≤ o
+pub partial_swept : {R : Type 0} (f : R → HeldRun) (o : ℕ) (rs : List R) (i : ℕ) (was is : R) → i < length rs → was ≡ get_or rs i was → (f was).from ≤ o
     → o < (f was).last → o < (f is).from
-    → mixed_upto o (map f rs) ≡ mixed_upto o (map f (set rs i is)) + min (8 * (f was).size) (2 ^ 63)
-mixed_swept f o [] i was is lt at from last above = absurd (omega arith)
-mixed_swept f o (q ∷ rs) zero was is lt at from last above = grind (arith, nat_tests, ap f at)
-mixed_swept f o (q ∷ rs) (suc i) was is lt at from last above = let rest = mixed_swept f o rs i was is (omega arith) at from last above in omega (arith, rest)
+    → partial_upto o (map f rs) ≡ partial_upto o (map f (set rs i is)) + min (8 * (f was).size) (2 ^ 63)
+partial_swept f o [] i was is lt at from last above = absurd (omega arith)
+partial_swept f o (q ∷ rs) zero was is lt at from last above = grind (arith, nat_tests, ap f at)
+partial_swept f o (q ∷ rs) (suc i) was is lt at from last above = let rest = partial_swept f o rs i was is (omega arith) at from last above in
+    omega (arith, rest)
 
 pub whole_swept : {R : Type 0} (f : R → HeldRun) (o : ℕ) (rs : List R) (i : ℕ) (was is : R) → i < length rs → was ≡ get_or rs i was → o < (f was).last
     → (f is).last ≡ (f was).last
@@ -61,7 +62,7 @@ left_swept size o rs i was is lt at last same fewer = omega (arith, left_changed
 
 -- none was found
 none_by : {R : Type 0} (P : R → Type 0) (f : R → HeldRun) (o : ℕ) (rs : List R) → ((r : R) → o < (f r).from → P r)
-    → position (λ r. nat_le (f r).from o) rs ≡ None → AllByRecursion P rs × (mixed_upto o (map f rs) ≡ 0)
+    → position (λ r. nat_le (f r).from o) rs ≡ None → AllByRecursion P rs × (partial_upto o (map f rs) ≡ 0)
 none_by P f o [] later e = (tt, refl)
 none_by P f o (q ∷ rs) later e =
     let here : o < (f q).from = grind (arith, nat_tests) in
@@ -70,7 +71,7 @@ none_by P f o (q ∷ rs) later e =
     ((later q here, rest.0), grind (arith, nat_tests, rest.1))
 
 pub none_found : {R : Type 0} (P : R → Type 0) (f : R → HeldRun) (o : ℕ) (rs looked : List R) → rs ≡ looked → ((r : R) → o < (f r).from → P r)
-    → position (λ r. nat_le (f r).from o) looked ≡ None → All P rs × (mixed_upto o (map f rs) ≡ 0)
+    → position (λ r. nat_le (f r).from o) looked ≡ None → All P rs × (partial_upto o (map f rs) ≡ 0)
 none_found {R} P f o rs looked same later e =
     let all = none_by P f o rs later (ap (position (λ r. nat_le (f r).from o)) same ∙ e) in
     (All-from_recursion P rs all.0, all.1)

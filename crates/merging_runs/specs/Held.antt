@@ -27,10 +27,10 @@ size_upto oldest (r ∷ rs) = (if nat_le r.last oldest then r.size else 0) + siz
 
 -- how much work it is to look at all that stands in the runs that may have numbers up to that one, and others above it:
 -- 8 for each element, and 2^63 for one run at most
-abbrev pub mixed_upto : ℕ → List HeldRun → ℕ
-mixed_upto oldest [] = 0
-mixed_upto oldest (r ∷ rs) =
-    (if nat_le r.from oldest && nat_lt oldest r.last then min (8 * r.size) (2 ^ 63) else 0) + mixed_upto oldest rs
+abbrev pub partial_upto : ℕ → List HeldRun → ℕ
+partial_upto oldest [] = 0
+partial_upto oldest (r ∷ rs) =
+    (if nat_le r.from oldest && nat_lt oldest r.last then min (8 * r.size) (2 ^ 63) else 0) + partial_upto oldest rs
 
 -- how much is to be freed of whole runs where the numbers up to that one are forgotten
 abbrev pub whole_upto : ℕ → Held → ℕ
@@ -39,7 +39,7 @@ whole_upto oldest h = h.taken + size_upto oldest h.runs
 -- how much garbage there is where the numbers up to that one are forgotten: what is to be freed, and what is to be
 -- looked at
 abbrev pub garbage_upto : ℕ → Held → ℕ
-garbage_upto oldest h = whole_upto oldest h + (mixed_upto oldest h.runs - h.credit)
+garbage_upto oldest h = whole_upto oldest h + (partial_upto oldest h.runs - h.credit)
 
 -- nothing has changed but how much there is still to free of the one that was taken out
 pub record IsSameBut (old new : Held) : Type 0 where
@@ -47,10 +47,10 @@ pub record IsSameBut (old new : Held) : Type 0 where
   pub credit : new.credit ≡ old.credit
 
 -- what there is to look at stays, and how much of it may be
-pub record IsSameMixed (oldest : ℕ) (old new : Held) : Type 0 where
-  pub mixed : mixed_upto oldest new.runs ≡ mixed_upto oldest old.runs
+pub record HasSamePartial (oldest : ℕ) (old new : Held) : Type 0 where
+  pub partial : partial_upto oldest new.runs ≡ partial_upto oldest old.runs
   pub credit : new.credit ≡ old.credit
 
 -- how much of it one step does
-abbrev pub given_a_forget : ℕ
-given_a_forget = 1024
+abbrev pub freed_a_forget : ℕ
+freed_a_forget = 1024

@@ -54,12 +54,12 @@ pub record IsBegun (alike : RunSize → RunSize → Bool) (old new : List RunSiz
   pub is : new ≡ earlier ++ joined first second ∷ later
 
 -- one refusal more, up to 2^64 - 1
-abbrev pub one_more : ℕ → ℕ
-one_more refused = min (refused + 1) (2 ^ 64 - 1)
+abbrev pub one_refusal_more : ℕ → ℕ
+one_refusal_more refused = min (refused + 1) (2 ^ 64 - 1)
 
 -- a merge was begun, or memory for it was refused, which is counted
 abbrev pub IsEnded : (RunSize → RunSize → Bool) → List RunSize → List RunSize → ℕ → ℕ → Type 0
-IsEnded alike old new was is = (IsBegun alike old new × (is ≡ was)) ⊎ ((new ≡ old) × (is ≡ one_more was))
+IsEnded alike old new was is = (IsBegun alike old new × (is ≡ was)) ⊎ ((new ≡ old) × (is ≡ one_refusal_more was))
 
 -- so it is where that is true
 abbrev pub EndsIf : Bool → (RunSize → RunSize → Bool) → List RunSize → List RunSize → ℕ → ℕ → Type 0

@@ -1,6 +1,6 @@
 -- What `Runs` holds as contracts see it.
 use Rattle.std.specs.Prelude.{◌≡◌, ◌≤◌, ◌<◌, ℕ, ◌+◌, ◌^◌, nat_le, if◌then◌else◌, List, map, Option, Some, None}
-use Rattle.merging_runs.specs.Held.{Held, HeldRun, IsSameBut, mixed_upto, size_upto}
+use Rattle.merging_runs.specs.Held.{Held, HeldRun, IsSameBut, partial_upto, size_upto}
 use Rattle.merging_runs.specs.RunSizes.{RunSize}
 
 -- the runs, how many more fit without memory, how far each is merged, how much they hold, and how often memory for a
@@ -13,7 +13,7 @@ pub record RunsValue (R : Type 0) : Type 0 where
   pub refused : ℕ
 
 -- nothing has changed but how much there is still to free of the run that was taken out
-pub record OnlyGivesBack {R : Type 0} (old new : RunsValue R) : Type 0 where
+pub record OnlyFrees {R : Type 0} (old new : RunsValue R) : Type 0 where
   pub runs : new.runs ≡ old.runs
   pub held : IsSameBut old.held new.held
   pub sizes : new.sizes ≡ old.sizes
@@ -38,8 +38,8 @@ abbrev pub size_old : {R : Type 0} → (R → ℕ) → (R → RunSize) → (R �
 size_old from sizes held oldest rs = size_upto oldest (map (held_of from sizes held) rs)
 
 -- how much work it is to look at the runs that may have numbers up to that one, and others above it
-abbrev pub size_mixed : {R : Type 0} → (R → ℕ) → (R → RunSize) → (R → ℕ) → ℕ → List R → ℕ
-size_mixed from sizes held oldest rs = mixed_upto oldest (map (held_of from sizes held) rs)
+abbrev pub size_partial : {R : Type 0} → (R → ℕ) → (R → RunSize) → (R → ℕ) → ℕ → List R → ℕ
+size_partial from sizes held oldest rs = partial_upto oldest (map (held_of from sizes held) rs)
 
 -- Of the work of looking at runs, one of them is so much, and was done where that is no more than `most`; or there is
 -- none.

@@ -5,7 +5,7 @@
 //! forgotten is freed, a bounded part of it in each step; one that has forgotten numbers and later ones is swept.
 #![tactic(auto)]
 
-mod give_back;
+mod free_part;
 mod merges;
 mod next;
 mod old;
@@ -13,7 +13,7 @@ mod run;
 mod runs;
 mod sweeps;
 
-pub use give_back::GiveBack;
+pub use free_part::FreePart;
 pub use next::next_of;
 pub use run::Run;
 pub use runs::Runs;

@@ -4,7 +4,7 @@ ghost use Rattle.std.specs.Prelude.{min, IfSome, ⊤};
 ghost use Rattle.merging_runs.specs.Next.{IsNext};
 ghost use Rattle.merging_runs.specs.RunSizes.{IsMerged, IsSwept, RunSize, joined};
 
-use crate::give_back::GiveBack;
+use crate::free_part::FreePart;
 use std::alloc::Global;
 
 /// A run of elements with numbers. It is at rest, or is being made of two runs, element by element.
@@ -13,7 +13,7 @@ pub trait Run: Drop {
     type Places: Drop;
 
     /// What is left of it while it is freed.
-    type Stale: GiveBack;
+    type Stale: FreePart;
 
     /// How far it is merged.
     ghost sizes: { Self → RunSize };

@@ -2,12 +2,12 @@
 ghost use Rattle.std.specs.Prelude.{◌≡◌, ◌≤◌, ◌<◌, ◌+◌, ◌-◌, ◌++◌, ◌||◌, ℕ, Bool, [], ◌∷◌, length, nat_lt, All, OnOk};
 ghost use Rattle.std.specs.Prelude.{None, false};
 ghost use Rattle.std.specs.List.{list_any};
-ghost use Rattle.merging_runs.specs.Held.{IsSameMixed, garbage_upto, given_a_forget, size_in, whole_upto};
+ghost use Rattle.merging_runs.specs.Held.{HasSamePartial, garbage_upto, freed_a_forget, size_in, whole_upto};
 ghost use Rattle.merging_runs.specs.Next.{IsNext};
 ghost use Rattle.merging_runs.specs.RunSizes.{IsMoved, IsTried, LeavesMerges, left_above, moves_for};
-ghost use Rattle.merging_runs.specs.Value.{OnlyGivesBack, size_of};
+ghost use Rattle.merging_runs.specs.Value.{OnlyFrees, size_of};
 
-use crate::give_back::GiveBack;
+use crate::free_part::FreePart;
 use crate::merges::{move_runs, open_last};
 use crate::next::next_in;
 use crate::old::{is_one_old, take_old};
@@ -23,7 +23,7 @@ const MOVES_EACH: usize = 16;
 const MOVES_MORE: usize = 64;
 
 /// How much work a step does: each element that is freed counts as one, and each run as one more.
-const GIVEN_BACK_MAX: usize = 1_024;
+const FREED_MAX: usize = 1_024;
 
 /// Runs of commits one after another, the earliest first. A clause sees the runs, how many more fit (`places`), how far each is merged
 /// (`sizes`), how much they hold (`held`), and how often memory for a merge was refused (`refused`).
@@ -147,7 +147,7 @@ impl<R: Run> Runs<R> {
     fn take_old(&mut self, oldest: u64) -> Option<R>
         ensures agree { R.agree oldest self.new.runs self.old.runs }
         ensures whole { whole_upto oldest self.old.held ≡ size_of R.held result + whole_upto oldest self.new.held }
-        ensures mixed { IsSameMixed oldest self.old.held self.new.held }
+        ensures partial { HasSamePartial oldest self.old.held self.new.held }
         ensures taken { self.new.held.taken ≡ self.old.held.taken }
         ensures none { result ≡ None → whole_upto oldest self.new.held ≡ self.new.held.taken }
         ensures left { left_above oldest self.new.sizes ≡ left_above oldest self.old.sizes }
@@ -158,15 +158,15 @@ impl<R: Run> Runs<R> {
 
     // Frees so much at most of the run that is being freed, if there is one: how much more may be freed, which is none while something is
     // left of it.
-    fn give_back(&mut self, most: usize) -> usize
-        ensures others { OnlyGivesBack self.old self.new }
+    fn free_part(&mut self, most: usize) -> usize
+        ensures others { OnlyFrees self.old self.new }
         ensures taken { self.old.held.taken + result ≡ self.new.held.taken + most }
         ensures ended { 0 < result → self.new.held.taken ≡ 0 }
     {
         let Some(stale) = &mut self.stale else {
             return most;
         };
-        let left = stale.give_back(most);
+        let left = stale.free_part(most);
         if left == 0 {
             return 0;
         }
@@ -175,11 +175,11 @@ impl<R: Run> Runs<R> {
     }
 
     // Frees so much at most of a run that was taken out, the whole of it at once where that is enough.
-    fn give_back_run(&mut self, run: R, most: usize) -> usize
+    fn free_run(&mut self, run: R, most: usize) -> usize
         requires none { self.old.held.taken ≡ 0 }
         requires some { 0 < most }
-        requires most { most ≤ given_a_forget }
-        ensures others { OnlyGivesBack self.old self.new }
+        requires most { most ≤ freed_a_forget }
+        ensures others { OnlyFrees self.old self.new }
         ensures taken { R.held run + 1 + result ≡ self.new.held.taken + most }
         ensures ended { 0 < result → self.new.held.taken ≡ 0 }
     {
@@ -188,25 +188,25 @@ impl<R: Run> Runs<R> {
             return most - size;
         }
         self.stale = Some(run.into_stale());
-        self.give_back(most)
+        self.free_part(most)
     }
 
     // Frees runs that have no number above `oldest`, 1,024 of their elements at most: how many more may be freed, which are none while such
     // a run is left.
-    fn give_back_old(&mut self, oldest: u64) -> usize
+    fn free_old(&mut self, oldest: u64) -> usize
         ensures agree { R.agree oldest self.new.runs self.old.runs }
-        ensures whole { whole_upto oldest self.old.held + result ≡ whole_upto oldest self.new.held + given_a_forget }
+        ensures whole { whole_upto oldest self.old.held + result ≡ whole_upto oldest self.new.held + freed_a_forget }
         ensures ended { 0 < result → whole_upto oldest self.new.held ≡ 0 }
-        ensures mixed { IsSameMixed oldest self.old.held self.new.held }
+        ensures partial { HasSamePartial oldest self.old.held self.new.held }
         ensures left { left_above oldest self.new.sizes ≡ left_above oldest self.old.sizes }
         ensures refused { self.new.refused ≡ self.old.refused }
     {
-        let mut left = self.give_back(GIVEN_BACK_MAX);
+        let mut left = self.free_part(FREED_MAX);
         'runs: while left > 0 {
             let Some(run) = self.take_old(oldest) else {
                 return left;
             };
-            left = self.give_back_run(run, left);
+            left = self.free_run(run, left);
         }
         0
     }
@@ -215,7 +215,7 @@ impl<R: Run> Runs<R> {
     // more?
     fn sweep(&mut self, oldest: u64, most: usize) -> bool
         requires whole { whole_upto oldest self.old.held ≡ 0 }
-        requires most { most ≤ given_a_forget }
+        requires most { most ≤ freed_a_forget }
         ensures agree { R.agree oldest self.new.runs self.old.runs }
         ensures garbage { garbage_upto oldest self.new.held ≡ garbage_upto oldest self.old.held - most }
         ensures still { result ≡ nat_lt 0 (garbage_upto oldest self.new.held) }
@@ -234,12 +234,12 @@ impl<R: Run> Runs<R> {
     /// gone. Takes no memory.
     pub fn forget_step(&mut self, oldest: u64) -> bool
         ensures agree { R.agree oldest self.new.runs self.old.runs }
-        ensures garbage { garbage_upto oldest self.new.held ≡ garbage_upto oldest self.old.held - given_a_forget }
+        ensures garbage { garbage_upto oldest self.new.held ≡ garbage_upto oldest self.old.held - freed_a_forget }
         ensures still { result ≡ nat_lt 0 (garbage_upto oldest self.new.held) }
         ensures above { result ≡ false → All (R.above oldest) self.new.runs }
         ensures merges { LeavesMerges oldest self.old.sizes self.new.sizes self.old.refused self.new.refused }
     {
-        let most = self.give_back_old(oldest);
+        let most = self.free_old(oldest);
         if self.stale.is_some() || is_one_old(&self.runs, oldest) {
             return true;
         }
@@ -254,7 +254,7 @@ impl<R: Run> Runs<R> {
         ensures above { All (R.above oldest) self.new.runs }
         ensures merges { LeavesMerges oldest self.old.sizes self.new.sizes self.old.refused self.new.refused }
     {
-        'old: while self.give_back_old(oldest) == 0 {}
+        'old: while self.free_old(oldest) == 0 {}
         sweep_all(&mut self.runs, oldest);
     }
 }

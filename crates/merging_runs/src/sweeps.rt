@@ -2,7 +2,7 @@
 ghost use Rattle.std.specs.Prelude.{◌≡◌, ◌≤◌, ◌<◌, ◌+◌, ◌-◌, ◌^◌, IfSome, nat_le, map, All, None};
 ghost use Rattle.std.specs.List.{position};
 ghost use Rattle.merging_runs.specs.RunSizes.{left_above};
-ghost use Rattle.merging_runs.specs.Value.{LooksAt, LooksFor, size_mixed, size_old};
+ghost use Rattle.merging_runs.specs.Value.{LooksAt, LooksFor, size_partial, size_old};
 
 use crate::run::Run;
 
@@ -25,8 +25,8 @@ fn sweep_first<R: Run>(runs: &mut Vec<R>, oldest: u64, most: usize) -> Option<us
     requires { size_old R.from R.sizes R.held oldest runs.old.items ≡ 0 }
     ensures agree { R.agree oldest runs.new.items runs.old.items }
     ensures whole { size_old R.from R.sizes R.held oldest runs.new.items ≡ 0 }
-    ensures looked { LooksAt result most (size_mixed R.from R.sizes R.held oldest runs.old.items)
-        (size_mixed R.from R.sizes R.held oldest runs.new.items) }
+    ensures looked { LooksAt result most (size_partial R.from R.sizes R.held oldest runs.old.items)
+        (size_partial R.from R.sizes R.held oldest runs.new.items) }
     ensures none { result ≡ None → All (R.above oldest) runs.new.items }
     ensures left { left_above oldest (map R.sizes runs.new.items) ≤ left_above oldest (map R.sizes runs.old.items) }
 {
@@ -45,8 +45,8 @@ pub(crate) fn sweep_for<R: Run>(runs: &mut Vec<R>, oldest: u64, most: usize) -> 
     ensures agree { R.agree oldest runs.new.items runs.old.items }
     ensures whole { size_old R.from R.sizes R.held oldest runs.new.items ≡ 0 }
     ensures few { IfSome result (λ n. n < 2 ^ 63) }
-    ensures looked { LooksFor result most (size_mixed R.from R.sizes R.held oldest runs.old.items)
-        (size_mixed R.from R.sizes R.held oldest runs.new.items) }
+    ensures looked { LooksFor result most (size_partial R.from R.sizes R.held oldest runs.old.items)
+        (size_partial R.from R.sizes R.held oldest runs.new.items) }
     ensures none { result ≡ None → All (R.above oldest) runs.new.items }
     ensures left { left_above oldest (map R.sizes runs.new.items) ≤ left_above oldest (map R.sizes runs.old.items) }
 {
@@ -65,7 +65,7 @@ pub(crate) fn sweep_all<R: Run>(runs: &mut Vec<R>, oldest: u64)
     requires { size_old R.from R.sizes R.held oldest runs.old.items ≡ 0 }
     ensures agree { R.agree oldest runs.new.items runs.old.items }
     ensures whole { size_old R.from R.sizes R.held oldest runs.new.items ≡ 0 }
-    ensures mixed { size_mixed R.from R.sizes R.held oldest runs.new.items ≡ 0 }
+    ensures partial { size_partial R.from R.sizes R.held oldest runs.new.items ≡ 0 }
     ensures none { All (R.above oldest) runs.new.items }
     ensures left { left_above oldest (map R.sizes runs.new.items) ≤ left_above oldest (map R.sizes runs.old.items) }
 {

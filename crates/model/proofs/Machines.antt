@@ -246,7 +246,7 @@ places_law st reached =
       serial = replay_law st.base st.history k.faithful k.no_pivot k.apart;
     }
 
--- ---- serial orders of several lives, one after another, are one order
+-- ---- serial orders of several restarts, one after another, are one order
 
 pub replays_follow : ReplaysFollow
 replays_follow map [] second these those = (those, refl)

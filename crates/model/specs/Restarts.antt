@@ -1,4 +1,4 @@
--- The states that a store comes to in several lives, of which each begins with the map that the one before left.
+-- The states that a store comes to in several restarts, of which each begins with the map that the one before left.
 use Rattle.std.specs.Prelude.{◌≡◌, List, [], ◌∷◌, ◌++◌}
 use Rattle.model.specs.History.{Record, map_at}
 use Rattle.model.specs.Machine.{State, IsReached, last}

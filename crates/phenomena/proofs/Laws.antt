@@ -17,10 +17,10 @@ use Rattle.model.specs.Operations.{Operation, Response}
 use Rattle.model.specs.PrivateCopy.{responses, copy_of, is_covered}
 use Rattle.model.specs.SerialOrder.{is_before, place}
 use Rattle.phenomena.proofs.Paths.{leads_nowhere_back, path_by}
-use Rattle.phenomena.proofs.ReadValues.{at_begin, marks_cover, values_told}
+use Rattle.phenomena.proofs.ReadValues.{at_begin, marks_cover, values_are_read}
 use Rattle.phenomena.proofs.Versions.{IsMap-map_at, WritesNot, value_unwritten, value_written, writes_leave}
 use Rattle.phenomena.specs.Adya.{Depends, FlowDepends, HasCycle, IsPathBy, ReadsValue, WriteDepends, last_written}
-use Rattle.phenomena.specs.Adya.{reads, reads_version}
+use Rattle.phenomena.specs.Adya.{reads_a_version, reads_version}
 use Rattle.phenomena.specs.Laws.{DirectIsDependency, IsAcyclic, NoCycle, NoPhenomena, Precedes, ReadsLaw}
 use Rattle.phenomena.specs.Laws.{ReadsVersions}
 
@@ -65,14 +65,14 @@ module _ (machine : MachineLaw) (st : State) (reached : IsReached st) where
   map_is n = IsMap-map_at st.history st.base n (machine st reached).1.faithful.is_map
 
   -- what it read is marked
-  read_is_marked : (t : Record) → Contains st.history t → (k : Bytes) → reads t k ≡ true → reads_key t k ≡ true
+  read_is_marked : (t : Record) → Contains st.history t → (k : Bytes) → reads_a_version t k ≡ true → reads_key t k ≡ true
   read_is_marked t t_in k r =
       let is = true_record t t_in in
       let m : KeyMap = map_at st.base st.history t.begin in
       ap (λ ms. is_covered ms k) is.reads
       ∙ marks_cover k (value_at m k) (copy_of m) (at_begin k m (map_is t.begin)) t.requests (ap (reads_version k t.requests) (sym is.replies) ∙ r)
 
-  reads_what : (a b : Record) → Contains st.history a → (k : Bytes) → reads a k ≡ true → writes_key b k ≡ true → reads_from a b ≡ true
+  reads_what : (a b : Record) → Contains st.history a → (k : Bytes) → reads_a_version a k ≡ true → writes_key b k ≡ true → reads_from a b ≡ true
   reads_what a b a_in k r w = any_at_key (λ x. reads_key a x) k b.writes w (read_is_marked a a_in k r)
 
   pub direct_is : (a b : Record) → Depends st.base st.history a b → dependency a b ≡ true
@@ -96,21 +96,21 @@ module _ (machine : MachineLaw) (st : State) (reached : IsReached st) where
   pub reads_versions : (n : ℕ) (requests : List Operation) (replies : List Response) → replies ≡ responses (copy_of (map_at st.base st.history n)) requests →
       ReadsVersions st.base st.history n requests replies
   reads_versions n requests replies is = record {
-    installed = λ k t t_in seen. told k (last_written t k)
+    installed = λ k t t_in seen. is_read k (last_written t k)
         (value_written n k t seen.installs seen.before (writes_leave st.base st.history t (true_record t t_in) k seen.installs)
         st.history st.base (rising_from_numbered 0 st.history (machine st reached).1.faithful.numbered) (in_from_Contains st.history t t_in)
         (each_in _ st.history (λ r r_in. seen.last r (Contains-from_in st.history r r_in))));
-    first = λ k none. told k (value_at st.base k)
+    first = λ k none. is_read k (value_at st.base k)
         (value_unwritten st.history st.base n k
         (each_in (WritesNot n k) st.history (λ r r_in w le. let less = none r (Contains-from_in st.history r r_in) w in omega (arith, less, le))));
   }
     where
-      told : (k : Bytes) (v : Option Bytes) → value_at (map_at st.base st.history n) k ≡ v → ReadsValue k v requests replies
-      told k v e =
+      is_read : (k : Bytes) (v : Option Bytes) → value_at (map_at st.base st.history n) k ≡ v → ReadsValue k v requests replies
+      is_read k v e =
           let m : KeyMap = map_at st.base st.history n in
           subst (λ rs. ReadsValue k v requests rs) (sym is)
           (subst (λ x. ReadsValue k x requests (responses (copy_of m) requests)) e
-          (values_told k (value_at m k) (copy_of m) (at_begin k m (map_is n)) requests))
+          (values_are_read k (value_at m k) (copy_of m) (at_begin k m (map_is n)) requests))
 
 -- ---- the laws
 

@@ -19,7 +19,7 @@ use Rattle.model.specs.PrivateCopy.{copy_of, is_written, after_read, after_put, 
 use Rattle.model.specs.PrivateCopy.Mark.{OfKey, OfRange, OfClosedRange}
 use Rattle.model.specs.declared.refusals.Refusal.TheVariants.{FullMarks, FullWrites}
 use Rattle.phenomena.proofs.Pages.{shows, range_value, page_covers, not_empty, take_is}
-use Rattle.phenomena.specs.Adya.{puts, looks_at, value_given, reads_version, ReadsValue}
+use Rattle.phenomena.specs.Adya.{puts_key, looks_at, value_given, reads_version, ReadsValue}
 
 -- ---- marks
 
@@ -56,43 +56,43 @@ module _ (k : Bytes) (v : Option Bytes) where
     pub value : value_at x.contents k ≡ v
 
   -- where the request looks at the key, it is answered the value, and a mark covers the key; if it doesn't write the key, the copy stays so
-  record Told (q : Operation) (answer : Response × PrivateCopy) : Type 0 where
-    told : looks_at k q answer.0 ≡ true → value_given answer.0 k ≡ v
+  record IsRead (q : Operation) (answer : Response × PrivateCopy) : Type 0 where
+    is_read : looks_at k q answer.0 ≡ true → value_given answer.0 k ≡ v
     marked : looks_at k q answer.0 ≡ true → is_covered answer.1.marks k ≡ true
-    left : puts k q answer.0 ≡ false → Untouched answer.1
+    left : puts_key k q answer.0 ≡ false → Untouched answer.1
 
   module _ (x : PrivateCopy) (u : Untouched x) where
-    looks_elsewhere : (q : Operation) (r : Response) → looks_at k q r ≡ false → Told q (r, x)
-    looks_elsewhere q r none = record { told = λ l. absurd (both_ways _ none l); marked = λ l. absurd (both_ways _ none l); left = λ _. u }
+    looks_elsewhere : (q : Operation) (r : Response) → looks_at k q r ≡ false → IsRead q (r, x)
+    looks_elsewhere q r none = record { is_read = λ l. absurd (both_ways _ none l); marked = λ l. absurd (both_ways _ none l); left = λ _. u }
 
-    read_told : (q : Operation) (mark : Mark) (r : Response) → looks_at k q (Refused FullMarks) ≡ false →
-        (looks_at k q r ≡ true → (value_given r k ≡ v) × (covers mark k ≡ true)) → Told q (after_read x mark r)
-    read_told q mark r none h =
-        cond_both (list_any (is_same_mark mark) x.marks) _ _ (λ (a : Response × PrivateCopy). Told q a)
-        (λ held. record { told = λ l. (h l).0; marked = λ l. covered_by_held mark x.marks k held (h l).1; left = λ _. u })
-        (λ _. cond_both (nat_lt (length x.marks) 256) _ _ (λ (a : Response × PrivateCopy). Told q a)
+    read_is_read : (q : Operation) (mark : Mark) (r : Response) → looks_at k q (Refused FullMarks) ≡ false →
+        (looks_at k q r ≡ true → (value_given r k ≡ v) × (covers mark k ≡ true)) → IsRead q (after_read x mark r)
+    read_is_read q mark r none h =
+        cond_both (list_any (is_same_mark mark) x.marks) _ _ (λ (a : Response × PrivateCopy). IsRead q a)
+        (λ held. record { is_read = λ l. (h l).0; marked = λ l. covered_by_held mark x.marks k held (h l).1; left = λ _. u })
+        (λ _. cond_both (nat_lt (length x.marks) 256) _ _ (λ (a : Response × PrivateCopy). IsRead q a)
         (λ _. record {
-          told = λ l. (h l).0;
+          is_read = λ l. (h l).0;
           marked = λ l. covered_new mark x.marks k (h l).1;
           left = λ _. record { is_map = u.is_map; unwritten = u.unwritten; value = u.value };
         })
         (λ _. looks_elsewhere q (Refused FullMarks) none))
 
-    get_told : (j : Bytes) → Told (Get j) (respond x (Get j))
-    get_told j =
-        cond_both (is_written x j) _ _ (λ (a : Response × PrivateCopy). Told (Get j) a)
+    get_is_read : (j : Bytes) → IsRead (Get j) (respond x (Get j))
+    get_is_read j =
+        cond_both (is_written x j) _ _ (λ (a : Response × PrivateCopy). IsRead (Get j) a)
         (λ w. looks_elsewhere (Get j) (Value (value_at x.contents j)) (other w))
-        (λ _. read_told (Get j) (OfKey j) (Value (value_at x.contents j)) refl (λ l. (ap (value_at x.contents) (same_key j k l) ∙ u.value, l)))
+        (λ _. read_is_read (Get j) (OfKey j) (Value (value_at x.contents j)) refl (λ l. (ap (value_at x.contents) (same_key j k l) ∙ u.value, l)))
       where
         other : is_written x j ≡ true → is_same_key j k ≡ false
         other w = false_from_ne_true _ (λ same. both_ways (is_written x k) u.unwritten (ap (is_written x) (sym (same_key j k same)) ∙ w))
 
-    range_told : (lo : Bytes) (hi : Option Bytes) (limit : ℕ) → Told (Range lo hi limit) (respond x (Range lo hi limit))
-    range_told lo hi limit =
-        cond_both (is_empty_range lo hi) _ _ (λ (a : Response × PrivateCopy). Told (Range lo hi limit) a)
+    range_is_read : (lo : Bytes) (hi : Option Bytes) (limit : ℕ) → IsRead (Range lo hi limit) (respond x (Range lo hi limit))
+    range_is_read lo hi limit =
+        cond_both (is_empty_range lo hi) _ _ (λ (a : Response × PrivateCopy). IsRead (Range lo hi limit) a)
         (λ empty. looks_elsewhere (Range lo hi limit) (Pairs [])
         (false_from_ne_true _ (λ l. both_ways _ (not_empty lo hi k (and_parts (is_in_range lo hi k) _ l).0) empty)))
-        (λ _. read_told (Range lo hi limit) (mark_of_reply lo hi limit page) (Pairs page) refl (λ l.
+        (λ _. read_is_read (Range lo hi limit) (mark_of_reply lo hi limit page) (Pairs page) refl (λ l.
         let inside = and_parts (is_in_range lo hi k) (shows limit k page) l in
         (range_value x.contents lo hi limit k u.is_map inside.0 inside.1 ∙ u.value, page_covers lo hi limit page k page_is inside.0 inside.1)))
       where
@@ -110,45 +110,45 @@ module _ (k : Bytes) (v : Option Bytes) where
       value = value_after_write x.contents j w k ∙ ap (λ b. cond b w (value_at x.contents k)) (same_key_comm k j ∙ other) ∙ u.value;
     }
 
-    put_told : (q : Operation) (j : Bytes) (w : Option Bytes) → ((r : Response) → looks_at k q r ≡ false) → (puts k q Done ≡ is_same_key j k)
-        → Told q (after_put x j w)
-    put_told q j w none is =
-        cond_both (is_written x j) _ _ (λ (a : Response × PrivateCopy). Told q a)
+    put_is_read : (q : Operation) (j : Bytes) (w : Option Bytes) → ((r : Response) → looks_at k q r ≡ false) → (puts_key k q Done ≡ is_same_key j k)
+        → IsRead q (after_put x j w)
+    put_is_read q j w none is =
+        cond_both (is_written x j) _ _ (λ (a : Response × PrivateCopy). IsRead q a)
         (λ _. record {
-          told = λ l. absurd (both_ways _ (none _) l);
+          is_read = λ l. absurd (both_ways _ (none _) l);
           marked = λ l. absurd (both_ways _ (none _) l);
           left = λ other. after_other j w x.written (sym is ∙ other) u.unwritten;
         })
-        (λ _. cond_both (nat_lt (length x.written) 64) _ _ (λ (a : Response × PrivateCopy). Told q a)
+        (λ _. cond_both (nat_lt (length x.written) 64) _ _ (λ (a : Response × PrivateCopy). IsRead q a)
         (λ _. record {
-          told = λ l. absurd (both_ways _ (none _) l);
+          is_read = λ l. absurd (both_ways _ (none _) l);
           marked = λ l. absurd (both_ways _ (none _) l);
           left = λ other. after_other j w (insert_key (slice_cmp nat_cmp) x.written j) (sym is ∙ other)
               (any-insert_key k j x.written ∙ or_from (is_same_key k j) (is_written x k) (same_key_comm k j ∙ (sym is ∙ other)) u.unwritten);
         })
         (λ _. looks_elsewhere q (Refused FullWrites) (none (Refused FullWrites))))
 
-  told_by : (x : PrivateCopy) → Untouched x → (q : Operation) → Told q (respond x q)
-  told_by x u (Get j) = get_told x u j
-  told_by x u (Range lo hi limit) = range_told x u lo hi limit
-  told_by x u (Set j w) = put_told x u (Set j w) j (Some w) (λ r. refl) refl
-  told_by x u (Del j) = put_told x u (Del j) j None (λ r. refl) refl
-  told_by x u q = looks_elsewhere x u q _ refl
+  is_read_by : (x : PrivateCopy) → Untouched x → (q : Operation) → IsRead q (respond x q)
+  is_read_by x u (Get j) = get_is_read x u j
+  is_read_by x u (Range lo hi limit) = range_is_read x u lo hi limit
+  is_read_by x u (Set j w) = put_is_read x u (Set j w) j (Some w) (λ r. refl) refl
+  is_read_by x u (Del j) = put_is_read x u (Del j) j None (λ r. refl) refl
+  is_read_by x u q = looks_elsewhere x u q _ refl
 
   -- ---- all requests
 
-  pub values_told : (x : PrivateCopy) → Untouched x → (qs : List Operation) → ReadsValue k v qs (responses x qs)
-  values_told x u [] = tt
-  values_told x u (q ∷ qs) = let t = told_by x u q in (t.told, λ other. values_told (respond x q).1 (t.left other) qs)
+  pub values_are_read : (x : PrivateCopy) → Untouched x → (qs : List Operation) → ReadsValue k v qs (responses x qs)
+  values_are_read x u [] = tt
+  values_are_read x u (q ∷ qs) = let t = is_read_by x u q in (t.is_read, λ other. values_are_read (respond x q).1 (t.left other) qs)
 
   pub marks_cover : (x : PrivateCopy) → Untouched x → (qs : List Operation) → reads_version k qs (responses x qs) ≡ true
       → is_covered (copy_after x qs).marks k ≡ true
   marks_cover x u [] r = cc
   marks_cover x u (q ∷ qs) r =
-      let t = told_by x u q in
-      elim (or_cases (looks_at k q (respond x q).0) (not (puts k q (respond x q).0) && reads_version k qs (responses (respond x q).1 qs)) r) [
+      let t = is_read_by x u q in
+      elim (or_cases (looks_at k q (respond x q).0) (not (puts_key k q (respond x q).0) && reads_version k qs (responses (respond x q).1 qs)) r) [
         | inl l ↦ all_grow (respond x q).1 qs k (t.marked l)
-        | inr later ↦ let p = and_parts (not (puts k q (respond x q).0)) (reads_version k qs (responses (respond x q).1 qs)) later in marks_cover
+        | inr later ↦ let p = and_parts (not (puts_key k q (respond x q).0)) (reads_version k qs (responses (respond x q).1 qs)) later in marks_cover
             (respond x q).1 (t.left (not-true _ p.0)) qs p.1
       ]
 

@@ -26,10 +26,10 @@ use Rattle.model.specs.Operations.Response.{Done, Value, Pairs}
 -- ---- what a transaction reads
 
 -- the request writes the key
-abbrev pub puts : Bytes → Operation → Response → Bool
-puts k (Set j v) Done = is_same_key j k
-puts k (Del j) Done = is_same_key j k
-puts k request reply = false
+abbrev pub puts_key : Bytes → Operation → Response → Bool
+puts_key k (Set j v) Done = is_same_key j k
+puts_key k (Del j) Done = is_same_key j k
+puts_key k request reply = false
 
 -- the request looks at the key: GET at its own, RANGE at all in its range, but where it gave as many pairs as its
 -- limit, only up to the last
@@ -47,17 +47,17 @@ value_given reply k = None
 
 -- some request looks at the key before one has written it
 abbrev pub reads_version : Bytes → List Operation → List Response → Bool
-reads_version k (q ∷ qs) (r ∷ rs) = looks_at k q r || (not (puts k q r) && reads_version k qs rs)
+reads_version k (q ∷ qs) (r ∷ rs) = looks_at k q r || (not (puts_key k q r) && reads_version k qs rs)
 reads_version k requests replies = false
 
 -- each request that looks at the key before one has written it is given the value v
 abbrev pub ReadsValue : Bytes → Option Bytes → List Operation → List Response → Type 0
 ReadsValue k v (q ∷ qs) (r ∷ rs) =
-    (IsTrue (looks_at k q r) → value_given r k ≡ v) × (IsFalse (puts k q r) → ReadsValue k v qs rs)
+    (IsTrue (looks_at k q r) → value_given r k ≡ v) × (IsFalse (puts_key k q r) → ReadsValue k v qs rs)
 ReadsValue k v requests replies = Unit {0}
 
-abbrev pub reads : Record → Bytes → Bool
-reads t k = reads_version k t.requests t.replies
+abbrev pub reads_a_version : Record → Bytes → Bool
+reads_a_version t k = reads_version k t.requests t.replies
 
 -- ---- versions
 
@@ -66,13 +66,13 @@ abbrev pub last_written : Record → Bytes → Option Bytes
 last_written t k = unwrap_or (find (slice_cmp nat_cmp) k t.writes) None
 
 -- the version of the key that number n sees is the one that t installed
-pub record IsSeen (history : List Record) (n : ℕ) (k : Bytes) (t : Record) : Type 0 where
+pub record IsSeenVersion (history : List Record) (n : ℕ) (k : Bytes) (t : Record) : Type 0 where
   pub installs : IsTrue (writes_key t k)
   pub before : t.commit ≤ n
   pub last : (r : Record) → Contains history r → IsTrue (writes_key r k) → r.commit ≤ n → r.commit ≤ t.commit
 
 -- the version of the key that follows the one that number n sees is the one that t installed
-pub record IsNext (history : List Record) (n : ℕ) (k : Bytes) (t : Record) : Type 0 where
+pub record IsNextVersion (history : List Record) (n : ℕ) (k : Bytes) (t : Record) : Type 0 where
   pub installs : IsTrue (writes_key t k)
   pub after : n < t.commit
   pub first : (r : Record) → Contains history r → IsTrue (writes_key r k) → n < r.commit → t.commit ≤ r.commit
@@ -95,25 +95,30 @@ pub record AreTwo (history : List Record) (a b : Record) : Type 0 where
 
 -- b installed the version that follows a's
 abbrev pub WriteDepends : List Record → Record → Record → Type 0
-WriteDepends history a b = AreTwo history a b × ((k : Bytes) × IsTrue (writes_key a k) × IsNext history a.commit k b)
+WriteDepends history a b = AreTwo history a b
+    × ((k : Bytes) × IsTrue (writes_key a k) × IsNextVersion history a.commit k b)
 
 -- b read a's version
 abbrev pub ItemReadDepends : List Record → Record → Record → Type 0
-ItemReadDepends history a b = AreTwo history a b × ((k : Bytes) × IsTrue (reads b k) × IsSeen history b.begin k a)
+ItemReadDepends history a b = AreTwo history a b
+    × ((k : Bytes) × IsTrue (reads_a_version b k) × IsSeenVersion history b.begin k a)
 
 -- a changed the matches of what b read, by the version that b read or by an earlier one
 abbrev pub PredicateReadDepends : KeyMap → List Record → Record → Record → Type 0
 PredicateReadDepends base history a b =
-    AreTwo history a b × ((k : Bytes) × IsTrue (reads b k) × ChangesMatches base history k a × (a.commit ≤ b.begin))
+    AreTwo history a b × ((k : Bytes) × IsTrue (reads_a_version b k) × ChangesMatches base history k a
+    × (a.commit ≤ b.begin))
 
 -- b installed the version that follows the one that a read
 abbrev pub ItemAntiDepends : List Record → Record → Record → Type 0
-ItemAntiDepends history a b = AreTwo history a b × ((k : Bytes) × IsTrue (reads a k) × IsNext history a.begin k b)
+ItemAntiDepends history a b = AreTwo history a b
+    × ((k : Bytes) × IsTrue (reads_a_version a k) × IsNextVersion history a.begin k b)
 
 -- b changed the matches of what a read, by a version after the one that a read
 abbrev pub PredicateAntiDepends : KeyMap → List Record → Record → Record → Type 0
 PredicateAntiDepends base history a b =
-    AreTwo history a b × ((k : Bytes) × IsTrue (reads a k) × ChangesMatches base history k b × (a.begin < b.commit))
+    AreTwo history a b × ((k : Bytes) × IsTrue (reads_a_version a k) × ChangesMatches base history k b
+    × (a.begin < b.commit))
 
 abbrev pub ReadDepends : KeyMap → List Record → Record → Record → Type 0
 ReadDepends base history a b = ItemReadDepends history a b ⊎ PredicateReadDepends base history a b

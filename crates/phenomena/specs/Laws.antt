@@ -6,7 +6,7 @@ use Rattle.model.specs.History.{Record}
 use Rattle.model.specs.Machine.{State, IsReached}
 use Rattle.model.specs.Map.{Bytes, KeyMap, value_at}
 use Rattle.model.specs.Operations.{Operation, Response}
-use Rattle.phenomena.specs.Adya.{Depends, G0, G1c, G2, GSingle, HasCycle, IsSeen, ReadsValue, last_written}
+use Rattle.phenomena.specs.Adya.{Depends, G0, G1c, G2, GSingle, HasCycle, IsSeenVersion, ReadsValue, last_written}
 
 -- b depends on a, or began once a had committed
 pub record Precedes (history : List Record) (a b : Record) : Type 0 where
@@ -42,7 +42,7 @@ NoPhenomena = (st : State) → IsReached st → HasNoPhenomena st.base st.histor
 -- wrote over (G1b).
 pub record ReadsVersions (base : KeyMap) (history : List Record) (n : ℕ) (requests : List Operation)
     (replies : List Response) : Type 0 where
-  pub installed : (k : Bytes) (t : Record) → Contains history t → IsSeen history n k t →
+  pub installed : (k : Bytes) (t : Record) → Contains history t → IsSeenVersion history n k t →
       ReadsValue k (last_written t k) requests replies
   pub first : (k : Bytes) → ((t : Record) → Contains history t → IsTrue (writes_key t k) → n < t.commit) →
       ReadsValue k (value_at base k) requests replies

@@ -24,9 +24,9 @@ use Rattle.model.specs.Verdict.{verdict, conflict_of, pivot_refusal, is_overwrit
 use Rattle.snapshot.specs.View.{View}
 use Rattle.pivot_check.proofs.Ends.{number_of, by_ends}
 use Rattle.pivot_check.proofs.Lists.{any-map, find-map, filter-map, last_that-map, last_that_same, map_same}
-use Rattle.pivot_check.specs.Kept.{KeptRecord, Facts, key_of, keys_of, is_written, leads_to, follows, becomes_pivot}
-use Rattle.pivot_check.specs.Kept.{first_number, last_that, last_number, are_in_order, is_own_pivot, own_record}
-use Rattle.pivot_check.specs.Kept.{IsInReach}
+use Rattle.pivot_check.specs.Kept.{KeptRecord, Facts, key_of, keys_of, is_key_written, leads_to, follows}
+use Rattle.pivot_check.specs.Kept.{becomes_pivot, first_number, last_that, last_number, are_in_order, is_own_pivot}
+use Rattle.pivot_check.specs.Kept.{own_record, IsInReach}
 use Rattle.pivot_check.specs.StandsFor.{StandsFor, IsRecordOf, kept_of, kept_above}
 
 in_filter : {X : Type 0} (p : X → Bool) (xs : List X) (x : X) → In x (filter p xs) → In x xs × (p x ≡ true)
@@ -101,14 +101,14 @@ module _ (f : Facts) (history : List Record) (s : StandsFor f history) (t : View
         let found = last_that-map passes (kept_of history) late in
         ap number_of (last_that_same test (λ p. passes (kept_of history p)) late alike) ∙ grind arith
 
-  written : (k : Bytes) → is_overwritten late r k ≡ is_written records k
+  written : (k : Bytes) → is_overwritten late r k ≡ is_key_written records k
   written k =
       any_kept (λ p. writes_key p k
       && nat_lt r.begin p.commit) (λ q. list_any (is_same_key k) q.keys) (λ p p_in above. grind (arith, nat_tests, any-map (is_same_key k) key_of p.writes))
 
-  overwritten : find (λ w. is_overwritten late r w.0) r.writes ≡ find (λ w. is_written records w.0) t.writes
-  overwritten = find_alike (λ w. is_overwritten late r w.0) (λ w. is_written records w.0) (λ w. written w.0) r.writes
-      ∙ ap (find (λ w. is_written records w.0)) own.writes
+  overwritten : find (λ w. is_overwritten late r w.0) r.writes ≡ find (λ w. is_key_written records w.0) t.writes
+  overwritten = find_alike (λ w. is_overwritten late r w.0) (λ w. is_key_written records w.0) (λ w. written w.0) r.writes
+      ∙ ap (find (λ w. is_key_written records w.0)) own.writes
 
   between : stands_between late r ≡ is_own_pivot records t
   between = by_ends (λ x. concurrent_read_write x r) (λ y. concurrent_read_write r y) late (history_rises t.begin 0 history s.numbered)
@@ -124,7 +124,7 @@ module _ (f : Facts) (history : List Record) (s : StandsFor f history) (t : View
       && has_earlier_target history p) (becomes_pivot t) (λ p p_in above. ap (λ b. b && has_earlier_target history p) (from_new p p_in above)))
 
   -- the verdict over the whole history is one over what is kept
-  pub verdict_is : verdict history r ≡ conflict_of (find (λ w. is_written records w.0) t.writes)
+  pub verdict_is : verdict history r ≡ conflict_of (find (λ w. is_key_written records w.0) t.writes)
       (cond (is_own_pivot records t) (Some refusal.PivotSelf) (option_map refusal.Pivot (first_number (becomes_pivot t) records)))
   verdict_is = verdict_by_kept history r t.begin low before_new s.no_pivot
       ∙ (λ i. conflict_of (overwritten i) (cond (between i) (Some refusal.PivotSelf) (first_pivot i)))

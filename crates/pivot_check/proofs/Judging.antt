@@ -24,7 +24,7 @@ use Rattle.pivot_check.proofs.Writers.{IsRising, any_is_found, written as writte
 use Rattle.pivot_check.proofs.Writers.{pivot as pivot_by, noted as writers_noted, forgotten as writers_forgotten}
 use Rattle.pivot_check.proofs.Writers.{by_upto}
 use Rattle.pivot_check.specs.Index.{is_written_since, target, source, other_pivot, answer_found}
-use Rattle.pivot_check.specs.Kept.{KeptRecord, Facts, keys_of, is_written, leads_to, follows, becomes_pivot}
+use Rattle.pivot_check.specs.Kept.{KeptRecord, Facts, keys_of, is_key_written, leads_to, follows, becomes_pivot}
 use Rattle.pivot_check.specs.Kept.{first_number, last_number, are_in_order, own_record, IsInReach}
 use Rattle.pivot_check.specs.Postings.{Posting, postings_by, least, lesser, covered_of, are_upto}
 use Rattle.pivot_check.specs.StandsFor.{StandsFor, IsRecordOf, Says, AreWriters, verdict_found, kept_of, kept_above}
@@ -51,8 +51,8 @@ module _ (f : Facts) (history : List Record) (s : StandsFor f history) where
     late_is : records ≡ filter (λ k. nat_lt t.begin k.commit) kept
     late_is = sym (kept_later f.oldest t.begin history reach.held)
 
-    written : (k : Bytes) → is_written records k ≡ is_written_since f.postings t.begin k
-    written k = ap (λ ks. is_written ks k) late_is ∙ written_by f.oldest t.begin f.postings kept k s.writers reach.held rise
+    written : (k : Bytes) → is_key_written records k ≡ is_written_since f.postings t.begin k
+    written k = ap (λ ks. is_key_written ks k) late_is ∙ written_by f.oldest t.begin f.postings kept k s.writers reach.held rise
 
     target_is : first_number (λ k. follows k t) records ≡ target f t
     target_is = ap (first_number (λ k. follows k t)) late_is ∙ target_by f.oldest t.begin f.postings kept t s.writers reach.held rise
@@ -72,7 +72,7 @@ module _ (f : Facts) (history : List Record) (s : StandsFor f history) where
     pub judged : verdict history r ≡ conflict_of (find overwrites t.writes) pivots_say
     judged =
         verdict_is f history s t reach r own
-        ∙ (λ i. conflict_of (find_alike (λ w. is_written records w.0) overwrites (λ w. written w.0) t.writes i)
+        ∙ (λ i. conflict_of (find_alike (λ w. is_key_written records w.0) overwrites (λ w. written w.0) t.writes i)
         (cond (are_in_order (target_is i) (source_is i)) (Some refusal.PivotSelf) (option_map refusal.Pivot (pivot_is i))))
 
     pub says_overwritten : (i : ℕ) → Some i ≡ position overwrites t.writes → Says (Overwritten i) t.writes (verdict history r)

@@ -9,7 +9,7 @@ use Rattle.model.specs.History.{Record, IsNumberedFrom}
 use Rattle.model.specs.Map.{Bytes}
 use Rattle.model.specs.PrivateCopy.{Mark, is_covered}
 use Rattle.last_readers.proofs.Cuts.{cut_twice}
-use Rattle.last_readers.specs.Readers.{after}
+use Rattle.last_readers.specs.Readers.{if_after}
 use Rattle.last_readers.specs.Steps.{cut}
 use Rattle.snapshot.specs.View.{View}
 use Rattle.pivot_check.proofs.Ends.{number_of}
@@ -19,7 +19,7 @@ use Rattle.pivot_check.specs.StandsFor.{kept_of, greatest, last_reader_in, AreRe
 
 -- ---- numbers above another
 
-pub after_cut : (o b n : ℕ) → o ≤ b → after b (cut o n) ≡ after b n
+pub after_cut : (o b n : ℕ) → o ≤ b → if_after b (cut o n) ≡ if_after b n
 after_cut o b n le = grind (arith, nat_tests)
 
 -- ---- the greatest number of records
@@ -47,13 +47,13 @@ greatest_above p n (s ∷ rs) h some = let low = h.0 in grind (arith, greatest_a
 
 -- the last record that passes has the greatest number
 last_is_greatest : (p : Record → Bool) (b : ℕ) (rs : List Record) → IsRising rs
-    → number_of (last_that p (filter (λ r. nat_lt b r.commit) rs)) ≡ after b (greatest p rs)
+    → number_of (last_that p (filter (λ r. nat_lt b r.commit) rs)) ≡ if_after b (greatest p rs)
 last_is_greatest p b [] rise = grind (arith, nat_tests)
 last_is_greatest p b (r ∷ rs) rise = grind (arith, nat_tests, greatest_above p r.commit rs rise.0, last_is_greatest p b rs rise.1)
 
 -- ---- the last readers of the keys
 
-by_keys : (b : ℕ) (h : List Record) (ks : List Bytes) → after b (greatest (λ r. list_any (is_covered r.reads) ks) h) ≡ last_source (last_reader_in h) b ks
+by_keys : (b : ℕ) (h : List Record) (ks : List Bytes) → if_after b (greatest (λ r. list_any (is_covered r.reads) ks) h) ≡ last_source (last_reader_in h) b ks
 by_keys b h [] = grind (arith, nat_tests, greatest_none h)
 by_keys b h (k ∷ ks) =
     grind (arith, nat_tests, by_keys b h ks, greatest_or (λ r. is_covered r.reads k) (λ r. list_any (is_covered r.reads) ks) h)
@@ -61,7 +61,8 @@ by_keys b h (k ∷ ks) =
 looked_up : (o b : ℕ) (readers : Bytes → ℕ) (h : List Record) → o ≤ b → AreReaders o readers h → (ks : List Bytes)
     → last_source readers b ks ≡ last_source (last_reader_in h) b ks
 looked_up o b readers h le are [] = refl
-looked_up o b readers h le are (k ∷ ks) = λ i. greater ((ap (after b) (are k) ∙ after_cut o b (last_reader_in h k) le) i) (looked_up o b readers h le are ks i)
+looked_up o b readers h le are (k ∷ ks) = λ i. greater ((ap (if_after b) (are k) ∙ after_cut o b (last_reader_in h k) le) i)
+    (looked_up o b readers h le are ks i)
 
 -- the last concurrent record that leads to the transaction
 pub source_found : (o : ℕ) (readers : Bytes → ℕ) (h : List Record) (t : View) → o ≤ t.begin → AreReaders o readers h → IsRising h →

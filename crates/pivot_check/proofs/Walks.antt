@@ -19,7 +19,7 @@ use Rattle.marks.specs.Marked.{start_of}
 use Rattle.pivot_check.proofs.Intervals.{covers_below, covers_above}
 use Rattle.pivot_check.proofs.Writers.{lesser_comm}
 use Rattle.pivot_check.specs.Agreeing.{lesser_none, lesser_assoc, least-append}
-use Rattle.pivot_check.specs.Postings.{Posting, keys_rise, are_from, least, lesser}
+use Rattle.pivot_check.specs.Postings.{Posting, keys_rise, have_keys_from, least, lesser}
 
 -- ---- the order of keys
 
@@ -86,7 +86,7 @@ later_uncovered m p q le from e = grind (arith, common_steps, covers_above m p.k
 
 -- where the first isn't covered, none is
 pub first_uncovered : (m : Mark) (c : Posting → Bool) (ps : List Posting) (p : Posting) → Some p ≡ slice_get ps 0 → keys_rise ps ≡ true
-    → are_from (start_of m) ps ≡ true → covers m p.key ≡ false → least (λ p. covers m p.key && c p) ps ≡ None
+    → have_keys_from (start_of m) ps ≡ true → covers m p.key ≡ false → least (λ p. covers m p.key && c p) ps ≡ None
 first_uncovered m c [] p is rising from e = refl
 first_uncovered m c (q ∷ ps) p is rising from e =
     let first : covers m q.key ≡ false = cc in
@@ -95,7 +95,7 @@ first_uncovered m c (q ∷ ps) p is rising from e =
     least_none (λ x. covers m x.key) c (q ∷ ps) (first, all-each _ _ ps (λ x le. later_uncovered m q x le begins first) later)
 
 -- those that are covered stand first
-pub parted_covered : (m : Mark) (ps : List Posting) → keys_rise ps ≡ true → are_from (start_of m) ps ≡ true → IsPartitionedBy (λ p. covers m p.key) ps
+pub parted_covered : (m : Mark) (ps : List Posting) → keys_rise ps ≡ true → have_keys_from (start_of m) ps ≡ true → IsPartitionedBy (λ p. covers m p.key) ps
 parted_covered m ps h from i j d le lt e = true_from_ne_false _ (λ f.
     let begins = not-true _ (all-get (λ p. not (is_lt (key_cmp p.key (start_of m)))
     ≡ true) ps i d (omega arith) (all-pass (λ p. not (is_lt (key_cmp p.key (start_of m)))) ps from)) in
@@ -120,7 +120,7 @@ pub parted : (low : Bytes) (ps : List Posting) → keys_rise ps ≡ true → IsP
 parted low ps h i j d le lt e = from_le _ _ low (rise_at ps h i j d le lt) e
 
 pub rest_from : (low : Bytes) (ps : List Posting) (i : ℕ)
-    → IsPartitionPoint (λ p. is_lt (key_cmp p.key low) ≡ true) (λ p. is_lt (key_cmp p.key low) ≡ false) ps i → are_from low (drop i ps) ≡ true
+    → IsPartitionPoint (λ p. is_lt (key_cmp p.key low) ≡ true) (λ p. is_lt (key_cmp p.key low) ≡ false) ps i → have_keys_from low (drop i ps) ≡ true
 rest_from low ps i h = pass-all (λ p. not (is_lt (key_cmp p.key low))) (drop i ps)
     (all-each _ _ (drop i ps) (λ p e. ap not e) (behind (λ p. is_lt (key_cmp p.key low)) ps i h))
 

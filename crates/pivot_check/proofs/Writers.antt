@@ -12,7 +12,7 @@ use Rattle.model.specs.PrivateCopy.{is_covered}
 use Rattle.model.specs.PrivateCopy.Mark.{OfKey}
 use Rattle.snapshot.specs.View.{View}
 use Rattle.pivot_check.specs.Agreeing.{lesser_none, lesser_assoc, least-append}
-use Rattle.pivot_check.specs.Kept.{KeptRecord, first_number, follows, becomes_pivot, is_written}
+use Rattle.pivot_check.specs.Kept.{KeptRecord, first_number, follows, becomes_pivot, is_key_written}
 use Rattle.pivot_check.specs.Postings.{Posting, postings_by, least, lesser, asked_of, covered_of}
 use Rattle.pivot_check.specs.StandsFor.{postings_of, all_postings, AreWriters}
 
@@ -145,7 +145,7 @@ any_is_found p (r ∷ rs) = grind (arith, any_is_found p rs)
 
 -- whether a record since number b has written the key
 pub written : (o b : ℕ) (ps : List Posting) (rs : List KeptRecord) (k : Bytes) → AreWriters o ps rs → o ≤ b → IsRising rs →
-    is_written (filter (λ r. nat_lt b r.commit) rs) k ≡ is_some (least (asked_of (OfKey k) b false) ps)
+    is_key_written (filter (λ r. nat_lt b r.commit) rs) k ≡ is_some (least (asked_of (OfKey k) b false) ps)
 written o b ps rs k are le rise =
     any_is_found (λ r. list_any (is_same_key k) r.keys) (filter (λ r. nat_lt b r.commit) rs) ∙ ap is_some (by_keys (is_same_key k) o b ps rs are le rise)
 

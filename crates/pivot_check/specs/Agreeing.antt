@@ -5,14 +5,14 @@ use Rattle.std.proofs.lemmas.Bool.{and_from}
 use Rattle.std.proofs.lemmas.Bool.Decides.{nat_tests}
 use Rattle.std.specs.Prelude.{nat_lt, ◌&&◌}
 use Rattle.pivot_check.specs.Bounds.{are_from_bound}
-use Rattle.pivot_check.specs.Inside.{first_number, in_run, is_run_later, postings_in}
+use Rattle.pivot_check.specs.Inside.{number_bound, in_run, is_run_later, postings_in}
 use Rattle.pivot_check.specs.Postings.{Posting, are_later, least, lesser, are_upto}
 use Rattle.pivot_check.specs.declared.bound.Bound.{Bound}
 use Rattle.pivot_check.specs.declared.run.WrittenRun.{WrittenRun}
 
 -- whatever is asked of postings with numbers above that one, the least number is the same
-abbrev pub Agree : ℕ → List WrittenRun → List WrittenRun → Type 0
-Agree oldest new old = (c : Posting → Bool)
+abbrev pub PostingsAgree : ℕ → List WrittenRun → List WrittenRun → Type 0
+PostingsAgree oldest new old = (c : Posting → Bool)
     → least (λ p. nat_lt oldest p.number && c p) (postings_in new)
     ≡ least (λ p. nat_lt oldest p.number && c p) (postings_in old)
 
@@ -38,9 +38,9 @@ least-runs c (r ∷ rs) qs =
       least-runs c rs qs,
     )
 
-pub agree_between : (o : ℕ) (front xs ys behind : List WrittenRun) → Agree o xs ys
-    → Agree o (front ++ (xs ++ behind)) (front ++ (ys ++ behind))
-agree_between o front xs ys behind same c =
+pub postings_agree_between : (o : ℕ) (front xs ys behind : List WrittenRun) → PostingsAgree o xs ys
+    → PostingsAgree o (front ++ (xs ++ behind)) (front ++ (ys ++ behind))
+postings_agree_between o front xs ys behind same c =
     let above = λ (p : Posting). nat_lt o p.number && c p in
     let all : (zs : List WrittenRun)
     → least above (postings_in (front ++ (zs ++ behind)))
@@ -56,8 +56,8 @@ later_by : (o : ℕ) (b : Bound) (ps : List Posting) → o < b.number → are_fr
 later_by o b [] lt h = refl
 later_by o b (p ∷ ps) lt h = grind (arith, nat_tests, later_by o b ps)
 
-pub from_later : (o : ℕ) (r : WrittenRun) → o < first_number r → is_run_later o r ≡ true
-from_later o r lt =
+pub later_from_number : (o : ℕ) (r : WrittenRun) → o < number_bound r → is_run_later o r ≡ true
+later_from_number o r lt =
     and_from _ _ (later_by o r.made.bound r.made.written.items (omega arith) r.made.bounded)
     (and_from _ _ (later_by o r.first.bound r.first.written.items (omega arith) r.first.bounded)
     (later_by o r.second.bound r.second.written.items (omega arith) r.second.bounded))
@@ -68,8 +68,8 @@ none_above : (o last : ℕ) (c : Posting → Bool) (ps : List Posting) → last 
 none_above o last c [] le h = refl
 none_above o last c (p ∷ ps) le h = grind (arith, nat_tests, none_above o last c ps le)
 
-pub none_of_old : (o : ℕ) (r : WrittenRun) → r.last ≤ o → Agree o [] (r ∷ [])
-none_of_old o r le c =
+pub no_old_postings : (o : ℕ) (r : WrittenRun) → r.last ≤ o → PostingsAgree o [] (r ∷ [])
+no_old_postings o r le c =
     let above = λ (p : Posting). nat_lt o p.number && c p in
     sym (least-append above (in_run r) [] ∙ lesser_none (least above (in_run r))
     ∙ none_above o r.last c (in_run r) le r.upto)

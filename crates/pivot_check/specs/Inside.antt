@@ -17,16 +17,16 @@ abbrev pub postings_in : List WrittenRun → List Posting
 postings_in [] = []
 postings_in (r ∷ rs) = in_run r ++ postings_in rs
 
-abbrev pub ready_of : Option Ready → Option (List Bytes)
-ready_of ready = option_map (λ r. r.keys.items) ready
+abbrev pub ready_keys : Option Ready → Option (List Bytes)
+ready_keys ready = option_map (λ r. r.keys.items) ready
 
 -- how many postings a run holds, also those that were taken
-abbrev pub held_of : WrittenRun → ℕ
-held_of r = vec_len r.first.written + vec_len r.second.written + vec_len r.made.written
+abbrev pub postings_held : WrittenRun → ℕ
+postings_held r = vec_len r.first.written + vec_len r.second.written + vec_len r.made.written
 
 -- a number that none of its numbers is below, by the bounds of its parts
-abbrev pub first_number : WrittenRun → ℕ
-first_number r = min r.made.bound.number (min r.first.bound.number r.second.bound.number)
+abbrev pub number_bound : WrittenRun → ℕ
+number_bound r = min r.made.bound.number (min r.first.bound.number r.second.bound.number)
 
 -- whether all that it holds, also what was taken, has a number above this one
 abbrev pub is_run_later : ℕ → WrittenRun → Bool
@@ -34,5 +34,5 @@ is_run_later o r = are_later o r.made.written.items
     && (are_later o r.first.written.items && are_later o r.second.written.items)
 
 -- how far a run is merged
-abbrev pub sizes_of : WrittenRun → RunSize
-sizes_of r = record { last = r.last; left = left r.first + left r.second; made = left r.made }
+abbrev pub written_run_size : WrittenRun → RunSize
+written_run_size r = record { last = r.last; left = left r.first + left r.second; made = left r.made }

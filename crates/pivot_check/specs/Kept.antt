@@ -5,11 +5,11 @@ use Rattle.std.specs.Prelude.{Option}
 use Rattle.std.specs.Prelude.{Some, None, find, option_map, map, max, ◌+◌, ◌-◌, if◌then◌else◌}
 use Rattle.model.specs.Map.{Bytes, KeyWrite, is_same_key}
 use Rattle.model.specs.PrivateCopy.{Mark, is_covered}
-use Rattle.merging_runs.specs.Held.{Held, garbage_upto, given_a_forget}
+use Rattle.merging_runs.specs.Held.{Held, garbage_upto, freed_a_forget}
 use Rattle.merging_runs.specs.Next.{count_upto}
 use Rattle.merging_runs.specs.RunSizes.{LeavesMerges, RunSize}
-use Rattle.last_readers.specs.Readers.{IsForgotten, NameNoneUpto, Readers, ReadersRoom, is_named, last_reader, after}
-use Rattle.last_readers.specs.Readers.{HasRoom as HasReadersRoom}
+use Rattle.last_readers.specs.Readers.{IsForgotten, NameNoneUpto, Readers, ReadersRoom, is_named_reader, last_reader}
+use Rattle.last_readers.specs.Readers.{if_after, HasReadersRoom}
 use Rattle.snapshot.specs.View.{View}
 use Rattle.pivot_check.specs.Postings.{Posting, are_later}
 
@@ -37,8 +37,8 @@ abbrev pub keys_of : List KeyWrite → List Bytes
 keys_of ws = map key_of ws
 
 -- whether one of the records has written the key
-abbrev pub is_written : List KeptRecord → Bytes → Bool
-is_written rs k = list_any (λ r. list_any (is_same_key k) r.keys) rs
+abbrev pub is_key_written : List KeptRecord → Bytes → Bool
+is_key_written rs k = list_any (λ r. list_any (is_same_key k) r.keys) rs
 
 -- whether a read-write dependency leads from the concurrent record to the transaction that commits next
 abbrev pub leads_to : KeptRecord → View → Bool
@@ -100,7 +100,7 @@ greater (Some n) (Some m) = Some (max n m)
 -- the greatest of the last readers of these keys that has a number above `begin`
 abbrev pub last_source : (Bytes → ℕ) → ℕ → List Bytes → Option ℕ
 last_source readers begin [] = None
-last_source readers begin (k ∷ ks) = greater (after begin (readers k)) (last_source readers begin ks)
+last_source readers begin (k ∷ ks) = greater (if_after begin (readers k)) (last_source readers begin ks)
 
 -- no last reader has a number up to that one
 abbrev pub AreAbove : ℕ → (Bytes → ℕ) → Type 0
@@ -124,7 +124,7 @@ pub record KeepsNoneUpto (oldest : ℕ) (f : Facts) : Type 0 where
 
 -- whether something is kept of the commit with that number: a key that it wrote, or that it was the last to read one
 abbrev pub is_kept : Facts → ℕ → Bool
-is_kept f n = is_named f.readers n || list_any (λ p. n == p.number) f.postings
+is_kept f n = is_named_reader f.readers n || list_any (λ p. n == p.number) f.postings
 
 -- of how many commits something is kept
 abbrev pub kept_count : Facts → ℕ
@@ -171,15 +171,15 @@ abbrev pub garbage_runs : CommittedValue → ℕ
 garbage_runs v = garbage_upto v.facts.readers.oldest v.held.readers + garbage_upto v.facts.oldest v.held.written
 
 -- A step of the garbage has gone. So where the last numbers stay, all of it is gone after as many steps as it takes.
-pub record IsGivenBack (old new : CommittedValue) : Type 0 where
+pub record FreesRuns (old new : CommittedValue) : Type 0 where
   pub readers : garbage_upto new.facts.readers.oldest new.held.readers
-      ≡ garbage_upto new.facts.readers.oldest old.held.readers - given_a_forget
+      ≡ garbage_upto new.facts.readers.oldest old.held.readers - freed_a_forget
   pub written : garbage_upto new.facts.oldest new.held.written
-      ≡ garbage_upto new.facts.oldest old.held.written - given_a_forget
+      ≡ garbage_upto new.facts.oldest old.held.written - freed_a_forget
 
 -- such a step was done, and garbage is left exactly where that is answered
 pub record IsStep (old new : CommittedValue) (more : Bool) : Type 0 where
-  pub given_back : IsGivenBack old new
+  pub frees_runs : FreesRuns old new
   pub still : more ≡ nat_lt 0 (garbage_runs new)
 
 -- no more postings are to be moved than before in runs with numbers that may be asked for, and no refusal was counted

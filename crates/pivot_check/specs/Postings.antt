@@ -61,8 +61,8 @@ keys_rise [] = true
 keys_rise (p ∷ ps) = list_all (λ q. is_le (key_cmp p.key q.key)) ps && keys_rise ps
 
 -- whether no posting has a key below this one
-abbrev pub are_from : Bytes → List Posting → Bool
-are_from low ps = list_all (λ p. not (is_lt (key_cmp p.key low))) ps
+abbrev pub have_keys_from : Bytes → List Posting → Bool
+have_keys_from low ps = list_all (λ p. not (is_lt (key_cmp p.key low))) ps
 
 -- whether no posting has a number above this one
 abbrev pub are_upto : ℕ → List Posting → Bool

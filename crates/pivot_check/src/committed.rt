@@ -45,13 +45,13 @@ impl Model for Committed {
     ghost use Rattle.std.specs.Prelude.{◌≡◌, ◌≤◌};
     ghost use Rattle.last_readers.specs.Readers.{last_reader, AreUpto};
     ghost use Rattle.pivot_check.specs.Kept.{CommittedValue, AreAbove};
-    ghost use Rattle.pivot_check.specs.Inside.{postings_in, ready_of};
+    ghost use Rattle.pivot_check.specs.Inside.{postings_in, ready_keys};
 
     ghost Value = { CommittedValue };
 
     ghost view = { λ c. record {
       facts = record { readers = c.readers.readers; postings = postings_in c.runs.runs; oldest = c.oldest; last = c.last };
-      room = record { readers = c.readers.room; runs = c.runs.places; ready = ready_of c.ready };
+      room = record { readers = c.readers.room; runs = c.runs.places; ready = ready_keys c.ready };
       held = record { readers = c.readers.held; written = c.runs.held; sizes = c.runs.sizes; refused = c.runs.refused };
     } };
 

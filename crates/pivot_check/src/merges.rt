@@ -3,10 +3,11 @@ ghost use Rattle.std.specs.Prelude.{◌≡◌, ◌≤◌, ◌<◌, ◌+◌, ◌-
 ghost use Rattle.std.specs.List.{list_any};
 ghost use Rattle.std.specs.Vec.{vec_capacity};
 ghost use Rattle.std.proofs.Common.{refl, ◌∙◌};
-ghost use Rattle.pivot_check.specs.Inside.{first_number, held_of, in_run, is_run_later, sizes_of};
+ghost use Rattle.pivot_check.specs.Inside.{number_bound, postings_held, in_run, is_run_later, written_run_size};
 ghost use Rattle.pivot_check.specs.Postings.{Posting, least};
 ghost use Rattle.pivot_check.specs.Merged.{fit_one};
-ghost use Rattle.pivot_check.specs.Agreeing.{Agree, agree_between, from_later, none_of_old};
+ghost use Rattle.pivot_check.specs.Agreeing.{PostingsAgree, postings_agree_between, later_from_number};
+ghost use Rattle.pivot_check.specs.Agreeing.{no_old_postings};
 
 use crate::bound::{BLOCK, Bound};
 use crate::merging::move_least;
@@ -31,12 +32,12 @@ fn bounds_for(alloc: Global, count: usize) -> Vec<Bound>
 }
 
 // Frees the room of the two runs that one is made of, once nothing is left of them.
-fn give_room_back(run: &mut WrittenRun)
-    ensures sizes { sizes_of run.new ≡ sizes_of run.old }
+fn free_room(run: &mut WrittenRun)
+    ensures sizes { written_run_size run.new ≡ written_run_size run.old }
     ensures same { (c : Posting → Bool) → least c (in_run run.new) ≡ least c (in_run run.old) }
-    ensures from { (o : ℕ) → o < 2 ^ 64 - 1 → o < first_number run.old → o < first_number run.new }
-    ensures held { held_of run.new ≤ held_of run.old }
-    ensures room { (sizes_of run.new).left ≡ 0 → vec_capacity run.new.first.written + vec_capacity run.new.second.written ≡ 0 }
+    ensures from { (o : ℕ) → o < 2 ^ 64 - 1 → o < number_bound run.old → o < number_bound run.new }
+    ensures held { postings_held run.new ≤ postings_held run.old }
+    ensures room { (written_run_size run.new).left ≡ 0 → vec_capacity run.new.first.written + vec_capacity run.new.second.written ≡ 0 }
 {
     if run.first.len() > 0 || run.second.len() > 0 {
         return;
@@ -51,11 +52,11 @@ impl Run for WrittenRun {
 
     type Stale = (Vec<Written>, Vec<Written>, Vec<Written>);
 
-    ghost sizes = { sizes_of };
+    ghost sizes = { written_run_size };
 
-    ghost held = { held_of };
+    ghost held = { postings_held };
 
-    ghost from = { first_number };
+    ghost from = { number_bound };
 
     ghost above = { λ o r. IsTrue (is_run_later o r) };
 
@@ -69,7 +70,7 @@ impl Run for WrittenRun {
 
     ghost alike = { fit_one };
 
-    ghost agree = { Agree };
+    ghost agree = { PostingsAgree };
 
     fn last(&self) -> u64 {
         self.last
@@ -129,7 +130,7 @@ impl Run for WrittenRun {
 
     fn move_one(&mut self, _oldest: u64) {
         move_least(&mut self.first, &mut self.second, &mut self.made);
-        give_room_back(self);
+        free_room(self);
     }
 
     fn sweep(&mut self, oldest: u64) {
@@ -138,7 +139,7 @@ impl Run for WrittenRun {
         self.first.sweep(oldest);
         self.second.sweep(oldest);
         self.made.sweep(oldest);
-        give_room_back(self);
+        free_room(self);
     }
 
     fn into_stale(self) -> (Vec<Written>, Vec<Written>, Vec<Written>) {
@@ -159,9 +160,9 @@ impl Run for WrittenRun {
 
     ghost through = { λ o xs ys zs first second c. first c ∙ second c };
 
-    ghost between = { agree_between };
+    ghost between = { postings_agree_between };
 
-    ghost old = { none_of_old };
+    ghost old = { no_old_postings };
 
-    ghost later = { from_later };
+    ghost later = { later_from_number };
 }

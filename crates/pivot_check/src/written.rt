@@ -8,7 +8,7 @@ ghost use Rattle.marks.specs.Lent.{lent_mark};
 ghost use Rattle.marks.specs.Marked.{start_of};
 ghost use Rattle.pivot_check.specs.Bounds.{in_span};
 ghost use Rattle.pivot_check.specs.Postings.{CountBoth, CountCovered, Posting, number_asked, postings_by, keys_rise};
-ghost use Rattle.pivot_check.specs.Postings.{are_from, least, lesser, is_asked};
+ghost use Rattle.pivot_check.specs.Postings.{have_keys_from, least, lesser, is_asked};
 
 use marks::MarkRef;
 use merging_runs::next_of;
@@ -145,7 +145,7 @@ pub(crate) struct Span {
 // How many of the postings, which begin where the mark may begin to cover keys, it covers. Where it covers none, one look.
 fn count_covered(postings: &[Written], mark: MarkRef<'_>) -> usize
     requires rising { IsTrue (keys_rise postings.now) }
-    requires from { IsTrue (are_from (start_of (lent_mark mark)) postings.now) }
+    requires from { IsTrue (have_keys_from (start_of (lent_mark mark)) postings.now) }
     ensures within { result ≤ length postings.now }
     ensures covered { CountCovered (lent_mark mark.entry) postings.now (take result postings.now) }
 {

@@ -17,15 +17,15 @@ use Rattle.model.specs.declared.refusals.Refusal.{Refusal}
 use Rattle.model.specs.declared.refusals.Refusal.TheVariants.{Overwritten, Pivot}
 
 -- the text stands at the end of new, or new has what old had; it is never refused where old has the room
-pub record Appends (old new : Vec ℕ) (text : List ℕ) (result : Result (Unit {0}) Memory) : Type 0 where
+pub record AppendsText (old new : Vec ℕ) (text : List ℕ) (result : Result (Unit {0}) Memory) : Type 0 where
   pub ok : OnOk result (new.items ≡ old.items ++ text)
   pub err : OnErr result (new.items ≡ old.items)
   pub room : vec_len old + length text ≤ vec_capacity old → IsOk result
   pub capacity : vec_capacity old ≤ vec_capacity new
 
 -- the pieces, one after the other
-abbrev pub joined : List (Bor (List ℕ)) → List ℕ
-joined pieces = flat_map (λ piece. piece.now) pieces
+abbrev pub joined_pieces : List (Bor (List ℕ)) → List ℕ
+joined_pieces pieces = flat_map (λ piece. piece.now) pieces
 
 -- what follows a refusal's words
 abbrev pub detail : Refusal → List ℕ

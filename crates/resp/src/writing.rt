@@ -10,7 +10,7 @@ ghost use Rattle.model.specs.Operations.{response_of};
 ghost use Rattle.model.specs.Operations.Response.{Refused};
 ghost use Rattle.model.specs.ReplyText.{reply_text, refusal_text, hex_text};
 ghost use Rattle.resp.specs.Replies.{FirstReplies, OneReading};
-ghost use Rattle.resp.specs.Writing.{Appends, GivesPairs, IsBrief, OfText, joined, detail};
+ghost use Rattle.resp.specs.Writing.{AppendsText, GivesPairs, IsBrief, OfText, joined_pieces, detail};
 
 use model::{KeyRef, Memory, Refusal, Reply};
 
@@ -19,7 +19,7 @@ pub const BRIEF_MAX: usize = 536;
 
 // Adds these pieces, all or none.
 fn append(out: &mut Vec<u8>, pieces: &[&[u8]]) -> Result<(), Memory>
-    ensures { Appends out.old out.new (joined pieces.now) result }
+    ensures { AppendsText out.old out.new (joined_pieces pieces.now) result }
 {
     let before = out.len();
     for piece in pieces {
@@ -33,7 +33,7 @@ fn append(out: &mut Vec<u8>, pieces: &[&[u8]]) -> Result<(), Memory>
 
 // A number's text between two others.
 fn append_number(out: &mut Vec<u8>, before: &[u8], n: u64, after: &[u8]) -> Result<(), Memory>
-    ensures text { Appends out.old out.new (before.now ++ decimal n ++ after.now) result }
+    ensures text { AppendsText out.old out.new (before.now ++ decimal n ++ after.now) result }
     ensures brief { length (before.now ++ decimal n ++ after.now) ≤ length before.now + length after.now + 20 }
 {
     let mut buffer = itoa::Buffer::new();
@@ -79,7 +79,7 @@ fn put_bulk(out: &mut Vec<u8>, digits: &[u8], bytes: &[u8])
 
 // A bulk. Its room is asked for once.
 fn append_bulk(out: &mut Vec<u8>, bytes: &[u8]) -> Result<(), Memory>
-    ensures { Appends out.old out.new (bulk bytes.now) result }
+    ensures { AppendsText out.old out.new (bulk bytes.now) result }
 {
     let mut buffer = itoa::Buffer::new();
     let digits = buffer.format(bytes.len()).as_bytes();
@@ -99,7 +99,7 @@ fn write_hex(bytes: &[u8], digits: &mut [u8])
 /// Writes a pair's key and value, as bulks, at the end of `out`. It may grow `out`; where that is refused it answers `Memory`, and the
 /// bytes are as they were.
 pub fn write_pair(out: &mut Vec<u8>, key: &[u8], value: &[u8]) -> Result<(), Memory>
-    ensures { Appends out.old out.new (bulk key.now ++ bulk value.now) result }
+    ensures { AppendsText out.old out.new (bulk key.now ++ bulk value.now) result }
 {
     let before = out.len();
     append_bulk(out, key)?;
@@ -113,7 +113,7 @@ pub fn write_pair(out: &mut Vec<u8>, key: &[u8], value: &[u8]) -> Result<(), Mem
 /// Writes the line before an array of so many pairs at the end of `out`. It may grow `out`; where that is refused it answers `Memory`, and
 /// the bytes are as they were.
 pub fn write_array_line(out: &mut Vec<u8>, pairs: usize) -> Result<(), Memory>
-    ensures { Appends out.old out.new (codes "*" ++ decimal (2 * pairs) ++ crlf) result }
+    ensures { AppendsText out.old out.new (codes "*" ++ decimal (2 * pairs) ++ crlf) result }
 {
     let mut buffer = itoa::Buffer::new();
     let digits = buffer.format(2 * pairs as u128).as_bytes();
@@ -123,7 +123,7 @@ pub fn write_array_line(out: &mut Vec<u8>, pairs: usize) -> Result<(), Memory>
 // A key in hex, at the end of an error.
 fn append_overwritten(out: &mut Vec<u8>, key: &[u8]) -> Result<(), Memory>
     requires { IsKey key.now }
-    ensures text { Appends out.old out.new (codes "-CONFLICT overwritten " ++ hex_text key.now ++ crlf) result }
+    ensures text { AppendsText out.old out.new (codes "-CONFLICT overwritten " ++ hex_text key.now ++ crlf) result }
     ensures brief { length (codes "-CONFLICT overwritten " ++ hex_text key.now ++ crlf) ≤ BRIEF_MAX }
 {
     let mut buffer = [0u8; 512];
@@ -160,7 +160,7 @@ fn words(refusal: &Refusal) -> &'static [u8]
 
 // A refusal, as an error.
 fn append_refusal(out: &mut Vec<u8>, refusal: &Refusal) -> Result<(), Memory>
-    ensures text { Appends out.old out.new (reply_text (Refused refusal.now)) result }
+    ensures text { AppendsText out.old out.new (reply_text (Refused refusal.now)) result }
     ensures brief { length (reply_text (Refused refusal.now)) ≤ BRIEF_MAX }
 {
     match refusal {
@@ -229,7 +229,7 @@ pub fn write_pairs<'a, I: Iterator<Item = (KeyRef<'a>, &'a [u8])> + Drop>(
 /// Writes the request of these parts, as one frame, behind what `out` holds. It takes no memory where `out` has the room; where memory
 /// is refused, `out` holds what it held.
 pub fn write_request(out: &mut Vec<u8>, parts: &[&[u8]]) -> Result<(), Memory>
-    ensures { Appends out.old out.new (array_of_bulks (map (λ part. part.now) parts.now)) result }
+    ensures { AppendsText out.old out.new (array_of_bulks (map (λ part. part.now) parts.now)) result }
 {
     let before = out.len();
     append_number(out, b"*", parts.len() as u64, b"\r\n")?;

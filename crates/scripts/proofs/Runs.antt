@@ -11,11 +11,11 @@ use Rattle.sessions.specs.Laws.{IsLawful}
 use Rattle.sessions.specs.SessionStreams.{HubState}
 use Rattle.sessions.specs.StandsFor.{StandsFor}
 use Rattle.scripts.proofs.Texts.{first_of_lines}
-use Rattle.scripts.specs.Calls.{IsAt, ReadsLine, Runs, RunsLine, RunSoFar}
+use Rattle.scripts.specs.Calls.{IsAtScene, ReadsLine, RunsText, RunsLine, RunSoFar}
 use Rattle.scripts.specs.Faults.{IsFromReading, IsOpening}
 use Rattle.scripts.specs.Lines.{ScriptLine, IsLine, lines_of}
-use Rattle.scripts.specs.Transcript.{Scene, Transcript, Begun, Continued, IsCrowded, LinePrints, TextPrints, RunsSome}
-use Rattle.scripts.specs.Transcript.{Plays, session_of, with_label}
+use Rattle.scripts.specs.Transcript.{Scene, Transcript, Begun, Continued, IsLabelTooMany, LinePrints, TextPrints}
+use Rattle.scripts.specs.Transcript.{RunsSome, Plays, labelled_session, with_label}
 use Rattle.scripts.specs.declared.faults.ScriptFault.{ScriptFault}
 use Rattle.scripts.specs.declared.faults.ScriptFault.TheVariants.{BadLine, Crowded, File, Log, Memory}
 use Rattle.scripts.specs.declared.playing.Script.{Script}
@@ -53,7 +53,8 @@ keeps_on (Some xs) (Some ys) None p first then = absurd then
 keeps_on (Some xs) (Some ys) (Some zs) p first then = then ∙ first
 
 module _ {D : Type 0} {g : Ghosts D} (first : Scene) where
-  pub run_none : (script : Script D g) (left held : Option Bytes) → IsAt script first → IfSome left (λ xs. RunSoFar first (lines_of xs) 1 script left held held)
+  pub run_none : (script : Script D g) (left held : Option Bytes) → IsAtScene script first
+      → IfSome left (λ xs. RunSoFar first (lines_of xs) 1 script left held held)
   run_none script None held at = tt
   run_none script (Some xs) held at = record {
     done = [];
@@ -100,7 +101,8 @@ module _ {D : Type 0} {g : Ghosts D} (first : Scene) where
         texts_split = r.texts_are ∙ ap (λ ls. r.done ++ ls) (first_of_lines r.rest line_read.0 ∙ ap (λ t. t ∷ lines_of behind) (sym line_read.1))
 
         -- one line more was run
-        pub run_more : (new : Script D g) (after : Option Bytes) → ((scene : Scene) → IsAt script scene → Runs scene number text (Ok tt) new held after)
+        pub run_more : (new : Script D g) (after : Option Bytes)
+            → ((scene : Scene) → IsAtScene script scene → RunsText scene number text (Ok tt) new held after)
             → RunSoFar first texts (number + 1) new left' before after
         run_more new after runs =
             let answered = runs r.scene r.at in
@@ -119,7 +121,7 @@ module _ {D : Type 0} {g : Ghosts D} (first : Scene) where
 
         -- a line was not run
         pub run_stops : (new : Script D g) (after : Option Bytes) (fault : ScriptFault)
-            → ((scene : Scene) → IsAt script scene → Runs scene number text (Err fault) new held after) → Plays first texts (Err fault) before after
+            → ((scene : Scene) → IsAtScene script scene → RunsText scene number text (Err fault) new held after) → Plays first texts (Err fault) before after
         run_stops new after (BadLine n) runs =
             let why = runs r.scene r.at in (
               r.printed,
@@ -174,16 +176,16 @@ module _ {D : Type 0} {g : Ghosts D} (first : Scene) where
             )
         run_stops new after (Log fault) runs = absurd (runs r.scene r.at)
 
-text_prints : (scene : Scene) (line : ScriptLine) (text : Bytes) → text ≢ [] → IsLine text line → (IsCrowded scene line.label → ⊥)
+text_prints : (scene : Scene) (line : ScriptLine) (text : Bytes) → text ≢ [] → IsLine text line → (IsLabelTooMany scene line.label → ⊥)
     → (new : Scene) (printed : Bytes) → LinePrints scene line new printed → TextPrints scene text new printed
 text_prints scene line [] some is place new printed prints = absurd (some refl)
 text_prints scene line (byte ∷ bytes) some is place new printed prints = (line, is, place, prints)
 
 -- a line of a session was run as its answer says
 pub text_runs : {D : Type 0} {g : Ghosts D} (scene : Scene) (number : ℕ) (text : Bytes) (line : ScriptLine) (script : Script D g) (before after : Option Bytes)
-    → text ≢ [] → IsLine text line → (IsCrowded scene line.label → ⊥)
-    → (r : Result (Unit {0}) ScriptFault) → RunsLine (with_label scene line.label) (session_of scene.labels line.label) line r script before after
-    → Runs scene number text r script before after
+    → text ≢ [] → IsLine text line → (IsLabelTooMany scene line.label → ⊥)
+    → (r : Result (Unit {0}) ScriptFault) → RunsLine (with_label scene line.label) (labelled_session scene.labels line.label) line r script before after
+    → RunsText scene number text r script before after
 text_runs scene number text line script before after some is place (Ok done) answered = record {
   scene = answered.scene;
   printed = answered.printed;

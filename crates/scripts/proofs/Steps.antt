@@ -19,8 +19,8 @@ pub joins_alike : (h : HubState) (s : ℕ) (c : Choice) → c.refused ≡ false 
 unfolding hub_step
 joins_alike h s c e = ap (λ r. join h s r) e
 
-pub granted_is : (c : Choice) → c.refused ≡ false → c ≡ granted c.front c.failed
-granted_is c e = ap (λ r. record { front = c.front; refused = r; failed = c.failed }) e
+pub granted_is : (c : Choice) → c.refused ≡ false → c ≡ granted c.head c.failed
+granted_is c e = ap (λ r. record { head = c.head; refused = r; failed = c.failed }) e
 
 pub not_memory : (o : Outcome) → o ≢ Memory → is_memory o ≡ false
 not_memory Done other = refl

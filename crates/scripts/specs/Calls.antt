@@ -5,24 +5,24 @@ use Rattle.std.specs.Prelude.{◌≡◌, ◌≢◌, ℕ, ◌+◌, Bool, true, fa
 use Rattle.std.specs.Prelude.{Result, Ok, Err, IfOk, MatchResult}
 use Rattle.model.specs.Map.{Bytes}
 use Rattle.sector.specs.declared.device.Sectors.{Ghosts}
-use Rattle.sessions.specs.SessionStreams.{HubState, Serves, Front, IsPossible, hub_step, stream_of}
+use Rattle.sessions.specs.SessionStreams.{HubState, Serves, Head, IsPossible, hub_step, stream_of}
 use Rattle.sessions.specs.StandsFor.{StandsFor, status_in}
 use Rattle.sessions.specs.declared.hub.Hub.{Hub}
 use Rattle.scripts.specs.Lines.{ScriptLine, IsLine, lines_of}
-use Rattle.scripts.specs.Transcript.{Scene, granted, session_of, with_label, IsCrowded, AppendsPart, PrintsIn}
-use Rattle.scripts.specs.Transcript.{TextPrints, Transcript, IsBad, NamesOneTooMany}
+use Rattle.scripts.specs.Transcript.{Scene, granted, labelled_session, with_label, IsLabelTooMany, AppendsPart}
+use Rattle.scripts.specs.Transcript.{PrintsIn, TextPrints, Transcript, IsBadLine, NamesOneTooMany}
 use Rattle.scripts.specs.declared.faults.ScriptFault.{ScriptFault}
 use Rattle.scripts.specs.declared.faults.ScriptFault.TheVariants.{BadLine, Crowded, File, Log, Memory}
 use Rattle.scripts.specs.declared.playing.Script.{Script}
 
 -- the code's script is at this scene
-pub record IsAt {D : Type 0} {g : Ghosts D} (script : Script D g) (scene : Scene) : Type 0 where
+pub record IsAtScene {D : Type 0} {g : Ghosts D} (script : Script D g) (scene : Scene) : Type 0 where
   pub hub : StandsFor script.hub scene.hub
   pub labels : script.labels.items ≡ scene.labels
 
 -- it is so for each scene that the code's script is at
 abbrev pub AtScene : {D : Type 0} {g : Ghosts D} → Script D g → (Scene → Type 0) → Type 0
-AtScene script So = (scene : Scene) → IsAt script scene → So scene
+AtScene script So = (scene : Scene) → IsAtScene script scene → So scene
 
 -- the first line was read without its end, and what is behind it is left; or there was none
 abbrev pub ReadsLine : Bytes → Bool → Bytes → Option Bytes → Type 0
@@ -37,28 +37,29 @@ ReadsNext known result text left = IfSome known (λ script. IfOk result (λ some
 -- the session of a label was found, or there is no place for one more
 abbrev pub Finds : {D : Type 0} {g : Ghosts D} → Scene → ℕ → Option ℕ → Script D g → Type 0
 Finds old label (Some s) script =
-    (s ≡ session_of old.labels label) × (IsCrowded old label → ⊥) × IsAt script (with_label old label)
-Finds old label None script = IsCrowded old label × IsAt script old
+    (s ≡ labelled_session old.labels label) × (IsLabelTooMany old label → ⊥) × IsAtScene script (with_label old label)
+Finds old label None script = IsLabelTooMany old label × IsAtScene script old
 
 -- it was looked for: memory may be refused where it has a place
-abbrev pub LooksFor : {D : Type 0} {g : Ghosts D} → Scene → ℕ → Result (Option ℕ) ScriptFault → Script D g → Type 0
-LooksFor old label result script =
-    MatchResult result (λ found. Finds old label found script) (λ fault. (fault ≡ Memory) × (IsCrowded old label → ⊥))
+abbrev pub LooksUp : {D : Type 0} {g : Ghosts D} → Scene → ℕ → Result (Option ℕ) ScriptFault → Script D g → Type 0
+LooksUp old label result script =
+    MatchResult result (λ found. Finds old label found script)
+    (λ fault. (fault ≡ Memory) × (IsLabelTooMany old label → ⊥))
 
 -- a request of the session was served, where memory was granted
-pub record Served {D : Type 0} {g : Ghosts D} (hub : Hub D g) (old : HubState) (s : ℕ) : Type 0 where
-  pub front : Front
+pub record ServesRequest {D : Type 0} {g : Ghosts D} (hub : Hub D g) (old : HubState) (s : ℕ) : Type 0 where
+  pub head : Head
   pub failed : Bool
-  pub possible : IsPossible old (Serves s) (granted front failed)
-  pub stands : StandsFor hub (hub_step old (Serves s) (granted front failed)).0
+  pub possible : IsPossible old (Serves s) (granted head failed)
+  pub stands : StandsFor hub (hub_step old (Serves s) (granted head failed)).0
 
 -- or memory was refused
 abbrev pub ServesOrNot : {D : Type 0} {g : Ghosts D} → HubState → ℕ → Result (Unit {0}) ScriptFault → Hub D g → Type 0
-ServesOrNot old s result hub = MatchResult result (λ _. Served hub old s) (λ fault. fault ≡ Memory)
+ServesOrNot old s result hub = MatchResult result (λ _. ServesRequest hub old s) (λ fault. fault ≡ Memory)
 
 -- the bytes were written, or a beginning of them was and the writer failed
-abbrev pub Writes : Bytes → Result (Unit {0}) ScriptFault → Option Bytes → Option Bytes → Type 0
-Writes bytes result before after =
+abbrev pub WritesOrFails : Bytes → Result (Unit {0}) ScriptFault → Option Bytes → Option Bytes → Type 0
+WritesOrFails bytes result before after =
     MatchResult result (λ _. Appends before after bytes) (λ fault. (fault ≡ File) × AppendsPart before after bytes)
 
 -- a line, and what it printed behind what the writer held
@@ -66,7 +67,7 @@ pub record Answers {D : Type 0} {g : Ghosts D} (script : Script D g) (before aft
     → Bytes → Type 0) : Type 0 where
   pub scene : Scene
   pub printed : Bytes
-  pub at : IsAt script scene
+  pub at : IsAtScene script scene
   pub prints : Prints scene printed
   pub appends : Appends before after printed
 
@@ -93,17 +94,18 @@ RunsLine here s line result script before after =
 
 -- the text is a line of a session that there is or that has a place
 abbrev pub IsGood : Scene → Bytes → Type 0
-IsGood scene text = (line : ScriptLine) × IsLine text line × (IsCrowded scene line.label → ⊥)
+IsGood scene text = (line : ScriptLine) × IsLine text line × (IsLabelTooMany scene line.label → ⊥)
 
 -- the text of a line of this number was run, or why it was not
-abbrev pub Runs : {D : Type 0} {g : Ghosts D} → Scene → ℕ → Bytes → Result (Unit {0}) ScriptFault → Script D g
+abbrev pub RunsText : {D : Type 0} {g : Ghosts D} → Scene → ℕ → Bytes → Result (Unit {0}) ScriptFault → Script D g
     → Option Bytes → Option Bytes → Type 0
-Runs old number text (Ok done) script before after = Answers script before after (TextPrints old text)
-Runs old number text (Err (BadLine n)) script before after = (n ≡ number) × IsBad old text × (after ≡ before)
-Runs old number text (Err (Crowded n)) script before after = (n ≡ number) × NamesOneTooMany old text × (after ≡ before)
-Runs old number text (Err Memory) script before after = IsGood old text × (after ≡ before)
-Runs old number text (Err File) script before after = PrintsPart before after (TextPrints old text)
-Runs old number text (Err (Log fault)) script before after = ⊥
+RunsText old number text (Ok done) script before after = Answers script before after (TextPrints old text)
+RunsText old number text (Err (BadLine n)) script before after = (n ≡ number) × IsBadLine old text × (after ≡ before)
+RunsText old number text (Err (Crowded n)) script before after = (n ≡ number) × NamesOneTooMany old text
+    × (after ≡ before)
+RunsText old number text (Err Memory) script before after = IsGood old text × (after ≡ before)
+RunsText old number text (Err File) script before after = PrintsPart before after (TextPrints old text)
+RunsText old number text (Err (Log fault)) script before after = ⊥
 
 -- some lines were run, and the others are still to be read
 pub record RunSoFar {D : Type 0} {g : Ghosts D} (first : Scene) (texts : List Bytes) (number : ℕ) (script : Script D g)
@@ -115,6 +117,6 @@ pub record RunSoFar {D : Type 0} {g : Ghosts D} (first : Scene) (texts : List By
   pub number_is : number ≡ length done + 1
   pub scene : Scene
   pub printed : Bytes
-  pub at : IsAt script scene
+  pub at : IsAtScene script scene
   pub so_far : Transcript first done scene printed
   pub appends : Appends before after printed

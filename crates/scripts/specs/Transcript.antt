@@ -5,7 +5,7 @@ use Rattle.std.specs.Prelude.{Option, Some, None, IfSome, Result, Ok, Err, ◌�
 use Rattle.model.specs.Machine.{opened}
 use Rattle.model.specs.Map.{Bytes}
 use Rattle.sessions.specs.Laws.{IsLawful}
-use Rattle.sessions.specs.SessionStreams.{HubState, HubEvent, Joins, Receives, Serves, Sends, Front, More, Choice}
+use Rattle.sessions.specs.SessionStreams.{HubState, HubEvent, Joins, Receives, Serves, Sends, Head, More, Choice}
 use Rattle.sessions.specs.SessionStreams.{IsPossible, hub_over, hub_step, stream_of}
 use Rattle.sessions.specs.StandsFor.{status_in, room_in, pending_in}
 use Rattle.sessions.specs.declared.events.Status.{Status}
@@ -24,64 +24,65 @@ abbrev pub opening : ℕ → Scene
 opening sectors = record { hub = hub_over (opened [] 2 sectors); labels = [] }
 
 -- what is chosen where memory is granted
-abbrev pub granted : Front → Bool → Choice
-granted front failed = record { front = front; refused = false; failed = failed }
+abbrev pub granted : Head → Bool → Choice
+granted head failed = record { head = head; refused = false; failed = failed }
 
 -- the state after an event that leaves nothing else to choose
-abbrev pub after : HubState → HubEvent → HubState
-after h e = (hub_step h e (granted More false)).0
+abbrev pub hub_after : HubState → HubEvent → HubState
+hub_after h e = (hub_step h e (granted More false)).0
 
 -- ---- labels
 
 abbrev pub place_of : List ℕ → ℕ → Option ℕ
 place_of labels label = position (λ known. known == label) labels
 
-abbrev pub session_at : Option ℕ → List ℕ → ℕ
-session_at (Some s) labels = s
-session_at None labels = length labels
+abbrev pub session_or_next : Option ℕ → List ℕ → ℕ
+session_or_next (Some s) labels = s
+session_or_next None labels = length labels
 
 -- the session of a label: its place, or the next one
-abbrev pub session_of : List ℕ → ℕ → ℕ
-session_of labels label = session_at (place_of labels label) labels
+abbrev pub labelled_session : List ℕ → ℕ → ℕ
+labelled_session labels label = session_or_next (place_of labels label) labels
 
 -- a session joins for a label that is new
 abbrev pub welcome : Option ℕ → Scene → ℕ → Scene
 welcome (Some s) scene label = scene
 welcome None scene label =
-    record { hub = after scene.hub (Joins (length scene.labels)); labels = scene.labels ++ label ∷ [] }
+    record { hub = hub_after scene.hub (Joins (length scene.labels)); labels = scene.labels ++ label ∷ [] }
 
 abbrev pub with_label : Scene → ℕ → Scene
 with_label scene label = welcome (place_of scene.labels label) scene label
 
 -- the label is new, and 128 have come
-abbrev pub IsCrowded : Scene → ℕ → Type 0
-IsCrowded scene label = (place_of scene.labels label ≡ None) × (128 ≤ length scene.labels)
+abbrev pub IsLabelTooMany : Scene → ℕ → Type 0
+IsLabelTooMany scene label = (place_of scene.labels label ≡ None) × (128 ≤ length scene.labels)
 
 -- ---- requests
 
 -- a frame comes in, as far as the inbox takes it
 abbrev pub received : HubState → ℕ → Bytes → HubState
-received h s frame = after h (Receives s (take (room_in (stream_of h s)) frame))
+received h s frame = hub_after h (Receives s (take (room_in (stream_of h s)) frame))
 
 -- one request is served, by what the grammar finds in the inbox; the device may have failed in it. The reply is sent
-pub record Serving (s : ℕ) (old new : HubState) (reply : Bytes) : Type 0 where
-  pub front : Front
+pub record ServesReply (s : ℕ) (old new : HubState) (reply : Bytes) : Type 0 where
+  pub head : Head
   pub failed : Bool
-  pub possible : IsPossible old (Serves s) (granted front failed)
-  pub reply_is : reply ≡ pending_in (stream_of (hub_step old (Serves s) (granted front failed)).0 s)
-  pub new_is : new ≡ after (hub_step old (Serves s) (granted front failed)).0 (Sends s (length reply))
+  pub possible : IsPossible old (Serves s) (granted head failed)
+  pub reply_is : reply ≡ pending_in (stream_of (hub_step old (Serves s) (granted head failed)).0 s)
+  pub new_is : new ≡ hub_after (hub_step old (Serves s) (granted head failed)).0 (Sends s (length reply))
 
 -- a session that is open is answered, and for another nothing is printed
 abbrev pub PrintsIn : Status → Scene → ℕ → ScriptLine → Scene → Bytes → Type 0
 PrintsIn Open here s line new printed =
-    (reply : Bytes) × Serving s (received here.hub s (frame_of line.words)) new.hub reply × (new.labels ≡ here.labels)
+    (reply : Bytes) × ServesReply s (received here.hub s (frame_of line.words)) new.hub reply
+    × (new.labels ≡ here.labels)
     × (printed ≡ printed_line line.label reply)
 PrintsIn other here s line new printed = (new ≡ here) × (printed ≡ [])
 
 abbrev pub LinePrints : Scene → ScriptLine → Scene → Bytes → Type 0
 LinePrints old line new printed =
     let here = with_label old line.label in
-    let s = session_of old.labels line.label in
+    let s = labelled_session old.labels line.label in
     PrintsIn (status_in (stream_of here.hub s)) here s line new printed
 
 -- ---- scripts
@@ -91,7 +92,8 @@ LinePrints old line new printed =
 abbrev pub TextPrints : Scene → Bytes → Scene → Bytes → Type 0
 TextPrints old [] new printed = (new ≡ old) × (printed ≡ [])
 TextPrints old (byte ∷ bytes) new printed =
-    (line : ScriptLine) × IsLine (byte ∷ bytes) line × (IsCrowded old line.label → ⊥) × LinePrints old line new printed
+    (line : ScriptLine) × IsLine (byte ∷ bytes) line × (IsLabelTooMany old line.label → ⊥)
+    × LinePrints old line new printed
 
 -- what texts print, one after the other
 pub data Transcript (first : Scene) : List Bytes → Scene → Bytes → Type 0 where
@@ -101,11 +103,11 @@ pub data Transcript (first : Scene) : List Bytes → Scene → Bytes → Type 0 
       → Transcript first (texts ++ text ∷ []) last (printed ++ more)
 
 -- why no more than these texts were run: the next one, whose number this is
-abbrev pub IsBad : Scene → Bytes → Type 0
-IsBad scene text = (text ≢ []) × IsNoLine text
+abbrev pub IsBadLine : Scene → Bytes → Type 0
+IsBadLine scene text = (text ≢ []) × IsNoLine text
 
 abbrev pub NamesOneTooMany : Scene → Bytes → Type 0
-NamesOneTooMany scene text = (line : ScriptLine) × IsLine text line × IsCrowded scene line.label
+NamesOneTooMany scene text = (line : ScriptLine) × IsLine text line × IsLabelTooMany scene line.label
 
 pub record StopsAt (first : Scene) (texts : List Bytes) (number : ℕ) (printed : Bytes) (Why : Scene → Bytes
     → Type 0) : Type 0 where
@@ -153,7 +155,7 @@ Plays first texts (Ok done) before after =
     (printed : Bytes) × (last : Scene) × Transcript first texts last printed × IsLawful last.hub
     × Appends before after printed
 Plays first texts (Err (BadLine number)) before after =
-    (printed : Bytes) × StopsAt first texts number printed IsBad × Appends before after printed
+    (printed : Bytes) × StopsAt first texts number printed IsBadLine × Appends before after printed
 Plays first texts (Err (Crowded number)) before after =
     (printed : Bytes) × StopsAt first texts number printed NamesOneTooMany × Appends before after printed
 Plays first texts (Err Memory) before after =

@@ -1,7 +1,7 @@
 //! Reads the lines of a script, and writes the lines that are printed.
 ghost use Rattle.std.specs.Prelude.{◌≡◌, ◌≤◌, ◌<◌, ◌++◌, ◌∷◌, [], List, ℕ, length, take, drop, map, slice_index_or};
 ghost use Rattle.std.specs.Prelude.{MatchOption, OnOk, IsTrue, false};
-ghost use Rattle.resp.specs.Writing.{Appends};
+ghost use Rattle.resp.specs.Writing.{AppendsText};
 ghost use Rattle.scripts.specs.Lines.{IsLine, IsNoLine, words_of, part_of, frame_of, on_one_line, printed_line};
 
 use model::Memory;
@@ -86,7 +86,7 @@ impl<'a> Words<'a> {
     // Writes the request of the words behind the first.
     fn write_frame(&self, frame: &mut Vec<u8>) -> Result<(), Memory>
         requires { 0 < length self.now }
-        ensures { Appends frame.old frame.new (frame_of (drop 1 self.now)) result }
+        ensures { AppendsText frame.old frame.new (frame_of (drop 1 self.now)) result }
     {
         let parts = parts_of(&self.parts);
         write_request(frame, &parts[1..self.count])
@@ -160,7 +160,7 @@ impl<'a> Line<'a> {
     /// Writes the words as one request frame behind what `frame` holds. It may grow `frame`; where that is refused, it holds what it
     /// held.
     pub(crate) fn write_frame(&self, frame: &mut Vec<u8>) -> Result<(), Memory>
-        ensures { Appends frame.old frame.new (frame_of self.now.words) result }
+        ensures { AppendsText frame.old frame.new (frame_of self.now.words) result }
     {
         self.words.write_frame(frame)
     }

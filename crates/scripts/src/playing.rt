@@ -4,7 +4,8 @@ ghost use Rattle.sessions.specs.SessionStreams.{HubState};
 ghost use Rattle.sessions.specs.StandsFor.{StandsFor};
 ghost use Rattle.scripts.specs.Faults.{IsFromReading, IsOpening};
 ghost use Rattle.scripts.specs.Transcript.{opening, place_of, received, PlaysKnown};
-ghost use Rattle.scripts.specs.Calls.{IsAt, AtScene, LooksFor, ReadsNext, ServesOrNot, Writes, Runs, RunsLine};
+ghost use Rattle.scripts.specs.Calls.{IsAtScene, AtScene, LooksUp, ReadsNext, ServesOrNot, WritesOrFails, RunsText};
+ghost use Rattle.scripts.specs.Calls.{RunsLine};
 
 use crate::faults::ScriptFault;
 use crate::lines::{Line, write_reply};
@@ -40,7 +41,7 @@ pub fn play<R: Read + Drop, O: Write>(
 
 // A script over an empty log.
 fn open(alloc: Global, sectors: u64) -> Result<Script<MemSectors>, ScriptFault>
-    ensures at { IfOk result (λ script. IsAt script (opening sectors)) }
+    ensures at { IfOk result (λ script. IsAtScene script (opening sectors)) }
     ensures faults { IfErr result IsOpening }
 {
     let mut device = MemSectors::new(alloc, sectors)?;
@@ -91,7 +92,7 @@ impl<D: Sectors> Script<D> {
         text: &[u8],
         out: &mut O,
     ) -> Result<(), ScriptFault>
-        ensures { AtScene self.old (λ scene. Runs scene number text.now result self.new (O.contents out.old) (O.contents out.new)) }
+        ensures { AtScene self.old (λ scene. RunsText scene number text.now result self.new (O.contents out.old) (O.contents out.new)) }
     {
         if text.is_empty() {
             return Ok(());
@@ -107,7 +108,7 @@ impl<D: Sectors> Script<D> {
 
     // The session of a label, which joins where the label is new. None where it is one too many.
     fn session(&mut self, label: usize) -> Result<Option<u64>, ScriptFault>
-        ensures { AtScene self.old (λ scene. LooksFor scene label result self.new) }
+        ensures { AtScene self.old (λ scene. LooksUp scene label result self.new) }
     {
         if let Some(place) = place_of(&self.labels, label) {
             return Ok(Some(place as u64));
@@ -185,7 +186,7 @@ fn serve<D: Sectors>(hub: &mut Hub<D>, session: u64, frame: &[u8]) -> Result<(),
 
 // Writes all of the bytes. Where that fails, the writer may have taken some of the first.
 fn write_out<O: Write>(bytes: &[u8], out: &mut O) -> Result<(), ScriptFault>
-    ensures { Writes bytes.now result (O.contents out.old) (O.contents out.new) }
+    ensures { WritesOrFails bytes.now result (O.contents out.old) (O.contents out.new) }
 {
     let mut rest = bytes;
     for _ in 0..u64::MAX {

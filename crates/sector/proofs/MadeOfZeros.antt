@@ -4,7 +4,7 @@ use Rattle.std.proofs.Common.{slice_get, refl, sym, ap, subst, ◌∙◌, arith}
 use Rattle.std.proofs.lemmas.Grind.{common_steps}
 use Rattle.std.proofs.lemmas.List.{take-replicate, drop-replicate, length-replicate}
 use Rattle.std.proofs.lemmas.Option.{slice_get_within}
-use Rattle.file_calls.specs.OpenFacts.{may_read, may_leave, next}
+use Rattle.file_calls.specs.OpenFacts.{may_read, may_leave, file_after_call}
 use Rattle.file_calls.specs.declared.counted.CountedFile.{CountedFile}
 use Rattle.sector.specs.FileModel.{FileKeepsModel}
 use Rattle.sector.specs.FileOpening.{WasMadeOfZeros}
@@ -25,13 +25,16 @@ pub made_of_zeros : (path : List ℕ) (count : ℕ) (now : CountedFile) → File
 made_of_zeros path count now keeps made =
     let first : CountedFile = made.first in
     let write = keeps.writes first 0 (replicate (count * 512) 0) true made.zeros in
-    let settles = (keeps.syncs (next first) true made.settled).settles refl in
+    let settles = (keeps.syncs (file_after_call first) true made.settled).settles refl in
     let size : length settles.image ≡ count = settles.settled.size_is ∙ made.size in
     let long = length-replicate {A = ℕ} (count * 512) 0 in
     let is : settles.image ≡ replicate count (replicate 512 0) = all_same settles.image count (replicate 512 0) size (λ i x found.
     let lt : i < count = omega (arith, slice_get_within settles.image i x found, size) in
     let place : i ≡ 0 + i = omega arith in
-    write.written refl i x (omega (arith, long, lt)) (subst (λ (j : ℕ). may_read (next first) j x) place (settles.was_read i x found)) ∙ zeros_in count i lt) in
+    write.written refl i x (omega (arith, long, lt)) (subst (λ (j : ℕ). may_read (file_after_call first) j x) place (settles.was_read i x found))
+    ∙ zeros_in count i lt) in
     subst (λ (f : CountedFile). IsSettled count (may_read f) (may_leave f) (replicate count (replicate 512 0))) (sym made.now_is)
-    (subst (λ (l : List (List ℕ)). IsSettled count (may_read (next (next first))) (may_leave (next (next first))) l) is
-    (subst (λ (n : ℕ). IsSettled n (may_read (next (next first))) (may_leave (next (next first))) settles.image) made.size settles.settled))
+    (subst (λ (l : List (List ℕ)). IsSettled count (may_read (file_after_call (file_after_call first)))
+    (may_leave (file_after_call (file_after_call first))) l) is
+    (subst (λ (n : ℕ). IsSettled n (may_read (file_after_call (file_after_call first)))
+    (may_leave (file_after_call (file_after_call first))) settles.image) made.size settles.settled))

@@ -7,7 +7,7 @@
 -- asks the system to drop its copies after its first sync.
 use Rattle.std.specs.Prelude.{◌≡◌, ℕ, ◌*◌, ◌/◌, ◌≤◌, Bool, true, List, length, replicate}
 use Rattle.file_calls.specs.HappenedCalls.{WasRead, WasWritten, WasSynced}
-use Rattle.file_calls.specs.OpenFacts.{may_read, may_leave, moment, left_since, next}
+use Rattle.file_calls.specs.OpenFacts.{may_read, may_leave, moment, left_since, file_after_call}
 use Rattle.file_calls.specs.declared.counted.CountedFile.{CountedFile}
 use Rattle.sector.specs.SectorModel.{FollowsBytes, IsSettled, LeavesNoMore, MightRead, ReadsBytes, ReadsNoMore}
 use Rattle.sector.specs.SectorModel.{ReadsNoMoreOutside, Settles, TimeGoesOn}
@@ -19,23 +19,24 @@ TimeKeeps old new = TimeGoesOn moment left_since old new (may_leave new)
 -- a read of whole sectors gave what might be read, and changed nothing
 pub record ReadKeeps (f : CountedFile) (at : ℕ) (bytes : List ℕ) (ok : Bool) : Type 0 where
   pub gives : ok ≡ true → MightRead (may_read f) at (length bytes / 512) bytes
-  pub reads : ReadsNoMore (may_read f) (may_read (next f))
-  pub crash : LeavesNoMore (may_leave f) (may_leave (next f))
-  pub time : TimeKeeps f (next f)
+  pub reads : ReadsNoMore (may_read f) (may_read (file_after_call f))
+  pub crash : LeavesNoMore (may_leave f) (may_leave (file_after_call f))
+  pub time : TimeKeeps f (file_after_call f)
 
 -- a write of whole sectors changed no other, and where it succeeded reads give what was written
 pub record WriteKeeps (f : CountedFile) (at : ℕ) (bytes : List ℕ) (ok : Bool) : Type 0 where
-  pub written : ok ≡ true → ReadsBytes (may_read (next f)) at bytes
-  pub others : ReadsNoMoreOutside at (length bytes / 512) (may_read f) (may_read (next f))
-  pub crash : LeavesNoMore (FollowsBytes at bytes (may_leave f)) (may_leave (next f))
-  pub time : TimeKeeps f (next f)
+  pub written : ok ≡ true → ReadsBytes (may_read (file_after_call f)) at bytes
+  pub others : ReadsNoMoreOutside at (length bytes / 512) (may_read f) (may_read (file_after_call f))
+  pub crash : LeavesNoMore (FollowsBytes at bytes (may_leave f)) (may_leave (file_after_call f))
+  pub time : TimeKeeps f (file_after_call f)
 
 -- a sync changed nothing, and where it succeeded it settled every sector
 pub record SyncKeeps (f : CountedFile) (ok : Bool) : Type 0 where
-  pub settles : ok ≡ true → Settles f.sectors (may_read f) (may_read (next f)) (may_leave f) (may_leave (next f))
-  pub reads : ReadsNoMore (may_read f) (may_read (next f))
-  pub crash : LeavesNoMore (may_leave f) (may_leave (next f))
-  pub time : TimeKeeps f (next f)
+  pub settles : ok ≡ true → Settles f.sectors (may_read f) (may_read (file_after_call f)) (may_leave f)
+      (may_leave (file_after_call f))
+  pub reads : ReadsNoMore (may_read f) (may_read (file_after_call f))
+  pub crash : LeavesNoMore (may_leave f) (may_leave (file_after_call f))
+  pub time : TimeKeeps f (file_after_call f)
 
 -- reads give so many sectors of zeros, and a crash leaves nothing else
 abbrev pub HoldsZeros : ℕ → CountedFile → Type 0

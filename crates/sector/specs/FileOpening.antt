@@ -4,8 +4,8 @@ use Rattle.std.specs.Prelude.{◌≡◌, ◌≢◌, ◌⊎◌, ℕ, ◌*◌, ◌
 use Rattle.std.specs.declared.io.Error.{Error}
 use Rattle.std.specs.declared.io.ErrorKind.TheVariants.{InvalidData}
 use Rattle.file_calls.specs.HappenedCalls.{WasAnswered, WasMade, WasOpened, WasOpenedToRead, WasWritten, WasSynced}
-use Rattle.file_calls.specs.HappenedCalls.{HadLength, HadNameSettled}
-use Rattle.file_calls.specs.OpenFacts.{next}
+use Rattle.file_calls.specs.HappenedCalls.{HadLength, HadNameSynced}
+use Rattle.file_calls.specs.OpenFacts.{file_after_call}
 use Rattle.file_calls.specs.declared.counted.CountedFile.{CountedFile}
 use Rattle.file_calls.specs.declared.opened.OpenedFile.{OpenedFile}
 
@@ -17,24 +17,24 @@ pub record WasMadeOfZeros (path : List ℕ) (count : ℕ) (now : CountedFile) : 
   pub none_before : first.calls ≡ 0
   pub made : WasMade first.file path
   pub zeros : WasWritten first 0 (replicate (count * 512) 0) true
-  pub settled : WasSynced (next first) true
-  pub name : HadNameSettled first.file path
-  pub now_is : now ≡ next (next first)
+  pub settled : WasSynced (file_after_call first) true
+  pub name : HadNameSynced first.file path
+  pub now_is : now ≡ file_after_call (file_after_call first)
 
 -- its length is that of its sectors, and it wasn't read, written or synced yet
-pub record IsWhole (now : CountedFile) : Type 0 where
+pub record IsNewlyOpened (now : CountedFile) : Type 0 where
   pub none_before : now.calls ≡ 0
   pub length : HadLength now.file (now.sectors * 512)
 
 -- the file of this name was opened to be read and written, and its directory was synced
 pub record WasOpenedWhole (path : List ℕ) (now : CountedFile) : Type 0 where
-  pub whole : IsWhole now
+  pub whole : IsNewlyOpened now
   pub opened : WasOpened now.file path
-  pub name : HadNameSettled now.file path
+  pub name : HadNameSynced now.file path
 
 -- the file of this name was opened to be read alone
 pub record WasOpenedWholeToRead (path : List ℕ) (now : CountedFile) : Type 0 where
-  pub whole : IsWhole now
+  pub whole : IsNewlyOpened now
   pub opened : WasOpenedToRead now.file path
 
 -- its length is no number of whole sectors

@@ -4,7 +4,7 @@ use Rattle.std.specs.Borrow.{Bor}
 use Rattle.std.specs.Option.{is_none}
 use Rattle.std.specs.Prelude.{◌≡◌, ◌⊎◌, ◌<◌, ◌-◌, ℕ, suc, Bool, false, List, [], ◌∷◌, length, map, slice_get}
 use Rattle.std.specs.Prelude.{slice_index_or, slice_set, All, Some, None, IfSome, unwrap_or, refl}
-use Rattle.sector.specs.Failures.{greatest}
+use Rattle.sector.specs.Failures.{count_max}
 use Rattle.sector.specs.declared.memory.MemSectors.{MemSectors}
 use Rattle.sector.specs.declared.memory.Slot.{Slot}
 
@@ -101,8 +101,8 @@ calls_to_failure device = device.failing_call
 
 -- the next call is to fail, or the count of failures stands at its end
 abbrev pub FailsNext : MemSectors → Type 0
-FailsNext device = (calls_to_failure device ≡ 1) ⊎ (device.failures ≡ greatest)
+FailsNext device = (calls_to_failure device ≡ 1) ⊎ (device.failures ≡ count_max)
 
 -- the call that is to fail has come one nearer
 abbrev pub CountsDown : MemSectors → MemSectors → Type 0
-CountsDown old new = old.failures < greatest → calls_to_failure new ≡ calls_to_failure old - 1
+CountsDown old new = old.failures < count_max → calls_to_failure new ≡ calls_to_failure old - 1

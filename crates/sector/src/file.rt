@@ -3,10 +3,10 @@ ghost use Rattle.std.specs.Prelude.{true, false, ◌≡◌, ◌≢◌, ◌<◌, 
 ghost use Rattle.std.specs.Prelude.{IsOk, IsErrAnd, OnOk, OnErr, replicate, IfErr, Bool, length};
 ghost use Rattle.std.specs.IoError.{error_kind};
 ghost use Rattle.file_calls.specs.HappenedCalls.{WasClosed, WasOpened, WasOpenedToRead, WasRead, WasWritten};
-ghost use Rattle.file_calls.specs.HappenedCalls.{WasSynced, HadNameSettled, HadCopiesDropped};
-ghost use Rattle.file_calls.specs.OpenFacts.{next};
-ghost use Rattle.sector.specs.Failures.{IsCounted, Tells, greatest};
-ghost use Rattle.sector.specs.FileOpening.{WasMadeOfZeros, WasOpenedWhole, WasOpenedWholeToRead, IsWhole};
+ghost use Rattle.file_calls.specs.HappenedCalls.{WasSynced, HadNameSynced, HadCopiesDropped};
+ghost use Rattle.file_calls.specs.OpenFacts.{file_after_call};
+ghost use Rattle.sector.specs.Failures.{IsCounted, ReportsOutcome, count_max};
+ghost use Rattle.sector.specs.FileOpening.{WasMadeOfZeros, WasOpenedWhole, WasOpenedWholeToRead, IsNewlyOpened};
 ghost use Rattle.sector.specs.FileOpening.{WhyNotOpened};
 
 use crate::{DeviceFault, SECTOR_SIZE, Sector, Sectors};
@@ -75,7 +75,7 @@ impl FileSectors {
         ensures refused { IfErr result (λ e. WhyNotOpened (λ f. WasOpened f path.now) e) }
     {
         let file = OpenedFile::open(rt, path)?;
-        file.settle_name(rt, path)?;
+        file.sync_name(rt, path)?;
         with_whole_sectors(file, true)
     }
 
@@ -110,8 +110,8 @@ impl FileSectors {
     }
 
     /// Counts a call of the file, and reports how it ended. Where the count stands at its end, each call fails.
-    fn told(&mut self, outcome: io::Result<()>) -> Result<(), DeviceFault>
-        ensures told { IsOk result ↔ (IsOk outcome × (self.old.failures < greatest)) }
+    fn reported(&mut self, outcome: io::Result<()>) -> Result<(), DeviceFault>
+        ensures reported { IsOk result ↔ (IsOk outcome × (self.old.failures < count_max)) }
         ensures file { self.new.file ≡ self.old.file }
         ensures failures { IsCounted result self.old.failures self.new.failures }
     {
@@ -141,7 +141,7 @@ impl FileSectors {
 fn with_whole_sectors(file: OpenedFile, drops_copies: bool) -> io::Result<FileSectors>
     ensures failures { IfOk result (λ f. f.failures ≡ 0) }
     ensures file { IfOk result (λ f. f.file.file ≡ file) }
-    ensures whole { IfOk result (λ f. IsWhole f.file) }
+    ensures whole { IfOk result (λ f. IsNewlyOpened f.file) }
     ensures drops { IfOk result (λ f. f.drops_copies ≡ drops_copies) }
     ensures refused { IfErr result (λ e. WhyNotOpened (λ f. f ≡ file) e) }
 {
@@ -176,13 +176,13 @@ fn settle_zeros<R: Files<File = File>>(
     len: u64,
 ) -> io::Result<()>
     ensures zeros { OnOk result (WasWritten file.old 0 (replicate len 0) true) }
-    ensures settled { OnOk result (WasSynced (next file.old) true) }
-    ensures name { OnOk result (HadNameSettled file.old.file path.now) }
-    ensures calls { OnOk result (file.new ≡ next (next file.old)) }
+    ensures settled { OnOk result (WasSynced (file_after_call file.old) true) }
+    ensures name { OnOk result (HadNameSynced file.old.file path.now) }
+    ensures calls { OnOk result (file.new ≡ file_after_call (file_after_call file.old)) }
 {
     file.write_zeros(len)?;
     file.sync_all()?;
-    file.opened().settle_name(rt, path)
+    file.opened().sync_name(rt, path)
 }
 
 // Each call of the device is one call of the file; from the premise on files it then follows what the trait says of it.
@@ -219,8 +219,8 @@ impl Sectors for FileSectors {
         requires { at ≤ self.old.file.sectors }
         ensures failures { IsCounted result self.old.failures self.new.failures }
         ensures long { length into.new ≡ 512 }
-        ensures one_call { self.new.file ≡ next self.old.file }
-        ensures happened { Tells result self.old.failures (WasRead self.old.file (at * 512) into.new) }
+        ensures one_call { self.new.file ≡ file_after_call self.old.file }
+        ensures happened { ReportsOutcome result self.old.failures (WasRead self.old.file (at * 512) into.new) }
     {
         self.read_sectors(at, into)
     }
@@ -230,8 +230,8 @@ impl Sectors for FileSectors {
         requires { at ≤ self.old.file.sectors }
         ensures failures { IsCounted result self.old.failures self.new.failures }
         ensures long { length from.now ≡ 512 }
-        ensures one_call { self.new.file ≡ next self.old.file }
-        ensures happened { Tells result self.old.failures (WasWritten self.old.file (at * 512) from.now) }
+        ensures one_call { self.new.file ≡ file_after_call self.old.file }
+        ensures happened { ReportsOutcome result self.old.failures (WasWritten self.old.file (at * 512) from.now) }
     {
         self.write_sectors(at, from)
     }
@@ -241,29 +241,29 @@ impl Sectors for FileSectors {
         requires { at ≤ self.old.file.sectors }
         ensures failures { IsCounted result self.old.failures self.new.failures }
         ensures long { length into.new ≡ length into.old }
-        ensures one_call { self.new.file ≡ next self.old.file }
-        ensures happened { Tells result self.old.failures (WasRead self.old.file (at * 512) into.new) }
+        ensures one_call { self.new.file ≡ file_after_call self.old.file }
+        ensures happened { ReportsOutcome result self.old.failures (WasRead self.old.file (at * 512) into.new) }
     {
         let outcome = self.file.read(at * SECTOR_SIZE as u64, into);
-        self.told(outcome)
+        self.reported(outcome)
     }
 
     /// It makes one call of the file: one that failed isn't tried again.
     fn write_sectors(&mut self, at: u64, from: &[u8]) -> Result<(), DeviceFault>
         requires { at ≤ self.old.file.sectors }
         ensures failures { IsCounted result self.old.failures self.new.failures }
-        ensures one_call { self.new.file ≡ next self.old.file }
-        ensures happened { Tells result self.old.failures (WasWritten self.old.file (at * 512) from.now) }
+        ensures one_call { self.new.file ≡ file_after_call self.old.file }
+        ensures happened { ReportsOutcome result self.old.failures (WasWritten self.old.file (at * 512) from.now) }
     {
         let outcome = self.file.write(at * SECTOR_SIZE as u64, from);
-        self.told(outcome)
+        self.reported(outcome)
     }
 
     /// It makes one call of the file: one that failed isn't tried again. Of a file that was opened, the first that succeeds then drops the
     /// system's copies of its pages; where these can't be dropped, it fails.
     fn sync(&mut self) -> Result<(), DeviceFault>
         ensures failures { IsCounted result self.old.failures self.new.failures }
-        ensures one_call { self.new.file ≡ next self.old.file }
+        ensures one_call { self.new.file ≡ file_after_call self.old.file }
         ensures happened { (ok : Bool) × WasSynced self.old.file ok × (IsOk result → ok ≡ true) }
 
         // Where the system's copies were still to be dropped, they were.
@@ -273,6 +273,6 @@ impl Sectors for FileSectors {
             Ok(()) => self.drop_copies(),
             Err(error) => Err(error),
         };
-        self.told(outcome)
+        self.reported(outcome)
     }
 }

@@ -244,7 +244,7 @@ impl Sectors for MemSectors {
         ensures gives { OnOk result (MayRead self.old at into.new) }
 
         // The call fails exactly where it was to fail, or the count of failures stands at its end.
-        ensures told { IsErr result ↔ FailsNext self.old }
+        ensures reported { IsErr result ↔ FailsNext self.old }
         ensures next { CountsDown self.old self.new }
 
         // A read settles nothing.
@@ -264,7 +264,7 @@ impl Sectors for MemSectors {
         ensures crash { FollowsWrite at (MayBeLeft self.old) (MayBeLeft self.new) }
 
         // The call fails exactly where it was to fail, or the count of failures stands at its end.
-        ensures told { IsErr result ↔ FailsNext self.old }
+        ensures reported { IsErr result ↔ FailsNext self.old }
         ensures next { CountsDown self.old self.new }
 
         // Whether or not it failed, the sector was written and is unsettled, and the others are as they were.
@@ -289,7 +289,7 @@ impl Sectors for MemSectors {
         ensures crash { LeavesNoMore (MayBeLeft self.old) (MayBeLeft self.new) }
 
         // The call fails exactly where it was to fail, or the count of failures stands at its end.
-        ensures told { IsErr result ↔ FailsNext self.old }
+        ensures reported { IsErr result ↔ FailsNext self.old }
         ensures next { CountsDown self.old self.new }
 
         // It settles each sector, or where it fails none.

@@ -9,7 +9,7 @@ use Rattle.std.specs.Map.{lookup, remove_entry, set_value}
 use Rattle.engine.specs.Meaning.{StandsFor as EngineStandsFor}
 use Rattle.sessions.specs.Calls.{Aborts, HasEffect, ServesSession, chosen, has_failed}
 use Rattle.sessions.specs.SessionStreams.{Outcome, HubState, SessionState, SessionStream, HubEvent, Leaves, Serves}
-use Rattle.sessions.specs.SessionStreams.{Front, More, Choice, IsPossible, hub_step, stream_of, Continued}
+use Rattle.sessions.specs.SessionStreams.{Head, More, Choice, IsPossible, hub_step, stream_of, Continued}
 use Rattle.sessions.specs.SessionStreams.{Done as OfDone}
 use Rattle.sessions.specs.StandsFor.{Ghosts, Hub, StandsFor, HubLeads, at_hand, status_or_absent, room_or_none}
 use Rattle.sessions.specs.StandsFor.{pending_or_none, status_of, room_of, pending_of, status_in, room_in, pending_in}
@@ -78,13 +78,13 @@ pub record IsAfter {D : Type 0} {g : Ghosts D} (new : Hub D g) (outcome : Outcom
   pub latest : new.latest ≡ r.0.latest
   pub outcome_is : outcome ≡ r.1
 
-module _ {D : Type 0} {g : Ghosts D} (old new : Hub D g) (e : HubEvent) (outcome : Outcome) (front : Front) where
+module _ {D : Type 0} {g : Ghosts D} (old new : Hub D g) (e : HubEvent) (outcome : Outcome) (head : Head) where
   -- memory was refused as the outcome says, and the device failed as its count says
-  abbrev pub told : Choice
-  told = chosen front outcome (has_failed old.engine new.engine)
+  abbrev pub made : Choice
+  made = chosen head outcome (has_failed old.engine new.engine)
 
-  pub leads : ((h : HubState) → StandsFor old h → IsPossible h e told × IsAfter new outcome (hub_step h e told)) → HubLeads old new e outcome
-  leads f = (told, refl, refl, λ h stands. (let x = f h stands in let reached = Continued h e told x.0 stands.reached in grind (arith, common_steps)))
+  pub leads : ((h : HubState) → StandsFor old h → IsPossible h e made × IsAfter new outcome (hub_step h e made)) → HubLeads old new e outcome
+  leads f = (made, refl, refl, λ h stands. (let x = f h stands in let reached = Continued h e made x.0 stands.reached in grind (arith, common_steps)))
 
 pub serves : {D : Type 0} {g : Ghosts D} (old new : Hub D g) (s : ℕ) (before after : SessionState) (outcome : Outcome)
     → Some before ≡ lookup (test s) old.sessions → new.sessions ≡ set_value (test s) old.sessions after → new.latest ≡ old.latest
@@ -92,7 +92,7 @@ pub serves : {D : Type 0} {g : Ghosts D} (old new : Hub D g) (s : ℕ) (before a
 unfolding hub_step
 serves old new s before after outcome found sessions latest x = leads old new (Serves s) outcome x.0 (λ h stands. (
     let f = stream-some old h stands s before found in
-    let E : SessionState → Type 0 = λ n. HasEffect old.engine new.engine s (told old new (Serves s) outcome x.0) h.machine n after outcome in
+    let E : SessionState → Type 0 = λ n. HasEffect old.engine new.engine s (made old new (Serves s) outcome x.0) h.machine n after outcome in
     let effect = subst E (sym f.now) (x.1 h.machine stands.engine) in (
       rw f.is effect.possible,
       rw f.is (record {

@@ -11,7 +11,7 @@ use Rattle.model.specs.Map.{Bytes}
 use Rattle.model.specs.Verdict.{verdict}
 use Rattle.sessions.specs.SessionStreams.{Unknown, Idle, NoRoom, BadCount, HubState, ArePossible, HubEvent, Choice}
 use Rattle.sessions.specs.SessionStreams.{hub_step, run, outcomes, stream_of, Joins, Receives, Serves, Sends, Leaves}
-use Rattle.sessions.specs.SessionStreams.{Whole, More, SessionStream, Front, hub_over, Bad, Done}
+use Rattle.sessions.specs.SessionStreams.{Whole, More, SessionStream, Head, hub_over, Bad, Done}
 use Rattle.sessions.specs.StandsFor.{room_in, pending_in, status_in}
 use Rattle.sessions.specs.declared.events.Status.TheVariants.{Absent, Ending}
 
@@ -19,8 +19,8 @@ start : HubState
 start = hub_over (opened [] 2 4096)
 
 -- memory and the device hold
-abbrev chosen : Front → Choice
-chosen front = record { front = front; refused = false; failed = false }
+abbrev chosen : Head → Choice
+chosen head = record { head = head; refused = false; failed = false }
 
 -- ---- joins that are refused, two requests in one piece, a count that is too great
 
@@ -47,7 +47,7 @@ hub_events-after : (room_in (stream_of (after 5) 5) ≡ inbox_max - 28) × (pend
 unfolding start ping hub_step digits step command_in alone_in
 hub_events-after = (refl, refl, refl, refl)
 
--- ---- the fronts are those that the grammar finds
+-- ---- the heads are those that the grammar finds
 
 ping_is_part : IsPart (codes "PING")
 ping_is_part = record { short = lit≤ tt; bytes = All-from_recursion (λ b. b < 256) (codes "PING") (lit< tt, (lit< tt, (lit< tt, (lit< tt, tt)))) }

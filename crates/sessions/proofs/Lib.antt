@@ -2,9 +2,9 @@ pub mod RequestSteps
 pub mod EventSteps
 pub mod StreamLaws
 pub mod Reached
-pub mod LifeLaws
+pub mod FoundMapLaws
 pub mod Runs
-pub mod LivesLaws
+pub mod RestartLaws
 pub mod HubEvents
 pub mod Places
 pub mod ReplyLengths

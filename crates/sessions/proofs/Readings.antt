@@ -33,11 +33,11 @@ use Rattle.sessions.proofs.Sendable.{IsFitOperation, IsKeyOfBytes, IsFitState, l
 use Rattle.sessions.specs.Laws.{Ran}
 use Rattle.sessions.specs.Readings.{HasOneReading, HaveOneReading, RunsHaveOneReading}
 use Rattle.sessions.specs.SessionStreams.{asks, or_faulty, HubState, SessionStream, HubEvent, Joins, Receives, Serves}
-use Rattle.sessions.specs.SessionStreams.{Sends, Effect, SessionState, serve, serve_front, served_with, out_of_memory}
-use Rattle.sessions.specs.SessionStreams.{no_effect, may_serve, IsServed, IsFront, receive, send, depart}
-use Rattle.sessions.specs.SessionStreams.{serve_session, join, stream_of, IsServePossible, is_above, new_stream}
-use Rattle.sessions.specs.SessionStreams.{with_stream, Outcome, Leaves, Choice, IsPossible, ArePossible, hub_step}
-use Rattle.sessions.specs.SessionStreams.{run, hub_over, Front, Whole, More, Bad}
+use Rattle.sessions.specs.SessionStreams.{Sends, Effect, SessionState, serve_choice, serve_head, served_with}
+use Rattle.sessions.specs.SessionStreams.{out_of_memory, no_effect, may_serve, IsChoiceFor, IsHead, receive, send}
+use Rattle.sessions.specs.SessionStreams.{depart, serve_session, join, stream_of, IsServePossible, is_above}
+use Rattle.sessions.specs.SessionStreams.{new_stream, with_stream, Outcome, Leaves, Choice, IsPossible, ArePossible}
+use Rattle.sessions.specs.SessionStreams.{hub_step, run, hub_over, Head, Whole, More, Bad}
 use Rattle.sessions.specs.StandsFor.{Ghosts, Hub}
 
 -- ---- requests
@@ -128,14 +128,14 @@ module _ (parts : List Bytes) (h : IsRequest parts) where
     where
       asked : (r : Result Operation Refusal) → GivesAsked r → IsFitOperation (or_faulty r)
       asked (Ok q) fits = fits
-      asked (Err refusal) of_form = told refusal of_form
+      asked (Err refusal) of_form = can_send refusal of_form
         where
-          told : (refusal : Refusal) → IsOfForm refusal → IsSendable (Refused refusal)
-          told refusals.UnknownCommand h = tt
-          told refusals.BadArguments h = tt
-          told refusals.BadKey h = tt
-          told refusals.BadLimit h = tt
-          told refusal h = absurd h
+          can_send : (refusal : Refusal) → IsOfForm refusal → IsSendable (Refused refusal)
+          can_send refusals.UnknownCommand h = tt
+          can_send refusals.BadArguments h = tt
+          can_send refusals.BadKey h = tt
+          can_send refusals.BadLimit h = tt
+          can_send refusal h = absurd h
 
 -- ---- what a Serve replies
 
@@ -146,17 +146,17 @@ abbrev IsFitEffect : Effect → Type 0
 IsFitEffect e = IsFitState e.machine × AreSendable e.replies
 
 module _ (c : Choice) (m : State) (s : ℕ) (n : SessionState) (h : IsFitState m) where
-  front_fits : (f : Front) → IsFront n.inbox f → IsFitEffect (serve_front f c m s n)
-  front_fits (Whole parts used) front =
-      let answer = step_fits m h s (asks parts) c.failed (asks_fits parts front.1.0) in
+  head_fits : (f : Head) → IsHead n.inbox f → IsFitEffect (serve_head f c m s n)
+  head_fits (Whole parts used) head =
+      let answer = step_fits m h s (asks parts) c.failed (asks_fits parts head.1.0) in
       by_case IsFitEffect c.refused (out_of_memory m s) (served_with (step m s (asks parts) c.failed) n parts used)
       (leave_fits m h s, tt) (answer.0, (answer.1, tt))
-  front_fits More front = (h, tt)
-  front_fits Bad front = (leave_fits m h s, (tt, tt))
+  head_fits More head = (h, tt)
+  head_fits Bad head = (leave_fits m h s, (tt, tt))
 
-  serve_fits : (IsTrue (may_serve n) → IsServed m s n.inbox c) → IsFitEffect (serve c m s n)
-  serve_fits possible = cond_both (may_serve n) (serve_front c.front c m s n) (no_effect m n) IsFitEffect
-      (λ may. front_fits c.front (possible may).0) (λ _. (h, tt))
+  serve_fits : (IsTrue (may_serve n) → IsChoiceFor m s n.inbox c) → IsFitEffect (serve_choice c m s n)
+  serve_fits possible = cond_both (may_serve n) (serve_head c.head c m s n) (no_effect m n) IsFitEffect
+      (λ may. head_fits c.head (possible may).0) (λ _. (h, tt))
 
 -- ---- the streams of a hub
 
@@ -218,7 +218,7 @@ module _ (h : HubState) (w : IsFitHub h) where
       record {
         machine = effect.0;
         present = sendable-set (is_at (nat_cmp s)) h.present _ w.present
-            (all-append IsSendable st.replies (serve c h.machine s st.now).replies (stream_sendable s st is) effect.1);
+            (all-append IsSendable st.replies (serve_choice c h.machine s st.now).replies (stream_sendable s st is) effect.1);
         gone = w.gone;
       }
 
@@ -258,7 +258,7 @@ read_whole read all p q e =
 has_one_reading : (st : SessionStream) → AreSendable st.replies → HasOneReading st
 has_one_reading st all = record {
   sendable = sendable;
-  front = λ read more ok e. first_replies read st.replies more ok sendable e;
+  head = λ read more ok e. first_replies read st.replies more ok sendable e;
   whole = λ read ok e. read_whole read st.replies ok sendable e;
 }
   where

@@ -15,13 +15,13 @@ use Rattle.snapshot.proofs.Copies.{writes-made}
 use Rattle.engine.proofs.Requests.{none_read_only, read_only}
 use Rattle.engine.specs.Changes.{AddsOneAtMost, entry_of}
 use Rattle.engine.specs.Meaning.{IsReadOnly, has_writes}
-use Rattle.engine.specs.Meaning.{StandsFor as EngineStandsFor, has_written as has_engine_written}
+use Rattle.engine.specs.Meaning.{StandsFor as EngineStandsFor, has_engine_written}
 use Rattle.engine.specs.declared.engine.Engine.{Engine}
 use Rattle.sessions.proofs.Reached.{reached}
 use Rattle.sessions.proofs.StreamLaws.{by_if}
 use Rattle.sessions.specs.SessionStreams.{Outcome, HubState, SessionState, HubEvent, Joins, Receives}
-use Rattle.sessions.specs.SessionStreams.{Serves, Sends, Leaves, Front, Whole, More, Bad, Choice, Effect, hub_step}
-use Rattle.sessions.specs.SessionStreams.{stream_of, serve, serve_front, serve_session, may_serve, asks}
+use Rattle.sessions.specs.SessionStreams.{Serves, Sends, Leaves, Head, Whole, More, Bad, Choice, Effect, hub_step}
+use Rattle.sessions.specs.SessionStreams.{stream_of, serve_choice, serve_head, serve_session, may_serve, asks}
 use Rattle.sessions.specs.StandsFor.{Ghosts, Hub, StandsFor, HubLeads, CountsRecords, has_written, log}
 use Rattle.sessions.specs.StandsFor.{records_of}
 
@@ -75,13 +75,13 @@ EventAdds m e n = (n.used ≡ m.used) ⊎ ((s : ℕ) × (e ≡ Serves s) × (IsR
 abbrev Effected : State → ℕ → Effect → Type 0
 Effected m s e = Adds m s e.machine
 
-served_adds : (c : Choice) (m : State) (s : ℕ) (n : SessionState) → Adds m s (serve c m s n).machine
-served_adds c m s n = by_if (Effected m s) (may_serve n) _ _ (front c.front) (inl refl)
+served_adds : (c : Choice) (m : State) (s : ℕ) (n : SessionState) → Adds m s (serve_choice c m s n).machine
+served_adds c m s n = by_if (Effected m s) (may_serve n) _ _ (head c.head) (inl refl)
   where
-    front : (f : Front) → Adds m s (serve_front f c m s n).machine
-    front (Whole parts used) = by_if (Effected m s) c.refused _ _ (inl refl) (step_adds m s c.failed (asks parts))
-    front More = inl refl
-    front Bad = inl refl
+    head : (f : Head) → Adds m s (serve_head f c m s n).machine
+    head (Whole parts used) = by_if (Effected m s) c.refused _ _ (inl refl) (step_adds m s c.failed (asks parts))
+    head More = inl refl
+    head Bad = inl refl
 
 by_serve : (m n : State) (s : ℕ) → Adds m s n → EventAdds m (Serves s) n
 by_serve m n s (inl same) = inl same
@@ -93,7 +93,7 @@ event_adds h (Joins s) c = inl (grind (arith, common_steps))
 event_adds h (Receives s piece) c = inl (grind (arith, common_steps))
 event_adds h (Serves s) c = elim (stream_of h s) as (λ o. EventAdds h.machine (Serves s) (serve_session o h s c).0.machine) [
   | None ↦ inl refl
-  | Some st ↦ by_serve h.machine (serve c h.machine s st.now).machine s (served_adds c h.machine s st.now)
+  | Some st ↦ by_serve h.machine (serve_choice c h.machine s st.now).machine s (served_adds c h.machine s st.now)
 ]
 event_adds h (Sends s n) c = inl (grind (arith, common_steps))
 event_adds h (Leaves s) c = inl (grind (arith, common_steps))

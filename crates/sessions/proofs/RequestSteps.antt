@@ -22,9 +22,9 @@ use Rattle.engine.specs.declared.faults.EngineFault.TheVariants.{Refused as Refu
 use Rattle.engine.specs.declared.faults.ReadFault.{ReadFault}
 use Rattle.sessions.specs.Calls.{Writes, Executes, has_failed, refusal_to_read, LeavesSame, Aborts, HasEffect}
 use Rattle.sessions.specs.Calls.{ServesSession}
-use Rattle.sessions.specs.Crashes.{SurvivesCommit, SurvivesRequest, SurvivesFront}
+use Rattle.sessions.specs.Crashes.{SurvivesCommit, SurvivesRequest, SurvivesHead}
 use Rattle.sessions.specs.SessionStreams.{Open, Ending, Idle as OfIdle, Outcome, takes_memory, SessionState, Choice}
-use Rattle.sessions.specs.SessionStreams.{IsServed, Whole, More, Bad, IsFront, asks, bad_frame, serve_front}
+use Rattle.sessions.specs.SessionStreams.{IsChoiceFor, Whole, More, Bad, IsHead, asks, bad_frame, serve_head}
 use Rattle.sessions.specs.SessionStreams.{may_serve, Refused, Done as OfDone, Memory as OfMemory}
 
 -- ---- the machine
@@ -135,36 +135,36 @@ pub nothing_pending : (opened : Bool) (xs : Bytes) → (if opened then length xs
 nothing_pending opened xs there = grind (arith, common_steps)
 
 module _ {D : Type 0} {g : Ghosts D} (old new : Engine D g) (s : ℕ) (before after : SessionState) (may : may_serve before ≡ true) where
-  effects : (c : Choice) (m : State) (outcome : Outcome) → IsServed m s before.inbox c → StandsFor new (serve_front c.front c m s before).machine
-      → after ≡ (serve_front c.front c m s before).now → outcome ≡ (serve_front c.front c m s before).outcome
+  effects : (c : Choice) (m : State) (outcome : Outcome) → IsChoiceFor m s before.inbox c → StandsFor new (serve_head c.head c m s before).machine
+      → after ≡ (serve_head c.head c m s before).now → outcome ≡ (serve_head c.head c m s before).outcome
       → HasEffect old new s c m before after outcome
-  effects c m outcome front stands now is = grind (arith, common_steps)
+  effects c m outcome head stands now is = grind (arith, common_steps)
 
   standing : (n : SessionState) → after.inbox ≡ n.inbox → after.pending ≡ n.pending → after.status ≡ n.status → after ≡ n
   standing n inbox pending status = λ i. record { inbox = inbox i; pending = pending i; status = status i }
 
   -- what is pending was written
-  pub whole : (parts : List Bytes) (used : ℕ) → IsFront before.inbox (Whole parts used)
+  pub whole : (parts : List Bytes) (used : ℕ) → IsHead before.inbox (Whole parts used)
       → ((m : State) → StandsFor old m → StandsFor new (step m s (asks parts) (has_failed old new)).0
       × (after.pending ≡ reply_text (step m s (asks parts) (has_failed old new)).1))
       → after.inbox ≡ drop used before.inbox → after.status ≡ before.status → ServesSession old new s before after OfDone
-  whole parts used front steps inbox status = (
+  whole parts used head steps inbox status = (
     Whole parts used,
-    λ m h. (let x = steps m h in effects _ m OfDone (front, λ wrong. absurd (cc)) x.0 (standing _ inbox x.1 (status ∙ is_open_there before may)) refl),
+    λ m h. (let x = steps m h in effects _ m OfDone (head, λ wrong. absurd (cc)) x.0 (standing _ inbox x.1 (status ∙ is_open_there before may)) refl),
   )
 
-  pub more : IsFront before.inbox More → new ≡ old → after.pending ≡ [] → after.inbox ≡ before.inbox → after.status ≡ before.status
+  pub more : IsHead before.inbox More → new ≡ old → after.pending ≡ [] → after.inbox ≡ before.inbox → after.status ≡ before.status
       → ServesSession old new s before after OfIdle
-  more front same none inbox status = grind (arith, common_steps, effects, standing, nothing_pending)
+  more head same none inbox status = grind (arith, common_steps, effects, standing, nothing_pending)
 
-  pub bad : IsFront before.inbox Bad → Aborts old new s → after.inbox ≡ [] → after.pending ≡ reply_text bad_frame → after.status ≡ Ending
+  pub bad : IsHead before.inbox Bad → Aborts old new s → after.inbox ≡ [] → after.pending ≡ reply_text bad_frame → after.status ≡ Ending
       → ServesSession old new s before after OfDone
-  bad front a inbox text status = (Bad, λ m h. effects _ m OfDone (front, λ wrong. absurd (cc)) (a m h) (standing _ inbox text status) refl)
+  bad head a inbox text status = (Bad, λ m h. effects _ m OfDone (head, λ wrong. absurd (cc)) (a m h) (standing _ inbox text status) refl)
 
-  pub test_refused_memory : (parts : List Bytes) (used : ℕ) → IsFront before.inbox (Whole parts used) → IsTrue (takes_memory (asks parts)) → Aborts old new s
+  pub test_refused_memory : (parts : List Bytes) (used : ℕ) → IsHead before.inbox (Whole parts used) → IsTrue (takes_memory (asks parts)) → Aborts old new s
       → after.inbox ≡ [] → after.pending ≡ [] → IsNotRefused old s (asks parts) → after.status ≡ Refused → ServesSession old new s before after OfMemory
-  test_refused_memory parts used front takes a inbox none garbage status =
-      (Whole parts used, λ m h. effects _ m OfMemory (front, λ _. (takes, garbage m h)) (a m h) (standing _ inbox none status) refl)
+  test_refused_memory parts used head takes a inbox none garbage status =
+      (Whole parts used, λ m h. effects _ m OfMemory (head, λ _. (takes, garbage m h)) (a m h) (standing _ inbox none status) refl)
 
 -- nothing is the beginning of a request
 nothing_begins : IsProperBeginning []
@@ -185,8 +185,8 @@ survives_after {D} {g} old mid new s same crash keeps m h =
     subst (λ (d : D). LeavesOnly g.moment g.left_since (device_of old) d (IsLeftByCommit old m s)) (sym same) (crash keeps m h)
 
 module _ {D : Type 0} {g : Ghosts D} (old mid new : Engine D g) (s : ℕ) (inbox : Bytes) (same : device_of new ≡ device_of mid) where
-  -- a request at the front of the inbox, and then calls that don't reach the device
-  pub survives_front : (parts : List Bytes) (used : ℕ) → IsFront inbox (Whole parts used) → SurvivesRequest old mid s (asks parts)
-      → SurvivesFront old new s inbox
-  survives_front parts used front (inl unchanged) = inl (same ∙ unchanged)
-  survives_front parts used front (inr x) = inr (record { parts = parts; used = used; front = front; asked = x.0 }, survives_after old mid new s same x.1)
+  -- a request at the head of the inbox, and then calls that don't reach the device
+  pub survives_head : (parts : List Bytes) (used : ℕ) → IsHead inbox (Whole parts used) → SurvivesRequest old mid s (asks parts)
+      → SurvivesHead old new s inbox
+  survives_head parts used head (inl unchanged) = inl (same ∙ unchanged)
+  survives_head parts used head (inr x) = inr (record { parts = parts; used = used; head = head; asked = x.0 }, survives_after old mid new s same x.1)

@@ -8,15 +8,15 @@ use Rattle.model.specs.Machine.{State, step}
 use Rattle.model.specs.Operations.{Operation}
 use Rattle.sector.specs.SectorModel.{LeavesOnly}
 use Rattle.sessions.proofs.EventSteps.{stream-some}
-use Rattle.sessions.proofs.LifeLaws.{hub-stopped, Survives, goes_on, nothing, one_event, weaker}
-use Rattle.sessions.proofs.LifeLaws.{law_loses_nothing as survivors_lose_nothing}
-pub use Rattle.sessions.proofs.LifeLaws.{CountsNow, OnlyNow}
+use Rattle.sessions.proofs.FoundMapLaws.{hub-stopped, Survives, goes_on, nothing, one_event, weaker}
+use Rattle.sessions.proofs.FoundMapLaws.{law_loses_nothing as survivors_lose_nothing}
+pub use Rattle.sessions.proofs.FoundMapLaws.{CountsNow, OnlyNow}
 use Rattle.sessions.proofs.StreamLaws.{always, machine_reached, are_streams}
 use Rattle.sessions.specs.Calls.{has_failed}
 use Rattle.sessions.specs.Crashes.{HoldsBeforeOrAfter, IsLeftByEvent, KeepsCommitted, AppliesWhole, SurvivesEvent}
 use Rattle.sessions.specs.Crashes.{ServesCommit, Commits}
 use Rattle.sessions.specs.Laws.{IsLawful, IsSound, LeadsTo, Ran, Steps}
-use Rattle.sessions.specs.Life.{Holds}
+use Rattle.sessions.specs.FoundMaps.{HoldsFound}
 use Rattle.sessions.specs.SessionStreams.{HubState, HubEvent, Choice, IsPossible, hub_step, run, IsReachedHub}
 use Rattle.sessions.specs.StandsFor.{Ghosts, Hub, StandsFor, device, failures, is_stopped}
 
@@ -105,7 +105,7 @@ module _ {D : Type 0} {g : Ghosts D} (any : Hub D g) (only_now : OnlyNow D g) (c
 
   pub law_loses_nothing : (old mid new : Hub D g) (es fs : List (HubEvent × Choice)) → Ran old mid es → Ran mid new fs → (h : HubState) → StandsFor old h
       → h.machine.stopped ≡ false
-      → (c : List (List ℕ)) → g.left_since (device new) (g.moment (device mid)) c → Holds h (es ++ fs) (length es) c
+      → (c : List (List ℕ)) → g.left_since (device new) (g.moment (device mid)) c → HoldsFound h (es ++ fs) (length es) c
   law_loses_nothing old mid new es fs p q h s up =
       survivors_lose_nothing old mid new h es fs (ran_survives old mid es p h s) (ran_survives mid new fs q (run h es) (ran_stands old mid es p h s)) only_now
       keeps up
@@ -123,7 +123,7 @@ survives {D} {g} old new e only_now stored (inr x) keeps h stands =
 
 -- the choice with this flag
 abbrev flag : Choice → Bool → Choice
-flag c b = record { front = c.front; refused = c.refused; failed = b }
+flag c b = record { head = c.head; refused = c.refused; failed = b }
 
 -- the flag makes no difference, or the store stops
 flagged : (m : State) (s : ℕ) (q : Operation) → (step m s q true ≡ step m s q false) ⊎ ((m.stopped ≡ false) × ((step m s q true).0.stopped ≡ true))
@@ -139,13 +139,13 @@ possible-flag : (h : HubState) (e : HubEvent) (c : Choice) (b : Bool) → IsPoss
 possible-flag h e c b possible = grind (arith, common_steps)
 
 choice_is : (c : Choice) (b : Bool) → c.failed ≡ b → c ≡ flag c b
-choice_is c b e = λ i. record { front = c.front; refused = c.refused; failed = e i }
+choice_is c b e = λ i. record { head = c.head; refused = c.refused; failed = e i }
 
 -- ---- one event
 
 module _ {D : Type 0} {g : Ghosts D} (old new : Hub D g) (e : HubEvent) (sound_old : IsSound old) (sound_new : IsSound new) (counted : failures old
     ≤ failures new) (crash : g.keeps_model → AppliesWhole old new e) (still : is_stopped old ≡ true → device new ≡ device old)
-    (c : Choice) (told : c.failed ≡ has_failed old.engine new.engine) (leads : (h : HubState) → StandsFor old h
+    (c : Choice) (failed_so : c.failed ≡ has_failed old.engine new.engine) (leads : (h : HubState) → StandsFor old h
     → IsPossible h e c × StandsFor new (hub_step h e c).0) where
   abbrev Alone : Type 0
   Alone = (d : Choice) × ((h : HubState) → StandsFor old h → (hub_step h e d).0 ≡ (hub_step h e c).0) × Ran old new ((e, d) ∷ [])
@@ -174,7 +174,7 @@ module _ {D : Type 0} {g : Ghosts D} (old new : Hub D g) (e : HubEvent) (sound_o
 
   by_flags : (f a b : Bool) → c.failed ≡ f → is_stopped old ≡ a → is_stopped new ≡ b → Alone
   by_flags false a b is first last = by_choice c (λ h s. refl) (λ h s. (leads h s).0) (λ up. absurd (both_ways c.failed is up))
-  by_flags true false true is first last = by_choice c (λ h s. refl) (λ h s. (leads h s).0) (λ up. (sym told ∙ up, first, last))
+  by_flags true false true is first last = by_choice c (λ h s. refl) (λ h s. (leads h s).0) (λ up. (sym failed_so ∙ up, first, last))
   by_flags true true b is first last = quiet is (λ up stop. both_ways (is_stopped old) up first)
   by_flags true false false is first last = quiet is (λ up stop. both_ways (is_stopped new) last stop)
 

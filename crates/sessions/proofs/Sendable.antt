@@ -136,24 +136,26 @@ map_fits base (r ∷ rs) n h all = map_fits (if nat_le r.commit n then after_wri
 
 -- ---- the conflict that a verdict names
 
-abbrev IsTold : Option Refusal → Type 0
-IsTold None = Unit {0}
-IsTold (Some refusal) = IsSendable (Refused refusal)
+abbrev IsSendableRefusal : Option Refusal → Type 0
+IsSendableRefusal None = Unit {0}
+IsSendableRefusal (Some refusal) = IsSendable (Refused refusal)
 
-pivot_told : (p : Record → Bool) (rs : List Record) → AreFitRecords rs → IsTold (pivot_refusal (first p rs))
-pivot_told p [] all = tt
-pivot_told p (r ∷ rs) all = let low = all.0.0 in by_case (λ o. IsTold (pivot_refusal o)) (p r) _ _ (omega arith) (pivot_told p rs all.1)
+pivot_is_sendable : (p : Record → Bool) (rs : List Record) → AreFitRecords rs → IsSendableRefusal (pivot_refusal (first p rs))
+pivot_is_sendable p [] all = tt
+pivot_is_sendable p (r ∷ rs) all = let low = all.0.0 in
+    by_case (λ o. IsSendableRefusal (pivot_refusal o)) (p r) _ _ (omega arith) (pivot_is_sendable p rs all.1)
 
-key_told : (p : KeyWrite → Bool) (ws : List KeyWrite) (other : Option Refusal) → AllByRecursion IsFitWrite ws → IsTold other
-    → IsTold (conflict_of (first p ws) other)
-key_told p [] other all h = h
-key_told p (w ∷ ws) other all h =
-    by_case (λ o. IsTold (conflict_of o other)) (p w) _ _ (All-from_recursion (λ b. b < 256) w.0 all.0.0.1) (key_told p ws other all.1 h)
+key_is_sendable : (p : KeyWrite → Bool) (ws : List KeyWrite) (other : Option Refusal) → AllByRecursion IsFitWrite ws → IsSendableRefusal other
+    → IsSendableRefusal (conflict_of (first p ws) other)
+key_is_sendable p [] other all h = h
+key_is_sendable p (w ∷ ws) other all h =
+    by_case (λ o. IsSendableRefusal (conflict_of o other)) (p w) _ _ (All-from_recursion (λ b. b < 256) w.0 all.0.0.1) (key_is_sendable p ws other all.1 h)
 
-verdict_told : (history : List Record) (r : Record) → AreFitRecords history → AllByRecursion IsFitWrite r.writes → IsTold (verdict history r)
+verdict_is_sendable : (history : List Record) (r : Record) → AreFitRecords history → AllByRecursion IsFitWrite r.writes → IsSendableRefusal (verdict history r)
 unfolding verdict
-verdict_told history r all ws = key_told _ r.writes _ ws (by_case IsTold (is_dangerous_pivot (history ++ r ∷ []) r) (Some refusals.PivotSelf)
-    (pivot_refusal (first (is_dangerous_pivot (history ++ r ∷ [])) history)) tt (pivot_told (is_dangerous_pivot (history ++ r ∷ [])) history all))
+verdict_is_sendable history r all ws = key_is_sendable _ r.writes _ ws (by_case IsSendableRefusal (is_dangerous_pivot (history ++ r ∷ []) r)
+    (Some refusals.PivotSelf)
+    (pivot_refusal (first (is_dangerous_pivot (history ++ r ∷ [])) history)) tt (pivot_is_sendable (is_dangerous_pivot (history ++ r ∷ [])) history all))
 
 -- ---- the steps
 
@@ -188,7 +190,7 @@ module _ (st : State) (h : IsFitState st) where
   )
 
   refuses : (s : ℕ) (refusal : Refusal) → IsSendable (Refused refusal) → IsFitAnswer (refuse st s refusal)
-  refuses s refusal told = (leave_fits s, told)
+  refuses s refusal can_send = (leave_fits s, can_send)
 
   stops : (s : ℕ) → IsFitAnswer (record (leave st s) { stopped = true }, Refused refusals.StoreFault)
   stops s = (record { base = h.base; few = h.few; records = h.records; running = (leave_fits s).running }, tt)
@@ -208,14 +210,15 @@ module _ (st : State) (h : IsFitState st) where
     own_writes : AllByRecursion IsFitWrite (writes (snapshot st t) t.requests)
     own_writes = values_fit _ _ snapshot_fits.contents snapshot_fits.written
 
-    judged : (o : Option Refusal) (failed : Bool) → IsTold o → (last st ≡ 2 ^ 63 - 1 → ⊥) → IsFitAnswer (store_unless o st s (record_to_commit st t) failed)
-    judged None failed told few = stores s (record_to_commit st t) _ failed refl few own_writes
-    judged (Some refusal) failed told few = refuses s refusal told
+    judged : (o : Option Refusal) (failed : Bool) → IsSendableRefusal o → (last st ≡ 2 ^ 63 - 1 → ⊥)
+        → IsFitAnswer (store_unless o st s (record_to_commit st t) failed)
+    judged None failed can_send few = stores s (record_to_commit st t) _ failed refl few own_writes
+    judged (Some refusal) failed can_send few = refuses s refusal can_send
 
     commits : (failed : Bool) → IsFitAnswer (commit st s t failed)
     commits failed = cond_both st.stopped _ _ IsFitAnswer (λ _. refuses s refusals.StoreStopped tt)
         (λ _. cond_both (last st == 2 ^ 63 - 1) _ _ IsFitAnswer (λ _. refuses s refusals.FullNumbers tt)
-        (λ differs. judged _ failed (verdict_told st.history (record_to_commit st t) h.records own_writes) (λ e. grind (arith, nat_tests))))
+        (λ differs. judged _ failed (verdict_is_sendable st.history (record_to_commit st t) h.records own_writes) (λ e. grind (arith, nat_tests))))
 
     runs : (r : Running) → AllByRecursion IsFitOperation r.requests → IsFitState (with_running st s r)
     runs r all = record {

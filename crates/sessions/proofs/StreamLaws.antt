@@ -26,9 +26,9 @@ use Rattle.sessions.proofs.RequestSteps.{is_open_there, nothing_pending}
 use Rattle.sessions.specs.Laws.{IsSessionStream, EndsStream, EndsItsStream, IsLawful, SameBytes, EndsOutput}
 use Rattle.sessions.specs.Laws.{own_bytes}
 use Rattle.sessions.specs.SessionStreams.{Outcome, bad_frame, is_above, HubState, SessionState, SessionStream}
-use Rattle.sessions.specs.SessionStreams.{HubEvent, Joins, Receives, Serves, Sends, Leaves, Front, Whole, More, Bad}
-use Rattle.sessions.specs.SessionStreams.{Choice, Effect, IsFront, IsServed, IsPossible, hub_step, stream_of}
-use Rattle.sessions.specs.SessionStreams.{new_stream, is_open, may_serve, serve, serve_front, out_of_memory}
+use Rattle.sessions.specs.SessionStreams.{HubEvent, Joins, Receives, Serves, Sends, Leaves, Head, Whole, More, Bad}
+use Rattle.sessions.specs.SessionStreams.{Choice, Effect, IsHead, IsChoiceFor, IsPossible, hub_step, stream_of}
+use Rattle.sessions.specs.SessionStreams.{new_stream, is_open, may_serve, serve_choice, serve_head, out_of_memory}
 use Rattle.sessions.specs.SessionStreams.{broken_frame, served_with, no_effect, asks, replies_text, receive}
 use Rattle.sessions.specs.SessionStreams.{serve_session, send, depart, IsReachedHub, Begun, Continued, with_stream}
 
@@ -45,7 +45,7 @@ pub by_if : {A : Type 0} (P : A → Type 0) (b : Bool) (x y : A) → P x → P y
 by_if P true x y p q = p
 by_if P false x y p q = q
 
-served_moves : (c : Choice) (m : State) (s : ℕ) (n : SessionState) → Moved c m (serve c m s n).machine
+served_moves : (c : Choice) (m : State) (s : ℕ) (n : SessionState) → Moved c m (serve_choice c m s n).machine
 served_moves c m s n = grind (arith, common_steps, Rests, Lets, Steps)
 
 pub moved : (h : HubState) (e : HubEvent) (c : Choice) → Moved c h.machine (hub_step h e c).0.machine
@@ -116,11 +116,11 @@ module _ (st : SessionStream) (h : IsSessionStream st) (c : Choice) (m : State) 
     one_more r = flat_map-append reply_text st.replies (r ∷ []) ∙ ap (λ ys. flat_map reply_text st.replies ++ ys) (append-nil (reply_text r))
         ∙ ap (λ xs. xs ++ reply_text r) all_sent
 
-    whole : (parts : List Bytes) (used : ℕ) (answer : State × Response) → IsFront st.now.inbox (Whole parts used)
+    whole : (parts : List Bytes) (used : ℕ) (answer : State × Response) → IsHead st.now.inbox (Whole parts used)
         → IsSessionStream (after_effect st (served_with answer st.now parts used))
-    whole parts used answer front =
+    whole parts used answer head =
         let own = h.inbox (is_open_there st.now may) in
-        let read = front.1.1 in
+        let read = head.1.1 in
         record {
           rest = drop used st.now.inbox;
           input = grind (arith, common_steps, h.input, take-append-drop used st.now.inbox);
@@ -139,17 +139,17 @@ module _ (st : SessionStream) (h : IsSessionStream st) (c : Choice) (m : State) 
     breaking : IsSessionStream (after_effect st (broken_frame m s))
     breaking = record { rest = h.rest; input = grind (arith, common_steps, h.input); inbox = λ bad. absurd (cc); output = one_more bad_frame }
 
-    found : (f : Front) → IsFront st.now.inbox f → IsSessionStream (after_effect st (serve_front f c m s st.now))
-    found (Whole parts used) front =
+    found : (f : Head) → IsHead st.now.inbox f → IsSessionStream (after_effect st (serve_head f c m s st.now))
+    found (Whole parts used) head =
         let P : Effect → Type 0 = λ e. IsSessionStream (after_effect st e) in
-        by_if P c.refused _ _ starving (whole parts used (step m s (asks parts) c.failed) front)
-    found More front = idle
-    found Bad front = breaking
+        by_if P c.refused _ _ starving (whole parts used (step m s (asks parts) c.failed) head)
+    found More head = idle
+    found Bad head = breaking
 
-  pub serving : (IsTrue (may_serve st.now) → IsServed m s st.now.inbox c) → IsSessionStream (after_effect st (serve c m s st.now))
+  pub serving : (IsTrue (may_serve st.now) → IsChoiceFor m s st.now.inbox c) → IsSessionStream (after_effect st (serve_choice c m s st.now))
   serving possible =
       let P : Effect → Type 0 = λ e. IsSessionStream (after_effect st e) in
-      cond_both (may_serve st.now) _ _ P (λ may. found may c.front (possible may).0) (λ _. idle)
+      cond_both (may_serve st.now) _ _ P (λ may. found may c.head (possible may).0) (λ _. idle)
 
 pub streams_step : (h : HubState) (e : HubEvent) (c : Choice) → IsPossible h e c → AreStreams h → AreStreams (hub_step h e c).0
 unfolding hub_step
@@ -283,7 +283,8 @@ module _ (h : HubState) (invariant : Invariant h) (s : ℕ) (st : SessionStream)
       by (Ended e) = changed v _ (λ q t apart k. (left-some h.machine s q t (sym (ap (find nat_cmp q) e) ∙ k)).1)
           (λ t k. absurd ((left-some h.machine s s t (sym (ap (find nat_cmp s) e) ∙ k)).0 refl))
 
-  served : (c : Choice) → Invariant (record (with_stream h s (after_effect st (serve c h.machine s st.now))) { machine = (serve c h.machine s st.now).machine })
+  served : (c : Choice) → Invariant (record (with_stream h s (after_effect st (serve_choice c h.machine s st.now)))
+      { machine = (serve_choice c h.machine s st.now).machine })
   served c = grind (arith, common_steps, by_if, after_effect, same_session, ended, stepped)
 
   parted : Invariant (record { machine = leave h.machine s; present = remove_entry (test s) h.present; gone = h.gone ++ (s, st) ∷ []; latest = h.latest })

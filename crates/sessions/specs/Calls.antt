@@ -15,8 +15,8 @@ use Rattle.engine.specs.Meaning.{StandsFor, IsNotRefused, response_to_read}
 pub use Rattle.engine.specs.Meaning.{has_failed}
 use Rattle.engine.specs.declared.engine.Engine.{Engine}
 use Rattle.engine.specs.declared.faults.ReadFault.{ReadFault}
-use Rattle.sessions.specs.SessionStreams.{Memory as OfMemory, Outcome, SessionState, Front, Whole, More, Bad, IsFront}
-use Rattle.sessions.specs.SessionStreams.{Choice, IsServed, asks, takes_memory, bad_frame, serve, may_serve}
+use Rattle.sessions.specs.SessionStreams.{Memory as OfMemory, Outcome, SessionState, Head, Whole, More, Bad, IsHead}
+use Rattle.sessions.specs.SessionStreams.{Choice, IsChoiceFor, asks, takes_memory, bad_frame, serve_choice, may_serve}
 use Rattle.sessions.specs.declared.buffer.Buffer.{Buffer}
 use Rattle.sessions.specs.declared.requests.Served.{Served}
 use Rattle.sessions.specs.declared.requests.Served.TheVariants.{Answered, Incomplete, Broken, Refused}
@@ -63,17 +63,17 @@ Executes old new s q failed after (Err refused) =
 abbrev pub Aborts : {D : Type 0} {g : Ghosts D} → Engine D g → Engine D g → ℕ → Type 0
 Aborts old new s = (m : State) → StandsFor old m → StandsFor new (leave m s)
 
--- what was found at the front of an inbox and answered into an empty output
-abbrev pub ServesFront : {D : Type 0} {g : Ghosts D} → Engine D g → Engine D g → ℕ → Bool → Bytes → Bytes → Served
+-- what was found at the head of an inbox and answered into an empty output
+abbrev pub ServesHead : {D : Type 0} {g : Ghosts D} → Engine D g → Engine D g → ℕ → Bool → Bytes → Bytes → Served
     → Type 0
-ServesFront old new s failed inbox after (Answered used) =
-    (parts : List Bytes) × IsFront inbox (Whole parts used)
+ServesHead old new s failed inbox after (Answered used) =
+    (parts : List Bytes) × IsHead inbox (Whole parts used)
     × ((m : State) → StandsFor old m
     → StandsFor new (step m s (asks parts) failed).0 × (after ≡ reply_text (step m s (asks parts) failed).1))
-ServesFront old new s failed inbox after Incomplete = IsFront inbox More × (new ≡ old) × (after ≡ [])
-ServesFront old new s failed inbox after Broken = IsFront inbox Bad × Aborts old new s × (after ≡ reply_text bad_frame)
-ServesFront old new s failed inbox after Refused =
-    (parts : List Bytes) × (used : ℕ) × IsFront inbox (Whole parts used) × IsTrue (takes_memory (asks parts))
+ServesHead old new s failed inbox after Incomplete = IsHead inbox More × (new ≡ old) × (after ≡ [])
+ServesHead old new s failed inbox after Broken = IsHead inbox Bad × Aborts old new s × (after ≡ reply_text bad_frame)
+ServesHead old new s failed inbox after Refused =
+    (parts : List Bytes) × (used : ℕ) × IsHead inbox (Whole parts used) × IsTrue (takes_memory (asks parts))
     × Aborts old new s × (after ≡ []) × IsNotRefused old s (asks parts)
 
 abbrev pub is_memory : Outcome → Bool
@@ -83,21 +83,21 @@ is_memory other = false
 -- the choice may be made, and this is the effect of a Serve by it
 pub record HasEffect {D : Type 0} {g : Ghosts D} (old new : Engine D g) (s : ℕ) (c : Choice) (m : State)
     (before after : SessionState) (outcome : Outcome) : Type 0 where
-  pub possible : IsTrue (may_serve before) → IsServed m s before.inbox c
-  pub engine : StandsFor new (serve c m s before).machine
-  pub session : after ≡ (serve c m s before).now
-  pub outcome_is : outcome ≡ (serve c m s before).outcome
+  pub possible : IsTrue (may_serve before) → IsChoiceFor m s before.inbox c
+  pub engine : StandsFor new (serve_choice c m s before).machine
+  pub session : after ≡ (serve_choice c m s before).now
+  pub outcome_is : outcome ≡ (serve_choice c m s before).outcome
 
 -- what is chosen where memory was refused as the outcome says
-abbrev pub chosen : Front → Outcome → Bool → Choice
-chosen front outcome failed = record { front = front; refused = is_memory outcome; failed = failed }
+abbrev pub chosen : Head → Outcome → Bool → Choice
+chosen head outcome failed = record { head = head; refused = is_memory outcome; failed = failed }
 
--- one Serve of a session: what the grammar finds is one front for all states
+-- one Serve of a session: what the grammar finds is one head for all states
 abbrev pub ServesSession : {D : Type 0} {g : Ghosts D} → Engine D g → Engine D g → ℕ → SessionState → SessionState
     → Outcome → Type 0
 ServesSession old new s before after outcome =
-    (front : Front) × ((m : State) → StandsFor old m
-    → HasEffect old new s (chosen front outcome (has_failed old new)) m before after outcome)
+    (head : Head) × ((m : State) → StandsFor old m
+    → HasEffect old new s (chosen head outcome (has_failed old new)) m before after outcome)
 
 -- what a RANGE with this limit asks
 abbrev pub range_of : RangeRef → ℕ → Operation

@@ -11,7 +11,7 @@ use Rattle.engine.specs.Meaning.{device_of}
 pub use Rattle.engine.specs.Meaning.{SurvivesCommit}
 use Rattle.engine.specs.Recovery.{HoldsMap, LeavesCommitted, committed_map}
 use Rattle.engine.specs.declared.engine.Engine.{Engine}
-use Rattle.sessions.specs.SessionStreams.{HubState, HubEvent, Serves, SessionState, SessionStream, Whole, IsFront}
+use Rattle.sessions.specs.SessionStreams.{HubState, HubEvent, Serves, SessionState, SessionStream, Whole, IsHead}
 use Rattle.sessions.specs.SessionStreams.{asks, may_serve, stream_of}
 use Rattle.sessions.specs.StandsFor.{Ghosts, Hub, StandsFor, device}
 
@@ -19,15 +19,15 @@ use Rattle.sessions.specs.StandsFor.{Ghosts, Hub, StandsFor, device}
 abbrev pub SurvivesRequest : {D : Type 0} {g : Ghosts D} → Engine D g → Engine D g → ℕ → Operation → Type 0
 SurvivesRequest old new s q = (device_of new ≡ device_of old) ⊎ ((q ≡ Commit) × SurvivesCommit old new s)
 
--- a COMMIT stands at the front of these bytes
+-- a COMMIT stands at the head of these bytes
 pub record BeginsWithCommit (inbox : Bytes) : Type 0 where
   pub parts : List Bytes
   pub used : ℕ
-  pub front : IsFront inbox (Whole parts used)
+  pub head : IsHead inbox (Whole parts used)
   pub asked : asks parts ≡ Commit
 
-abbrev pub SurvivesFront : {D : Type 0} {g : Ghosts D} → Engine D g → Engine D g → ℕ → Bytes → Type 0
-SurvivesFront old new s inbox = (device_of new ≡ device_of old) ⊎ (BeginsWithCommit inbox × SurvivesCommit old new s)
+abbrev pub SurvivesHead : {D : Type 0} {g : Ghosts D} → Engine D g → Engine D g → ℕ → Bytes → Type 0
+SurvivesHead old new s inbox = (device_of new ≡ device_of old) ⊎ (BeginsWithCommit inbox × SurvivesCommit old new s)
 
 -- a Serve of this session executes a COMMIT
 pub record ServesCommit (n : SessionState) : Type 0 where

@@ -9,7 +9,7 @@ use Rattle.model.specs.Operations.{Operation, Response, Begin, Done}
 use Rattle.model.specs.ReplyText.{reply_text}
 use Rattle.sector.specs.SectorModel.{LeavesOnly}
 use Rattle.versions.specs.Meaning.{IsReclaimedInPart, garbage_of}
-use Rattle.pivot_check.specs.Kept.{HasForgotten, IsGivenBack, KeepsNoneUpto, garbage_runs}
+use Rattle.pivot_check.specs.Kept.{HasForgotten, FreesRuns, KeepsNoneUpto, garbage_runs}
 use Rattle.engine.specs.Meaning.{committed_of, facts_of, versions_of}
 use Rattle.engine.specs.Recovery.{HoldsMap, committed_map}
 use Rattle.sessions.specs.Calls.{has_failed}
@@ -119,13 +119,13 @@ NoneRuns hub = Ran hub hub []
 -- those that committed before each open one began is asked for no more. Superseded versions go in steps, and so do the
 -- runs in which that was kept; `more` says whether garbage is left: once none is, nothing is kept of a commit that is
 -- forgotten.
-pub record GivesBack {D : Type 0} {g : Ghosts D} (old new : Hub D g) (more : Bool) : Type 0 where
+pub record CollectsStep {D : Type 0} {g : Ghosts D} (old new : Hub D g) (more : Bool) : Type 0 where
   pub ran : Ran old new []
   pub versions : (h : HubState) → StandsFor old h
       → IsReclaimedInPart (versions_of old.engine) (versions_of new.engine) (begins h)
   pub more_is : (h : HubState) → StandsFor old h
       → more ≡ nat_lt 0 (garbage_of (begins h) (versions_of new.engine) + garbage_runs (committed_of new.engine))
-  pub runs : IsGivenBack (committed_of old.engine) (committed_of new.engine)
+  pub runs : FreesRuns (committed_of old.engine) (committed_of new.engine)
   pub forgotten : (h : HubState) → StandsFor old h → (n : ℕ) → n ≤ last h.machine
       → AllByRecursion (λ e. n ≤ e.1.begin) h.machine.running → HasForgotten n (facts_of new.engine)
   pub kept : more ≡ false → KeepsNoneUpto (facts_of new.engine).oldest (facts_of new.engine)

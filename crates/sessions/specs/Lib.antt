@@ -1,10 +1,10 @@
 pub mod SessionStreams
 pub mod Calls
 pub mod StandsFor
-pub mod Life
+pub mod FoundMaps
 pub mod Laws
 pub mod Crashes
-pub mod Lives
+pub mod Restarts
 pub mod OneOrder
 pub mod Readings
 pub mod Places

@@ -31,5 +31,5 @@ abbrev pub lends_session : MutBor (List (ℕ × SessionState)) → ℕ → MutBo
 lends_session m s r = Lends present_row session_row m r (set_value (is_at (nat_cmp s)) m.now)
 
 -- the same, and at `None` nothing has changed
-abbrev pub lends_if_present : MutBor (List (ℕ × SessionState)) → ℕ → Option (MutBor SessionState) → Fml
-lends_if_present m s r = LendsIf present_row session_row m r (set_value (is_at (nat_cmp s)) m.now) m.now
+abbrev pub lends_session_if_present : MutBor (List (ℕ × SessionState)) → ℕ → Option (MutBor SessionState) → Fml
+lends_session_if_present m s r = LendsIf present_row session_row m r (set_value (is_at (nat_cmp s)) m.now) m.now

@@ -5,7 +5,7 @@ use Rattle.model.specs.Machine.{opened}
 use Rattle.model.specs.Map.{Bytes}
 use Rattle.model.specs.Operations.{Response}
 use Rattle.resp.specs.Replies.{IsSendable, texts_of}
-use Rattle.sessions.specs.Lives.{Served}
+use Rattle.sessions.specs.Restarts.{Served}
 use Rattle.sessions.specs.SessionStreams.{HubState, SessionStream, HubEvent, Choice, hub_over, replies_text, run}
 use Rattle.sessions.specs.StandsFor.{Ghosts, Hub}
 
@@ -13,7 +13,7 @@ use Rattle.sessions.specs.StandsFor.{Ghosts, Hub}
 -- and what follows is the texts of the others. Those whose texts are all of it are they.
 pub record HasOneReading (st : SessionStream) : Type 0 where
   pub sendable : All IsSendable st.replies
-  pub front : (read : List Response) (more : Bytes) → All IsSendable read → texts_of read ++ more ≡ replies_text st
+  pub head : (read : List Response) (more : Bytes) → All IsSendable read → texts_of read ++ more ≡ replies_text st
       → (others : List Response) × (st.replies ≡ read ++ others) × (more ≡ texts_of others)
   pub whole : (read : List Response) → All IsSendable read → texts_of read ≡ replies_text st → read ≡ st.replies
 

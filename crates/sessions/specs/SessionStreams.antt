@@ -68,24 +68,24 @@ pub data HubEvent : Type 0 where
   Sends : ℕ → ℕ → HubEvent
   Leaves : ℕ → HubEvent
 
--- what stands at the front of an inbox: a request of these parts, spelled by so many bytes; the beginning of one;
+-- what stands at the head of an inbox: a request of these parts, spelled by so many bytes; the beginning of one;
 -- neither
-pub data Front : Type 0 where
-  Whole : List Bytes → ℕ → Front
-  More : Front
-  Bad : Front
+pub data Head : Type 0 where
+  Whole : List Bytes → ℕ → Head
+  More : Head
+  Bad : Head
 
 -- by the grammar of requests
-abbrev pub IsFront : Bytes → Front → Type 0
-IsFront bytes (Whole parts n) = (n ≤ length bytes) × Spells (take n bytes) parts
-IsFront bytes More = IsProperBeginning bytes
-IsFront bytes Bad = ((parts : List Bytes) (n : ℕ) → n ≤ length bytes → Spells (take n bytes) parts → ⊥)
+abbrev pub IsHead : Bytes → Head → Type 0
+IsHead bytes (Whole parts n) = (n ≤ length bytes) × Spells (take n bytes) parts
+IsHead bytes More = IsProperBeginning bytes
+IsHead bytes Bad = ((parts : List Bytes) (n : ℕ) → n ≤ length bytes → Spells (take n bytes) parts → ⊥)
     × (IsProperBeginning bytes → ⊥)
 
--- what is not the hub's to decide at an event: what the grammar finds at the front of the inbox, whether memory was
+-- what is not the hub's to decide at an event: what the grammar finds at the head of the inbox, whether memory was
 -- refused, and whether the device failed
 pub record Choice : Type 0 where
-  pub front : Front
+  pub head : Head
   pub refused : Bool
   pub failed : Bool
 
@@ -194,18 +194,18 @@ broken_frame m s = record {
 abbrev pub no_effect : State → SessionState → Effect
 no_effect m n = record { machine = m; now = n; served = []; replies = []; outcome = Idle }
 
-abbrev pub serve_front : Front → Choice → State → ℕ → SessionState → Effect
-serve_front (Whole parts used) c m s n =
+abbrev pub serve_head : Head → Choice → State → ℕ → SessionState → Effect
+serve_head (Whole parts used) c m s n =
     if c.refused then out_of_memory m s else served_with (step m s (asks parts) c.failed) n parts used
-serve_front More c m s n = no_effect m n
-serve_front Bad c m s n = broken_frame m s
+serve_head More c m s n = no_effect m n
+serve_head Bad c m s n = broken_frame m s
 
 -- whether a request is looked for
 abbrev pub may_serve : SessionState → Bool
 may_serve n = if is_open n.status then length n.pending == 0 else false
 
-abbrev pub serve : Choice → State → ℕ → SessionState → Effect
-serve c m s n = if may_serve n then serve_front c.front c m s n else no_effect m n
+abbrev pub serve_choice : Choice → State → ℕ → SessionState → Effect
+serve_choice c m s n = if may_serve n then serve_head c.head c m s n else no_effect m n
 
 abbrev pub with_effect : HubState → ℕ → SessionStream → Effect → HubState × Outcome
 with_effect h s st e = (
@@ -219,7 +219,7 @@ with_effect h s st e = (
 
 abbrev pub serve_session : Option SessionStream → HubState → ℕ → Choice → HubState × Outcome
 serve_session None h s c = (h, Unknown)
-serve_session (Some st) h s c = with_effect h s st (serve c h.machine s st.now)
+serve_session (Some st) h s c = with_effect h s st (serve_choice c h.machine s st.now)
 
 abbrev pub send : Option SessionStream → HubState → ℕ → ℕ → HubState × Outcome
 send None h s n = (h, Unknown)
@@ -255,19 +255,19 @@ hub_step h (Serves s) c = serve_session (stream_of h s) h s c
 hub_step h (Sends s n) c = send (stream_of h s) h s n
 hub_step h (Leaves s) c = depart (stream_of h s) h s
 
--- the request at the front takes memory, and the machine's reply to it would be no refusal, the device's failure aside
-abbrev pub MayWantMemory : State → ℕ → Front → Type 0
+-- the request at the head takes memory, and the machine's reply to it would be no refusal, the device's failure aside
+abbrev pub MayWantMemory : State → ℕ → Head → Type 0
 MayWantMemory m s (Whole parts used) =
     IsTrue (takes_memory (asks parts)) × IsFalse (is_refused (step m s (asks parts) false).1)
 MayWantMemory m s other = ⊥
 
--- the grammar finds this front, and memory was refused only where it may be
-abbrev pub IsServed : State → ℕ → Bytes → Choice → Type 0
-IsServed m s inbox c = IsFront inbox c.front × (IsTrue c.refused → MayWantMemory m s c.front)
+-- the grammar finds this head, and memory was refused only where it may be
+abbrev pub IsChoiceFor : State → ℕ → Bytes → Choice → Type 0
+IsChoiceFor m s inbox c = IsHead inbox c.head × (IsTrue c.refused → MayWantMemory m s c.head)
 
 abbrev pub IsServePossible : State → ℕ → Option SessionStream → Choice → Type 0
 IsServePossible m s None c = ⊤
-IsServePossible m s (Some st) c = IsTrue (may_serve st.now) → IsServed m s st.now.inbox c
+IsServePossible m s (Some st) c = IsTrue (may_serve st.now) → IsChoiceFor m s st.now.inbox c
 
 -- what may be chosen at an event
 abbrev pub IsPossible : HubState → HubEvent → Choice → Type 0

@@ -9,8 +9,8 @@ pub use Rattle.sector.specs.declared.device.Sectors.{Ghosts}
 use Rattle.commit_log.specs.declared.faults.Unopened.{Unopened}
 use Rattle.commit_log.specs.declared.log.Log.{Log}
 use Rattle.engine.specs.Meaning.{StandsFor as EngineStandsFor, device_of, failures_of}
-use Rattle.engine.specs.Meaning.{is_stopped as has_engine_stopped, has_written as has_engine_written}
-use Rattle.engine.specs.Meaning.{log_of, records_of as engine_records}
+use Rattle.engine.specs.Meaning.{has_engine_stopped, has_engine_written}
+use Rattle.engine.specs.Meaning.{log_of, engine_records}
 use Rattle.sessions.specs.Calls.{is_memory, has_failed}
 use Rattle.sessions.specs.SessionStreams.{Status, Outcome, HubState, SessionState, SessionStream, HubEvent, Joins}
 use Rattle.sessions.specs.SessionStreams.{Receives, Serves, Sends, Leaves, Choice, IsPossible, hub_step, room}
@@ -49,7 +49,7 @@ device hub = device_of hub.engine
 abbrev pub failures : {D : Type 0} {g : Ghosts D} → Hub D g → ℕ
 failures hub = failures_of hub.engine
 
--- the device after an opening: that of the hub, or the one that was given back
+-- the device after an opening: that of the hub, or the one that was returned
 abbrev pub device_after : {D : Type 0} {g : Ghosts D} → Result (Hub D g) (Unopened D) → D
 device_after (Ok hub) = device hub
 device_after (Err unopened) = unopened.device

@@ -5,10 +5,11 @@ ghost use Rattle.engine.specs.Meaning.{IsReadOnly, StandsFor as EngineStandsFor,
 ghost use Rattle.model.specs.Laws.{IsOrderedByPlace};
 ghost use Rattle.model.specs.Machine.{State};
 ghost use Rattle.sessions.specs.Crashes.{SurvivesEvent, AppliesWhole, KeepsCommitted};
-ghost use Rattle.sessions.specs.Laws.{GivesBack, IsLawful, NoneRuns, Runs, RunsAlone, RunsFollow, RunsLead, RunsPart};
-ghost use Rattle.sessions.specs.Life.{LosesNothing};
-ghost use Rattle.sessions.specs.Lives.{CutsReopen, KeepsAnswered, LivesLoseNothing, LivesFromNothing};
-ghost use Rattle.sessions.specs.OneOrder.{LivesHaveOneHistory};
+ghost use Rattle.sessions.specs.Laws.{CollectsStep, IsLawful, NoneRuns, Runs, RunsAlone, RunsFollow, RunsLead};
+ghost use Rattle.sessions.specs.Laws.{RunsPart};
+ghost use Rattle.sessions.specs.FoundMaps.{LosesNothing};
+ghost use Rattle.sessions.specs.Restarts.{CutsReopen, KeepsAnswered, RestartsLoseNothing, RestartsFromNothing};
+ghost use Rattle.sessions.specs.OneOrder.{RestartsHaveOneHistory};
 ghost use Rattle.sessions.specs.Readings.{RunsHaveOneReading};
 ghost use Rattle.sessions.specs.SessionStreams.{HubState, is_above, hub_over, Joins, Receives, Serves, Sends, Leaves};
 ghost use Rattle.sessions.specs.StandsFor.{HubLeads, StandsFor, event_of, status_of, room_of, pending_of, device};
@@ -308,7 +309,7 @@ impl<D: Sectors> Hub<D> {
     /// until it answers no, it ends what an old reader has left. It looks at 2 garbage lists of superseded versions, and frees 1,024
     /// written keys and as many steps of last readers of old runs, so it is short. Takes no memory.
     pub fn reclaim_step(&mut self) -> bool
-        ensures { GivesBack self.old self.new result }
+        ensures { CollectsStep self.old self.new result }
     {
         law_machine_is_serializable();
         self.law_is_stored();
@@ -329,7 +330,7 @@ impl<D: Sectors> Hub<D> {
         self.law_is_stored();
     }
 
-    /// Does nothing, and takes no memory. Its contract is the law of a store's whole life: a crash at any moment after some events were
+    /// Does nothing, and takes no memory. Its contract is the law of a store's whole run: a crash at any moment after some events were
     /// answered leaves the map committed when they were answered or at a later moment, one with a COMMIT that was under way since, or
     /// one with the COMMIT that was answered a store fault. So does one at any moment of a process since any of its events.
     pub fn law_loses_nothing(&self)
@@ -337,16 +338,16 @@ impl<D: Sectors> Hub<D> {
         ensures answered { KeepsAnswered self.now }
     {}
 
-    /// Does nothing, and takes no memory. Its contract is the law of a store's lives, one after another: each is opened over what the end
-    /// of the one before left, by a power cut or a kill of the process at any moment, during its opening too, and begins with the map of
-    /// the last answered COMMIT, or with that and one COMMIT more, which was under way at the end or was answered a store fault. A log that
-    /// was made empty, or that a map was copied into, is never found damaged. All that was committed in them has one order, in which each
-    /// transaction is given the replies that it had, and at whose end is the map that is found.
-    pub fn law_lives_lose_nothing(&self)
-        ensures lives { D.keeps_model → LivesLoseNothing self.now }
-        ensures from_nothing { D.keeps_model → LivesFromNothing self.now }
+    /// Does nothing, and takes no memory. Its contract is the law of a store's restarts, one after another: each is opened over what the
+    /// end of the one before left, by a power cut or a kill of the process at any moment, during its opening too, and begins with the map
+    /// of the last answered COMMIT, or with that and one COMMIT more, which was under way at the end or was answered a store fault. A log
+    /// that was made empty, or that a map was copied into, is never found damaged. All that was committed in them has one order, in which
+    /// each transaction is given the replies that it had, and at whose end is the map that is found.
+    pub fn law_restarts_lose_nothing(&self)
+        ensures restarts { D.keeps_model → RestartsLoseNothing self.now }
+        ensures from_nothing { D.keeps_model → RestartsFromNothing self.now }
         ensures cut { CutsReopen self.now }
-        ensures one_history { D.keeps_model → LivesHaveOneHistory self.now }
+        ensures one_history { D.keeps_model → RestartsHaveOneHistory self.now }
     {
         law_restarts_have_one_order();
     }

@@ -1,6 +1,6 @@
 //! Laws of sessions. Each is the contract of a function that does nothing.
 ghost use Rattle.sessions.specs.Laws.{SameBytes};
-ghost use Rattle.sessions.specs.Life.{FoundAfter, FoundDuring};
+ghost use Rattle.sessions.specs.FoundMaps.{FoundAfter, FoundDuring};
 
 /// Two transactions that began with equal maps and asked the same were answered the same bytes, whatever others did. (Snapshot
 /// isolation as in Fekete, Liarokapis, O'Neil, O'Neil and Shasha, TODS 2005.)

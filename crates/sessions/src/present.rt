@@ -5,7 +5,7 @@ ghost use Rattle.std.specs.Map.{lookup, remove_entry};
 ghost use Rattle.std.specs.BTreeMap.{insert_entry, is_at};
 ghost use Rattle.std.specs.Ordering.{nat_cmp};
 ghost use Rattle.std.specs.Borrow.{sem};
-ghost use Rattle.sessions.specs.Places.{IsPlace, IsGap, lends_session, lends_if_present};
+ghost use Rattle.sessions.specs.Places.{IsPlace, IsGap, lends_session, lends_session_if_present};
 
 use crate::session::Session;
 use model::Memory;
@@ -99,7 +99,7 @@ impl Present {
 
     /// Lends the session for writing. Takes no memory.
     pub(crate) fn get_mut(&mut self, s: u64) -> Option<&mut Session>
-        ensures* writes_back { sem 𝓛 (lends_if_present self.entry s result) }
+        ensures* writes_back { sem 𝓛 (lends_session_if_present self.entry s result) }
         ensures value { option_copied_mut result ≡ lookup (is_at (nat_cmp s)) self.old }
     {
         match self.place(s) {
@@ -126,7 +126,7 @@ impl Present {
         }
     }
 
-    /// The session leaves, and is given back. Takes no memory, and frees none but the session's.
+    /// The session leaves, and is returned. Takes no memory, and frees none but the session's.
     pub(crate) fn remove(&mut self, s: u64) -> Option<Session>
         ensures value { result ≡ lookup (is_at (nat_cmp s)) self.old }
         ensures entries { self.new ≡ remove_entry (is_at (nat_cmp s)) self.old }

@@ -5,9 +5,9 @@ ghost use Rattle.model.specs.Operations.{operation_of, IsFit};
 ghost use Rattle.model.specs.Operations.Operation.{Get, Range, Abort as ToAbort, Commit as ToCommit};
 ghost use Rattle.model.specs.Operations.Response.{Done};
 ghost use Rattle.engine.specs.Changes.{AddsOneAtMost};
-ghost use Rattle.engine.specs.Meaning.{failures_of, device_of, is_stopped, log_of, response_to};
-ghost use Rattle.sessions.specs.Calls.{range_of, Writes, refusal_to_read, Executes, Aborts, ServesFront, has_failed};
-ghost use Rattle.sessions.specs.Crashes.{SurvivesCommit, SurvivesRequest, SurvivesFront};
+ghost use Rattle.engine.specs.Meaning.{failures_of, device_of, has_engine_stopped, log_of, response_to};
+ghost use Rattle.sessions.specs.Calls.{range_of, Writes, refusal_to_read, Executes, Aborts, ServesHead, has_failed};
+ghost use Rattle.sessions.specs.Crashes.{SurvivesCommit, SurvivesRequest, SurvivesHead};
 ghost use Rattle.sessions.specs.SessionStreams.{asks};
 
 use crate::reply_buffer::ReplyBuffer;
@@ -81,7 +81,7 @@ fn commit<D: Sectors>(engine: &mut Engine<D>, s: u64, out: &mut ReplyBuffer) -> 
     requires { out.old ≡ [] }
     ensures step { Executes engine.old engine.new s ToCommit (has_failed engine.old engine.new) out.new result }
     ensures crash { SurvivesCommit engine.old engine.new s }
-    ensures still { is_stopped engine.old ≡ true → device_of engine.new ≡ device_of engine.old }
+    ensures still { has_engine_stopped engine.old ≡ true → device_of engine.new ≡ device_of engine.old }
     ensures device { failures_of engine.old ≤ failures_of engine.new }
     ensures records { AddsOneAtMost (log_of engine.old) (log_of engine.new) }
 {
@@ -120,7 +120,7 @@ fn execute<D: Sectors>(
     requires empty { out.old ≡ [] }
     ensures step { Executes engine.old engine.new s (operation_of command.entry) (has_failed engine.old engine.new) out.new result }
     ensures crash { SurvivesRequest engine.old engine.new s (operation_of command.entry) }
-    ensures still { is_stopped engine.old ≡ true → device_of engine.new ≡ device_of engine.old }
+    ensures still { has_engine_stopped engine.old ≡ true → device_of engine.new ≡ device_of engine.old }
     ensures device { failures_of engine.old ≤ failures_of engine.new }
     ensures records { AddsOneAtMost (log_of engine.old) (log_of engine.new) }
 {
@@ -159,7 +159,7 @@ fn execute_request<D: Sectors>(
     requires { out.old ≡ [] }
     ensures step { Executes engine.old engine.new s (asks request.now) (has_failed engine.old engine.new) out.new result }
     ensures crash { SurvivesRequest engine.old engine.new s (asks request.now) }
-    ensures still { is_stopped engine.old ≡ true → device_of engine.new ≡ device_of engine.old }
+    ensures still { has_engine_stopped engine.old ≡ true → device_of engine.new ≡ device_of engine.old }
     ensures device { failures_of engine.old ≤ failures_of engine.new }
     ensures records { AddsOneAtMost (log_of engine.old) (log_of engine.new) }
 {
@@ -186,7 +186,7 @@ pub(crate) fn abort_transaction<D: Sectors>(engine: &mut Engine<D>, s: u64)
     }
 }
 
-/// What a Serve found at the front of an inbox.
+/// What a Serve found at the head of an inbox.
 #[derive(Clone, Copy)]
 pub(crate) enum Served {
     /// A request of so many bytes; its reply was written.
@@ -199,7 +199,7 @@ pub(crate) enum Served {
     Refused,
 }
 
-/// Executes the request at the front of an inbox, and writes its reply.
+/// Executes the request at the head of an inbox, and writes its reply.
 pub(crate) fn serve_request<D: Sectors>(
     engine: &mut Engine<D>,
     s: u64,
@@ -207,9 +207,9 @@ pub(crate) fn serve_request<D: Sectors>(
     out: &mut ReplyBuffer,
 ) -> Served
     requires { out.old ≡ [] }
-    ensures step { ServesFront engine.old engine.new s (has_failed engine.old engine.new) inbox.now out.new result }
-    ensures crash { SurvivesFront engine.old engine.new s inbox.now }
-    ensures still { is_stopped engine.old ≡ true → device_of engine.new ≡ device_of engine.old }
+    ensures step { ServesHead engine.old engine.new s (has_failed engine.old engine.new) inbox.now out.new result }
+    ensures crash { SurvivesHead engine.old engine.new s inbox.now }
+    ensures still { has_engine_stopped engine.old ≡ true → device_of engine.new ≡ device_of engine.old }
     ensures device { failures_of engine.old ≤ failures_of engine.new }
     ensures records { AddsOneAtMost (log_of engine.old) (log_of engine.new) }
 {

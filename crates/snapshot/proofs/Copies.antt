@@ -28,11 +28,11 @@ use Rattle.model.specs.PrivateCopy.{after_put as copy_put}
 use Rattle.model.specs.PrivateCopy.Mark.{OfKey}
 use Rattle.versions.specs.Chains.{ChainsValue}
 use Rattle.versions.specs.Meaning.{map_seen}
-use Rattle.marks.specs.Marked.{is_full_for}
-use Rattle.write_buffer.specs.Buffered.{AreEntries, written, with_write}
+use Rattle.marks.specs.Marked.{is_full_for_mark}
+use Rattle.write_buffer.specs.Buffered.{AreEntries, last_write, with_write}
 use Rattle.snapshot.specs.Made.{HasMade, MakesOneMore, IsFullWhen, IsDoneReply, IsFault, is_refused}
 use Rattle.snapshot.specs.View.{View, new_view, or_else, value_read, after_get, keys_of, copy_held, is_full_get}
-use Rattle.snapshot.specs.View.{marked, after_put}
+use Rattle.snapshot.specs.View.{marked, view_after_put}
 use Rattle.snapshot.specs.declared.faults.SnapshotFault.{SnapshotFault}
 use Rattle.snapshot.specs.declared.faults.SnapshotFault.TheVariants.{FullWrites, FullMarks, Memory}
 
@@ -40,7 +40,7 @@ use Rattle.snapshot.specs.declared.faults.SnapshotFault.TheVariants.{FullWrites,
 
 -- what the map has at a key after the writes
 pub value_held : (ws : List KeyWrite) (m : KeyMap) (q : Bytes) → T (is_sorted (slice_cmp nat_cmp) ws)
-    → value_at (after_writes m ws) q ≡ or_else (written ws q) (value_at m q)
+    → value_at (after_writes m ws) q ≡ or_else (last_write ws q) (value_at m q)
 value_held [] m q h = refl
 value_held (w ∷ ws) m q h =
     let p = parts (below_all (slice_cmp nat_cmp) w.0 ws) (is_sorted (slice_cmp nat_cmp) ws) h in
@@ -48,7 +48,7 @@ value_held (w ∷ ws) m q h =
     let none = find_none key_cmp w.0 ws p.0 in
     grind (arith, common_steps, value_after_write m w.0 w.1 q, same_key q w.0)
 
-pub any_keys : (k : Bytes) (ws : List KeyWrite) → list_any (is_same_key k) (keys_of ws) ≡ is_some (written ws k)
+pub any_keys : (k : Bytes) (ws : List KeyWrite) → list_any (is_same_key k) (keys_of ws) ≡ is_some (last_write ws k)
 any_keys k [] = refl
 any_keys k (w ∷ ws) = grind (arith, common_steps, any_keys k ws)
 
@@ -60,7 +60,7 @@ keys-put : (k : Bytes) (v : Option Bytes) (ws : List KeyWrite) → keys_of (put 
 keys-put k v [] = refl
 keys-put k v (w ∷ ws) = grind (arith, common_steps, keys-put k v ws)
 
-keys-put_same : (k : Bytes) (v : Option Bytes) (ws : List KeyWrite) → T (is_sorted (slice_cmp nat_cmp) ws) → is_some (written ws k) ≡ true
+keys-put_same : (k : Bytes) (v : Option Bytes) (ws : List KeyWrite) → T (is_sorted (slice_cmp nat_cmp) ws) → is_some (last_write ws k) ≡ true
     → keys_of (put (slice_cmp nat_cmp) k v ws) ≡ keys_of ws
 keys-put_same k v [] h e = absurd (both_ways _ refl e)
 keys-put_same k v (w ∷ ws) h e =
@@ -78,11 +78,11 @@ contents-put m k v ws h s = same_map (after_writes m (put (slice_cmp nat_cmp) k 
 
 -- ---- a mark
 
-pub marked_as : (t : View) (m : KeyMap) (mark : Mark) (response : Response) → is_full_for t.marks mark ≡ false
+pub marked_as : (t : View) (m : KeyMap) (mark : Mark) (response : Response) → is_full_for_mark t.marks mark ≡ false
     → after_read (copy_held t m) mark response ≡ (response, copy_held (marked t mark) m)
 marked_as t m mark response e = grind (arith, common_steps, not-false)
 
-pub refused_as : (t : View) (m : KeyMap) (mark : Mark) (response : Response) → is_full_for t.marks mark ≡ true
+pub refused_as : (t : View) (m : KeyMap) (mark : Mark) (response : Response) → is_full_for_mark t.marks mark ≡ true
     → (after_read (copy_held t m) mark response).0 ≡ Refused refusal.FullMarks
 refused_as t m mark response e = grind (arith, common_steps, both_ways, not-true)
 
@@ -93,7 +93,7 @@ module _ (t : View) (m : KeyMap) (k : Bytes) (h : AreEntries t.writes) where
   value_is = value_held t.writes m k h.sorted
 
   -- a mark for which there is room
-  marking : (response : Response) → is_full_for t.marks (OfKey k) ≡ false
+  marking : (response : Response) → is_full_for_mark t.marks (OfKey k) ≡ false
       → after_read (copy_held t m) (OfKey k) response ≡ (response, copy_held (marked t (OfKey k)) m)
   marking response e = marked_as t m (OfKey k) response e
 
@@ -106,10 +106,10 @@ module _ (t : View) (m : KeyMap) (k : Bytes) (h : AreEntries t.writes) where
 -- ---- a write of a key
 
 module _ (t : View) (m : KeyMap) (k : Bytes) (v : Option Bytes) (h : AreEntries t.writes) where
-  pub respond-put : IsMap m → buffer.is_full_for t.writes k ≡ false → copy_put (copy_held t m) k v ≡ (Done, copy_held (after_put t k v) m)
+  pub respond-put : IsMap m → buffer.is_full_for_key t.writes k ≡ false → copy_put (copy_held t m) k v ≡ (Done, copy_held (view_after_put t k v) m)
   respond-put is_map e = grind (arith, common_steps, contents-put, any_keys, keys-put_same, length-keys_of, not-false, keys-put)
 
-  pub respond-put_full : buffer.is_full_for t.writes k ≡ true → (copy_put (copy_held t m) k v).0 ≡ Refused refusal.FullWrites
+  pub respond-put_full : buffer.is_full_for_key t.writes k ≡ true → (copy_put (copy_held t m) k v).0 ≡ Refused refusal.FullWrites
   respond-put_full e = grind (arith, common_steps, any_keys, both_ways, length-keys_of, not-true)
 
 -- ---- what the calls answer, after own requests
@@ -147,10 +147,10 @@ respond_write c k None = refl
 respond_write c k (Some v) = refl
 
 pub put-made : (t : View) (m : KeyMap) (qs : List Operation) (k : Bytes) (v : Option Bytes) → AreEntries (with_write t.writes k v)
-    → buffer.is_full_for t.writes k ≡ false → HasMade t m qs → HasMade (after_put t k v) m (qs ++ write_of k v ∷ [])
+    → buffer.is_full_for_key t.writes k ≡ false → HasMade t m qs → HasMade (view_after_put t k v) m (qs ++ write_of k v ∷ [])
 put-made t m qs k v entries e h = grind (arith, common_steps, respond_write, respond-put, copy_after-push)
 
-pub put-done : (t : View) (m : KeyMap) (qs : List Operation) (k : Bytes) (v : Option Bytes) → buffer.is_full_for t.writes k ≡ false → HasMade t m qs
+pub put-done : (t : View) (m : KeyMap) (qs : List Operation) (k : Bytes) (v : Option Bytes) → buffer.is_full_for_key t.writes k ≡ false → HasMade t m qs
     → answer m qs (write_of k v) ≡ Done
 put-done t m qs k v e h =
     answer_held t m qs (write_of k v) h
@@ -158,12 +158,12 @@ put-done t m qs k v e h =
 
 -- a call that answered Ok was not refused
 -- the clauses of a write, by what the buffer answered
-pub put-refused : (t : View) (m : KeyMap) (qs : List Operation) (k : Bytes) (v : Option Bytes) → buffer.is_full_for t.writes k ≡ true → HasMade t m qs
+pub put-refused : (t : View) (m : KeyMap) (qs : List Operation) (k : Bytes) (v : Option Bytes) → buffer.is_full_for_key t.writes k ≡ true → HasMade t m qs
     → answer m qs (write_of k v) ≡ Refused refusal.FullWrites
 put-refused t m qs k v full h =
     answer_held t m qs (write_of k v) h ∙ ap (λ (r : Response × PrivateCopy). r.0) (respond_write (copy_held t m) k v) ∙ respond-put_full t m k v h.entries full
 
-pub put-granted : (t : View) (m : KeyMap) (qs : List Operation) (k : Bytes) (v : Option Bytes) → buffer.is_full_for t.writes k ≡ false → HasMade t m qs
+pub put-granted : (t : View) (m : KeyMap) (qs : List Operation) (k : Bytes) (v : Option Bytes) → buffer.is_full_for_key t.writes k ≡ false → HasMade t m qs
     → is_refused (answer m qs (write_of k v)) ≡ false
 put-granted t m qs k v room h = ap is_refused (put-done t m qs k v room h)
 
@@ -172,7 +172,7 @@ pub record Answered (r : Result (Unit {0}) faults.WritesFault) (old new : List K
   pub ok : OnOk r (new ≡ with_write old k v)
   pub err : OnErr r (new ≡ old)
   pub entries : AreEntries new
-  pub full : (r ≡ Err writes_fault.FullWrites) ↔ IsTrue (buffer.is_full_for old k)
+  pub full : (r ≡ Err writes_fault.FullWrites) ↔ IsTrue (buffer.is_full_for_key old k)
 
 abbrev pub as_fault : Result (Unit {0}) faults.WritesFault → Result (Unit {0}) SnapshotFault
 as_fault (Ok x) = Ok x
@@ -192,7 +192,7 @@ pub write-made : (r : Result (Unit {0}) faults.WritesFault) (t : View) (new : Li
 write-made a0 a1 a2 a3 a4 a5 = grind (arith, common_steps, put-made, room_after)
 
 pub write-full : (r : Result (Unit {0}) faults.WritesFault) (old new : List KeyWrite) (k : Bytes) (v : Option Bytes) → Answered r old new k v
-    → (as_fault r ≡ Err FullWrites) ↔ IsTrue (buffer.is_full_for old k)
+    → (as_fault r ≡ Err FullWrites) ↔ IsTrue (buffer.is_full_for_key old k)
 write-full a0 a1 a2 a3 a4 a5 = grind (arith, common_steps)
 
 -- the mark of a read changes no answer
@@ -220,18 +220,18 @@ never_of {B} {e} h is = h (ap Err is)
 
 -- ---- what the own requests wrote and read
 
-all_apart : (x : KeyWrite) (ws us : List KeyWrite) → T (below_all (slice_cmp nat_cmp) x.0 us) → AllByRecursion (λ w. written ws w.0 ≡ Some w.1) us
-    → AllByRecursion (λ w. written (x ∷ ws) w.0 ≡ Some w.1) us
+all_apart : (x : KeyWrite) (ws us : List KeyWrite) → T (below_all (slice_cmp nat_cmp) x.0 us) → AllByRecursion (λ w. last_write ws w.0 ≡ Some w.1) us
+    → AllByRecursion (λ w. last_write (x ∷ ws) w.0 ≡ Some w.1) us
 all_apart x ws [] b h = tt
 all_apart x ws (u ∷ us) b h = let y = parts _ _ b in
-    (ap (λ c. cond c (Some x.1) (written ws u.0)) (same_key_comm u.0 x.0 ∙ ap is_eq (less _ y.0)) ∙ h.0, all_apart x ws us y.1 h.1)
+    (ap (λ c. cond c (Some x.1) (last_write ws u.0)) (same_key_comm u.0 x.0 ∙ ap is_eq (less _ y.0)) ∙ h.0, all_apart x ws us y.1 h.1)
 
-all_written : (ws : List KeyWrite) → T (is_sorted (slice_cmp nat_cmp) ws) → AllByRecursion (λ w. written ws w.0 ≡ Some w.1) ws
+all_written : (ws : List KeyWrite) → T (is_sorted (slice_cmp nat_cmp) ws) → AllByRecursion (λ w. last_write ws w.0 ≡ Some w.1) ws
 all_written [] h = tt
 all_written (x ∷ ws) h = let y = parts _ _ h in
-    (ap (λ c. cond c (Some x.1) (written ws x.0)) (same_key_itself x.0), all_apart x ws ws y.0 (all_written ws y.1))
+    (ap (λ c. cond c (Some x.1) (last_write ws x.0)) (same_key_itself x.0), all_apart x ws ws y.0 (all_written ws y.1))
 
-values_of : (m : KeyMap) (ws us : List KeyWrite) → T (is_sorted (slice_cmp nat_cmp) ws) → AllByRecursion (λ w. written ws w.0 ≡ Some w.1) us
+values_of : (m : KeyMap) (ws us : List KeyWrite) → T (is_sorted (slice_cmp nat_cmp) ws) → AllByRecursion (λ w. last_write ws w.0 ≡ Some w.1) us
     → us ≡ values_at (after_writes m ws) (keys_of us)
 values_of m ws [] s h = refl
 values_of m ws (u ∷ us) s h = λ i. (u.0, sym (value_held ws m u.0 s ∙ ap (λ o. or_else o (value_at m u.0)) h.0) i) ∷ values_of m ws us s h.1 i

@@ -13,7 +13,7 @@ use Rattle.model.specs.KeyBytes.{key_bytes, end_bytes}
 use Rattle.model.specs.Map.{Bytes, KeyMap, KeyWrite, IsInBounds, key_cmp, is_in_range, is_below, pairs_in_range}
 use Rattle.model.specs.PrivateCopy.{last_key, page_end}
 use Rattle.model.specs.declared.ranges.RangeRef.{RangeRef}
-use Rattle.snapshot.specs.Merged.{with_value, merged_one, merged, all_rows, rows_of}
+use Rattle.snapshot.specs.Merged.{with_pair, merged_one, merged, all_rows, rows_of}
 use Rattle.snapshot.specs.View.{View}
 
 -- ---- one pair after another
@@ -83,7 +83,7 @@ module _ (p : Bytes → Bool) where
   keys_where [] = tt
   keys_where {V} (e ∷ es) = grind (arith, common_steps, keys_where es)
 
-  keys-with_value : (k : Bytes) (v : Option Bytes) (es : KeyMap) → p k ≡ true → HaveKeys p es → HaveKeys p (with_value k v es)
+  keys-with_value : (k : Bytes) (v : Option Bytes) (es : KeyMap) → p k ≡ true → HaveKeys p es → HaveKeys p (with_pair k v es)
   keys-with_value k None es h g = g
   keys-with_value k (Some v) es h g = (h, g)
 

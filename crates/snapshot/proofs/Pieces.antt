@@ -17,9 +17,9 @@ use Rattle.model.proofs.Lookups.{same_key, same_map, value_in_range, IsMap-after
 use Rattle.model.specs.Map.{Bytes, KeyMap, KeyWrite, IsMap, key_cmp, is_same_key, value_at, after_writes, is_below}
 use Rattle.model.specs.Map.{is_in_range, pairs_in_range}
 use Rattle.versions.proofs.Visibles.{where_twice}
-use Rattle.write_buffer.specs.Buffered.{written}
+use Rattle.write_buffer.specs.Buffered.{last_write}
 use Rattle.snapshot.proofs.Copies.{value_held}
-use Rattle.snapshot.specs.Merged.{with_value, merged, merged_one}
+use Rattle.snapshot.specs.Merged.{with_pair, merged, merged_one}
 use Rattle.snapshot.specs.View.{or_else}
 
 pub rest_all : {X : Type 0} (l : List X) (a : ℕ) → take (length l - a) (drop a l) ≡ drop a l
@@ -45,7 +45,7 @@ span lo hi es fs gs below from = grind (arith, common_steps, where_key, slice_cm
 abbrev pub IsAbove : {X : Type 0} → Bytes → List (Bytes × X) → Type 0
 IsAbove k es = T (below_all (slice_cmp nat_cmp) k es)
 
-above-with : (j k : Bytes) (v : Option Bytes) (ps : KeyMap) → key_cmp j k ≡ Less → IsAbove j ps → IsAbove j (with_value k v ps)
+above-with : (j k : Bytes) (v : Option Bytes) (ps : KeyMap) → key_cmp j k ≡ Less → IsAbove j ps → IsAbove j (with_pair k v ps)
 above-with j k None ps o h = h
 above-with j k (Some v) ps o h = both _ _ (is_less _ o) h
 
@@ -62,7 +62,7 @@ above-merged : (j : Bytes) (ws : List KeyWrite) (ps : KeyMap) → IsAbove j ws �
 above-merged j [] ps h g = g
 above-merged j (w ∷ ws) ps h g = let y = parts _ _ h in above_one j w (merged ws) (λ qs x. above-merged j ws qs y.1 x) (less _ y.0) ps g
 
-sorted-with : (k : Bytes) (v : Option Bytes) (ps : KeyMap) → IsAbove k ps → IsMap ps → IsMap (with_value k v ps)
+sorted-with : (k : Bytes) (v : Option Bytes) (ps : KeyMap) → IsAbove k ps → IsMap ps → IsMap (with_pair k v ps)
 sorted-with k None ps a h = h
 sorted-with k (Some v) ps a h = both _ _ a h
 
@@ -70,7 +70,7 @@ sorted-with k (Some v) ps a h = both _ _ a h
 record Rest (w : KeyWrite) (ws : List KeyWrite) (f : KeyMap → KeyMap) : Type 0 where
   above : (j : Bytes) (ps : KeyMap) → IsAbove j ws → IsAbove j ps → IsAbove j (f ps)
   maps : (ps : KeyMap) → IsMap ps → IsMap (f ps)
-  found : (q : Bytes) (ps : KeyMap) → IsMap ps → value_at (f ps) q ≡ or_else (written ws q) (value_at ps q)
+  found : (q : Bytes) (ps : KeyMap) → IsMap ps → value_at (f ps) q ≡ or_else (last_write ws q) (value_at ps q)
   first : IsAbove w.0 ws
 
 is_map_one : (w : KeyWrite) (ws : List KeyWrite) (f : KeyMap → KeyMap) → Rest w ws f → (ps : KeyMap) → IsMap ps → IsMap (merged_one w f ps)
@@ -78,7 +78,7 @@ is_map_one w ws f r [] h = sorted-with w.0 w.1 (f []) (r.above w.0 [] r.first tt
 is_map_one w ws f r (p ∷ ps) h =
     let y = parts _ _ h in
     elim (key_cmp w.0 p.0) as (λ o. key_cmp w.0 p.0 ≡ o
-    → IsMap (by_order o (with_value w.0 w.1 (f (p ∷ ps))) (with_value w.0 w.1 (f ps)) (p ∷ merged_one w f ps))) [
+    → IsMap (by_order o (with_pair w.0 w.1 (f (p ∷ ps))) (with_pair w.0 w.1 (f ps)) (p ∷ merged_one w f ps))) [
       | Less ↦ λ o. sorted-with w.0 w.1 (f (p ∷ ps)) (r.above w.0 (p ∷ ps) r.first (both _ _ (is_less _ o) (below_later nat_list_cmp_total w.0 p.0 ps o y.0)))
           (r.maps (p ∷ ps) h)
       | Equal ↦ λ o. sorted-with w.0 w.1 (f ps) (r.above w.0 ps r.first (subst (λ k. IsAbove k ps) (sym (exact_bytes w.0 p.0 o)) y.0)) (r.maps ps y.1)
@@ -89,7 +89,7 @@ is_map_one w ws f r (p ∷ ps) h =
 
 -- a write before what f leaves
 found-with : (q : Bytes) (w : KeyWrite) (ws : List KeyWrite) (l : KeyMap) (v : Option Bytes) → IsAbove w.0 ws → IsAbove w.0 l
-    → value_at l q ≡ or_else (written ws q) v → value_at (with_value w.0 w.1 l) q ≡ or_else (cond (is_same_key q w.0) (Some w.1) (written ws q)) v
+    → value_at l q ≡ or_else (last_write ws q) v → value_at (with_pair w.0 w.1 l) q ≡ or_else (cond (is_same_key q w.0) (Some w.1) (last_write ws q)) v
 found-with q w ws l v a b e = grind (arith, common_steps, same_key q w.0, find_none key_cmp w.0 l b)
 
 through : (b : Bool) (o : Option (Option Bytes)) (v : Bytes) (w : Option Bytes) → (b ≡ true → o ≡ None)
@@ -98,22 +98,22 @@ through true o v w h = sym (ap (λ o. or_else o (Some v)) (h refl))
 through false o v w h = refl
 
 found_one : (q : Bytes) (w : KeyWrite) (ws : List KeyWrite) (f : KeyMap → KeyMap) → Rest w ws f → (ps : KeyMap) → IsMap ps
-    → value_at (merged_one w f ps) q ≡ or_else (cond (is_same_key q w.0) (Some w.1) (written ws q)) (value_at ps q)
+    → value_at (merged_one w f ps) q ≡ or_else (cond (is_same_key q w.0) (Some w.1) (last_write ws q)) (value_at ps q)
 found_one q w ws f r [] h = found-with q w ws (f []) None r.first (r.above w.0 [] r.first tt) (r.found q [] tt)
 found_one q w ws f r (p ∷ ps) h =
     let y = parts _ _ h in
     elim (key_cmp w.0 p.0) as (λ o. key_cmp w.0 p.0 ≡ o
-    → value_at (by_order o (with_value w.0 w.1 (f (p ∷ ps))) (with_value w.0 w.1 (f ps)) (p ∷ merged_one w f ps)) q
-    ≡ or_else (cond (is_same_key q w.0) (Some w.1) (written ws q)) (value_at (p ∷ ps) q)) [
+    → value_at (by_order o (with_pair w.0 w.1 (f (p ∷ ps))) (with_pair w.0 w.1 (f ps)) (p ∷ merged_one w f ps)) q
+    ≡ or_else (cond (is_same_key q w.0) (Some w.1) (last_write ws q)) (value_at (p ∷ ps) q)) [
       | Less ↦ λ o. found-with q w ws (f (p ∷ ps)) (value_at (p ∷ ps) q) r.first
           (r.above w.0 (p ∷ ps) r.first (both _ _ (is_less _ o) (below_later nat_list_cmp_total w.0 p.0 ps o y.0))) (r.found q (p ∷ ps) h)
       | Equal ↦ λ o.
           let same : w.0 ≡ p.0 = exact_bytes w.0 p.0 o in
           found-with q w ws (f ps) (value_at ps q) r.first (r.above w.0 ps r.first (subst (λ k. IsAbove k ps) (sym same) y.0)) (r.found q ps y.1)
-          ∙ hidden (is_same_key q w.0) (is_same_key q p.0) w.1 (written ws q) p.1 (value_at ps q) (ap (is_same_key q) same)
+          ∙ hidden (is_same_key q w.0) (is_same_key q p.0) w.1 (last_write ws q) p.1 (value_at ps q) (ap (is_same_key q) same)
       | Greater ↦ λ o. ap (cond (is_same_key q p.0) (Some p.1)) (found_one q w ws f r ps y.1)
-          ∙ through (is_same_key q p.0) (cond (is_same_key q w.0) (Some w.1) (written ws q)) p.1 (value_at ps q)
-          (λ t. ap (λ k. cond (is_same_key k w.0) (Some w.1) (written ws k)) (same_key q p.0 t)
+          ∙ through (is_same_key q p.0) (cond (is_same_key q w.0) (Some w.1) (last_write ws q)) p.1 (value_at ps q)
+          (λ t. ap (λ k. cond (is_same_key k w.0) (Some w.1) (last_write ws k)) (same_key q p.0 t)
           ∙ find_none key_cmp p.0 (w
           ∷ ws) (both _ _ (is_less _ (turned_greater w.0 p.0 o)) (below_later nat_list_cmp_total p.0 w.0 ws (turned_greater w.0 p.0 o) r.first)))
     ] refl
@@ -125,7 +125,7 @@ found_one q w ws f r (p ∷ ps) h =
 -- both at once: the pairs stay in order, and each key has its write's value or its pair's
 record Merging (ws : List KeyWrite) : Type 0 where
   maps : (ps : KeyMap) → IsMap ps → IsMap (merged ws ps)
-  found : (q : Bytes) (ps : KeyMap) → IsMap ps → value_at (merged ws ps) q ≡ or_else (written ws q) (value_at ps q)
+  found : (q : Bytes) (ps : KeyMap) → IsMap ps → value_at (merged ws ps) q ≡ or_else (last_write ws q) (value_at ps q)
 
 merging : (ws : List KeyWrite) → T (is_sorted (slice_cmp nat_cmp) ws) → Merging ws
 merging [] h = record { maps = λ ps g. g; found = λ q ps g. refl }

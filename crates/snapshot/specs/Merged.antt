@@ -8,18 +8,18 @@ use Rattle.model.specs.Map.{Bytes, KeyMap, KeyWrite, key_cmp, is_in_range, is_em
 use Rattle.model.specs.PrivateCopy.{Mark, mark_up_to, mark_of_reply}
 use Rattle.model.specs.declared.keys.KeyRef.{KeyRef}
 use Rattle.model.specs.declared.ranges.RangeRef.{RangeRef}
-use Rattle.marks.specs.Marked.{has_mark, is_full_for, with_mark}
+use Rattle.marks.specs.Marked.{has_mark, is_full_for_mark, with_mark}
 use Rattle.snapshot.specs.View.{View, marked}
 
-abbrev pub with_value : Bytes → Option Bytes → KeyMap → KeyMap
-with_value k None ps = ps
-with_value k (Some v) ps = (k, v) ∷ ps
+abbrev pub with_pair : Bytes → Option Bytes → KeyMap → KeyMap
+with_pair k None ps = ps
+with_pair k (Some v) ps = (k, v) ∷ ps
 
 -- the pairs with one write in its place, and then f of what is left
 abbrev pub merged_one : KeyWrite → (KeyMap → KeyMap) → KeyMap → KeyMap
-merged_one w f [] = with_value w.0 w.1 (f [])
+merged_one w f [] = with_pair w.0 w.1 (f [])
 merged_one w f (p ∷ ps) =
-    by_order (key_cmp w.0 p.0) (with_value w.0 w.1 (f (p ∷ ps))) (with_value w.0 w.1 (f ps)) (p ∷ merged_one w f ps)
+    by_order (key_cmp w.0 p.0) (with_pair w.0 w.1 (f (p ∷ ps))) (with_pair w.0 w.1 (f ps)) (p ∷ merged_one w f ps)
 
 -- the pairs with the writes over them, both by rising key
 abbrev pub merged : List KeyWrite → KeyMap → KeyMap
@@ -41,7 +41,7 @@ with_page ms r limit page =
 -- the page needs a mark for which there is no room, and it needs no new mark
 abbrev pub is_full_for_page : List Mark → RangeRef → ℕ → KeyMap → Bool
 is_full_for_page ms r limit page =
-    not (is_empty_range (key_bytes r.lo) (end_bytes r.hi)) && is_full_for ms (page_mark r limit page)
+    not (is_empty_range (key_bytes r.lo) (end_bytes r.hi)) && is_full_for_mark ms (page_mark r limit page)
 
 abbrev pub has_page : List Mark → RangeRef → ℕ → KeyMap → Bool
 has_page ms r limit page = is_empty_range (key_bytes r.lo) (end_bytes r.hi) || has_mark ms (page_mark r limit page)

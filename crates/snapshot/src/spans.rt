@@ -3,7 +3,7 @@ ghost use Rattle.std.specs.Prelude.{◌≡◌, ◌↔◌, T, Err, IfSome, IsOk, 
 ghost use Rattle.std.specs.Ordering.{is_le, nat_cmp};
 ghost use Rattle.std.specs.Cmp.Lexicographic.{slice_cmp};
 ghost use Rattle.std.specs.FinMap.Entries.{is_sorted, where_key};
-ghost use Rattle.marks.specs.Marked.{has_mark, is_full_for, with_mark};
+ghost use Rattle.marks.specs.Marked.{has_mark, is_full_for_mark, with_mark};
 ghost use Rattle.model.specs.KeyBytes.{key_bytes, end_bytes};
 ghost use Rattle.model.specs.Map.{key_cmp, is_below, is_in_range, is_empty_range};
 ghost use Rattle.model.specs.Entries.{IsSplit};
@@ -64,7 +64,7 @@ pub(crate) fn mark_up_to(
     requires { IfSome end (λ last. IsTrue (is_le (key_cmp (key_bytes range.lo) (key_bytes last)))) }
     ensures ok { OnOk result (marks.new ≡ with_mark marks.old (mark_to range.entry end.entry)) }
     ensures err { OnErr result (marks.new ≡ marks.old) }
-    ensures full { (result ≡ Err MarksFault.FullMarks) ↔ IsTrue (is_full_for marks.old (mark_to range.entry end.entry)) }
+    ensures full { (result ≡ Err MarksFault.FullMarks) ↔ IsTrue (is_full_for_mark marks.old (mark_to range.entry end.entry)) }
     ensures known { IsTrue (has_mark marks.old (mark_to range.entry end.entry)) → IsOk result }
 {
     match end {

@@ -7,9 +7,9 @@ ghost use Rattle.model.specs.Key.{IsValue};
 ghost use Rattle.model.specs.Map.{KeyMap, KeyWrite, IsMap, IsInBounds};
 ghost use Rattle.model.specs.Operations.Operation.{Get, Set, Del};
 ghost use Rattle.model.specs.PrivateCopy.{answer, copy_after, copy_of, reads, writes};
-ghost use Rattle.write_buffer.specs.Buffered.{AreEntries, written, is_full_for};
+ghost use Rattle.write_buffer.specs.Buffered.{AreEntries, last_write, is_full_for_key};
 ghost use Rattle.versions.specs.Meaning.{map_seen};
-ghost use Rattle.snapshot.specs.View.{new_view, value_read, after_get, after_put, is_full_get, is_known_get};
+ghost use Rattle.snapshot.specs.View.{new_view, value_read, after_get, view_after_put, is_full_get, is_known_get};
 ghost use Rattle.snapshot.specs.Merged.{is_full_range};
 ghost use Rattle.snapshot.specs.RowPairs.{row_pairs};
 ghost use Rattle.snapshot.specs.Made.{HasMade, WhereMade, WhereSeen, MakesOneMore, IsFullWhen, IsValueReply};
@@ -183,9 +183,9 @@ impl Transaction {
     /// `FullWrites`, where the key is new and 64 are written, or `Memory`.
     pub fn put(&mut self, key: KeyRef<'_>, value: &[u8]) -> Result<(), SnapshotFault>
         requires { length value.now ≤ VALUE_MAX }
-        ensures ok { OnOk result (self.new ≡ after_put self.old key.entry.bytes.now (Some value.now)) }
+        ensures ok { OnOk result (self.new ≡ view_after_put self.old key.entry.bytes.now (Some value.now)) }
         ensures err { OnErr result (self.new ≡ self.old) }
-        ensures full { (result ≡ Err SnapshotFault.FullWrites) ↔ IsTrue (is_full_for self.old.writes key.entry.bytes.now) }
+        ensures full { (result ≡ Err SnapshotFault.FullWrites) ↔ IsTrue (is_full_for_key self.old.writes key.entry.bytes.now) }
         ensures reply { WhereMade self.old (λ m qs. IsDoneReply result (answer m qs (Set key.entry.bytes.now value.now))) }
         ensures made { OnOk result (MakesOneMore self.old self.new (Set key.entry.bytes.now value.now)) }
     {
@@ -199,10 +199,10 @@ impl Transaction {
     /// Deletes a key, present or not. Where the key is written already it takes no memory and succeeds; a new one takes a copy of the
     /// key and a place; `FullWrites`, where the key is new and 64 are written, or `Memory`.
     pub fn delete(&mut self, key: KeyRef<'_>) -> Result<(), SnapshotFault>
-        ensures ok { OnOk result (self.new ≡ after_put self.old key.entry.bytes.now None) }
+        ensures ok { OnOk result (self.new ≡ view_after_put self.old key.entry.bytes.now None) }
         ensures err { OnErr result (self.new ≡ self.old) }
-        ensures full { (result ≡ Err SnapshotFault.FullWrites) ↔ IsTrue (is_full_for self.old.writes key.entry.bytes.now) }
-        ensures known { IsTrue (is_some (written self.old.writes key.entry.bytes.now)) → IsOk result }
+        ensures full { (result ≡ Err SnapshotFault.FullWrites) ↔ IsTrue (is_full_for_key self.old.writes key.entry.bytes.now) }
+        ensures known { IsTrue (is_some (last_write self.old.writes key.entry.bytes.now)) → IsOk result }
         ensures reply { WhereMade self.old (λ m qs. IsDoneReply result (answer m qs (Del key.entry.bytes.now))) }
         ensures made { OnOk result (MakesOneMore self.old self.new (Del key.entry.bytes.now)) }
     {

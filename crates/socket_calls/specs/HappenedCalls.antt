@@ -13,8 +13,8 @@ use Rattle.socket_calls.specs.declared.listening.ListeningSocket.{ListeningSocke
 use Rattle.socket_calls.specs.declared.polled.CountedPoll.{CountedPoll}
 
 -- a call of the system answered this error
-pub WasAnswered : Error → Type 0
-WasAnswered error = Unit {0}
+pub SocketAnswered : Error → Type 0
+SocketAnswered error = Unit {0}
 
 -- its next call was a read of these bytes
 pub WasReceived : CountedSocket → List ℕ → Type 0
@@ -59,15 +59,15 @@ pub WasAccepted : ListeningSocket → AcceptedSocket → Type 0
 WasAccepted listener accepted = Unit {0}
 
 -- a poll was asked to report it under this token, for what these interests name, and agreed
-pub TellsOfAccepts : ListeningSocket → Token → Interest → Type 0
-TellsOfAccepts listener token interests = Unit {0}
+pub ReportsAccepts : ListeningSocket → Token → Interest → Type 0
+ReportsAccepts listener token interests = Unit {0}
 
 -- asked for the address at which it listens, the system answered this one
 pub IsAddressOf : ListeningSocket → SocketAddr → Type 0
 IsAddressOf listener address = Unit {0}
 
-pub real_fault : {A : Type 0} (answer : Result A Error) → IfErr answer (λ e. WasAnswered e)
-unfolding WasAnswered
+pub real_fault : {A : Type 0} (answer : Result A Error) → IfErr answer (λ e. SocketAnswered e)
+unfolding SocketAnswered
 real_fault (Ok a) = tt
 real_fault (Err e) = tt
 
@@ -116,10 +116,10 @@ unfolding WasAccepted
 real_accept listener (Ok given) = tt
 real_accept listener (Err error) = tt
 
-pub real_accepts_told : (listener : ListeningSocket) (token : Token) (interests : Interest)
-    → TellsOfAccepts listener token interests
-unfolding TellsOfAccepts
-real_accepts_told listener token interests = tt
+pub real_accepts_reported : (listener : ListeningSocket) (token : Token) (interests : Interest)
+    → ReportsAccepts listener token interests
+unfolding ReportsAccepts
+real_accepts_reported listener token interests = tt
 
 pub real_address : (answer : Result SocketAddr Error) (listener : ListeningSocket)
     → IfOk answer (λ address. IsAddressOf listener address)

@@ -1,6 +1,6 @@
 -- The facts of a connection as it stands after so many calls: the bytes that came over it and those that went. They are
--- left open: no definition here but `next`, `moved`, `latest` and `bytes_sent` unfolds, and no lemma is about one, so
--- that nothing can be shown of them nor refuted.
+-- left open: no definition here but `socket_after_call`, `moved`, `latest` and `bytes_sent` unfolds, and no lemma is
+-- about one, so that nothing can be shown of them nor refuted.
 use Rattle.std.specs.Prelude.{◌≡◌, ℕ, ◌+◌, ◌-◌, ◌^◌, List, [], ◌∷◌, Result, Ok, Err, max, min}
 use Rattle.socket_calls.specs.declared.counted.AcceptedSocket.{AcceptedSocket}
 use Rattle.socket_calls.specs.declared.counted.CountedSocket.{CountedSocket}
@@ -24,8 +24,8 @@ abbrev pub bytes_sent : CountedSocket → List ℕ
 bytes_sent socket = latest [] (departed socket)
 
 -- the connection after one call more
-abbrev pub next : CountedSocket → CountedSocket
-next socket = record socket { calls = min (socket.calls + 1) (2 ^ 64 - 1) }
+abbrev pub socket_after_call : CountedSocket → CountedSocket
+socket_after_call socket = record socket { calls = min (socket.calls + 1) (2 ^ 64 - 1) }
 
 -- how many bytes a call moved; one that failed moved none
 abbrev pub moved : {E : Type 0} → Result ℕ E → ℕ
@@ -33,8 +33,8 @@ moved (Ok n) = n
 moved (Err error) = 0
 
 -- its connection is the one that was accepted
-abbrev pub IsOf : AcceptedSocket → CountedSocket → Type 0
-IsOf accepted socket = socket.stream ≡ accepted.stream
+abbrev pub IsConnectionOf : AcceptedSocket → CountedSocket → Type 0
+IsConnectionOf accepted socket = socket.stream ≡ accepted.stream
 
 -- a listener after one accept more was asked of it
 abbrev pub asked_once : ListeningSocket → ListeningSocket

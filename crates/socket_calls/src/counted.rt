@@ -37,13 +37,13 @@ pub struct CountedSocket {
 
 impl CountedSocket {
     ghost use Rattle.std.specs.Prelude.{IfErr, OnOk};
-    ghost use Rattle.socket_calls.specs.HappenedCalls.{AsksWhetherThere, EndedWriting, SendsAtOnce, WasAnswered};
+    ghost use Rattle.socket_calls.specs.HappenedCalls.{AsksWhetherThere, EndedWriting, SendsAtOnce, SocketAnswered};
     ghost use Rattle.socket_calls.specs.HappenedCalls.{WasReceived, WasRegistered, WasReregistered, WasSent};
-    ghost use Rattle.socket_calls.specs.OpenFacts.{IsOf, moved, next};
+    ghost use Rattle.socket_calls.specs.OpenFacts.{IsConnectionOf, moved, socket_after_call};
 
     /// The connection under this number, of which no call was made. Takes no memory.
     pub fn new(accepted: AcceptedSocket, connection: u64) -> CountedSocket
-        ensures stream { IsOf accepted result }
+        ensures stream { IsConnectionOf accepted result }
         ensures calls { result.calls ≡ 0 }
         ensures connection { result.connection ≡ connection }
     {
@@ -63,7 +63,7 @@ impl CountedSocket {
     ) -> io::Result<()>
         ensures same { self.new ≡ self.old }
         ensures registered { OnOk result (WasRegistered self.old token interests) }
-        ensures error { IfErr result (λ e. WasAnswered e) }
+        ensures error { IfErr result (λ e. SocketAnswered e) }
     {
         poll.registry().register(&mut self.stream, token, interests)
     }
@@ -78,7 +78,7 @@ impl CountedSocket {
     ) -> io::Result<()>
         ensures same { self.new ≡ self.old }
         ensures registered { OnOk result (WasReregistered self.old token interests) }
-        ensures error { IfErr result (λ e. WasAnswered e) }
+        ensures error { IfErr result (λ e. SocketAnswered e) }
     {
         poll.registry()
             .reregister(&mut self.stream, token, interests)
@@ -88,7 +88,7 @@ impl CountedSocket {
     /// error. It is no counted call.
     pub fn send_at_once(&self) -> io::Result<()>
         ensures sends { OnOk result (SendsAtOnce self.now) }
-        ensures error { IfErr result (λ e. WasAnswered e) }
+        ensures error { IfErr result (λ e. SocketAnswered e) }
     {
         self.stream.set_nodelay(true)
     }
@@ -98,7 +98,7 @@ impl CountedSocket {
     /// call.
     pub fn ask_whether_there(&self, silent: u32, between: u32, probes: u32) -> io::Result<()>
         ensures asks { OnOk result (AsksWhetherThere self.now silent between probes) }
-        ensures error { IfErr result (λ e. WasAnswered e) }
+        ensures error { IfErr result (λ e. SocketAnswered e) }
     {
         self.set_option(c::IPPROTO_TCP, c::TCP_KEEPIDLE, silent)?;
         self.set_option(c::IPPROTO_TCP, c::TCP_KEEPINTVL, between)?;
@@ -121,7 +121,7 @@ impl CountedSocket {
     /// Reads some bytes, and says how many. Answers the system's error. Takes no memory.
     pub fn read(&mut self, into: &mut [u8]) -> io::Result<usize>
         ensures bound { ReadsAtMost result into.new }
-        ensures next { self.new ≡ next self.old }
+        ensures next { self.new ≡ socket_after_call self.old }
         ensures over { self.old.calls ≡ 2 ^ 64 - 1 → IsErr result }
         ensures happened { self.old.calls ≢ 2 ^ 64 - 1 → WasReceived self.old (take (moved result) into.new) }
     {
@@ -133,7 +133,7 @@ impl CountedSocket {
     /// be copied: so this is how it stands as the bytes leave. Takes no memory.
     pub fn write<D: Sectors>(&mut self, device: &D, from: &[u8]) -> io::Result<usize>
         ensures bound { WritesAtMost result from.now }
-        ensures next { self.new ≡ next self.old }
+        ensures next { self.new ≡ socket_after_call self.old }
         ensures over { self.old.calls ≡ 2 ^ 64 - 1 → IsErr result }
         ensures happened { self.old.calls ≢ 2 ^ 64 - 1 → WasSent self.old (take (moved result) from.now) (D.moment device.now) }
     {
@@ -146,14 +146,14 @@ impl CountedSocket {
     /// Shuts the connection down for writing once what was written has gone. Answers the system's error. It is no counted call.
     pub fn end_writing(&self) -> io::Result<()>
         ensures ended { OnOk result (EndedWriting self.now) }
-        ensures error { IfErr result (λ e. WasAnswered e) }
+        ensures error { IfErr result (λ e. SocketAnswered e) }
     {
         self.stream.shutdown(Shutdown::Write)
     }
 
     /// Counts a call; `Other` where no more can be counted.
     fn count_call(&mut self) -> io::Result<()>
-        ensures next { self.new ≡ next self.old }
+        ensures next { self.new ≡ socket_after_call self.old }
         ensures over { IsErr result ↔ (self.old.calls ≡ 2 ^ 64 - 1) }
     {
         if self.calls == u64::MAX {

@@ -16,7 +16,7 @@ pub struct ListeningSocket {
 }
 
 impl ListeningSocket {
-    ghost use Rattle.socket_calls.specs.HappenedCalls.{IsAddressOf, ListensAt, TellsOfAccepts, WasAccepted};
+    ghost use Rattle.socket_calls.specs.HappenedCalls.{IsAddressOf, ListensAt, ReportsAccepts, WasAccepted};
     ghost use Rattle.socket_calls.specs.OpenFacts.{asked_once};
 
     /// Listens at an address. Port 0 stands for one that the system picks. Answers the system's error. Takes no memory.
@@ -38,7 +38,7 @@ impl ListeningSocket {
         interests: Interest,
     ) -> io::Result<()>
         ensures same { self.new ≡ self.old }
-        ensures registered { OnOk result (TellsOfAccepts self.old token interests) }
+        ensures registered { OnOk result (ReportsAccepts self.old token interests) }
     {
         poll.registry()
             .register(&mut self.listener, token, interests)

@@ -21,8 +21,8 @@ use Rattle.model.specs.Map.{Bytes, key_cmp}
 use Rattle.sorted_pages.proofs.Keys.{below_of, above_of, first_of, starts_lower, starts-append, starts-put}
 use Rattle.sorted_pages.proofs.Keys.{filled-put, find_middle, put_middle}
 use Rattle.sorted_pages.specs.Pages.{AreAllFull, AreFull, AreTight, Page, entries, starts_by, last_room, room_at}
-use Rattle.sorted_pages.specs.Pages.{last_page, count_at, page_entries, stands_behind, IsHalved, AreLoose, IsFilled}
-use Rattle.sorted_pages.specs.Pages.{AreRestFilled, IsInOrder, AreBelow, IsPlace, IsRoomier, StaysTight}
+use Rattle.sorted_pages.specs.Pages.{last_page, count_at, page_entries, stands_behind, IsHalved, AreLoose, HasEntry}
+use Rattle.sorted_pages.specs.Pages.{RestHaveEntries, IsInOrder, AreBelow, IsPlace, IsRoomier, StaysTight}
 
 -- ---- lists
 
@@ -55,38 +55,38 @@ module _ {X : Type 0} where
   sorted_page before page after h =
       sorted_left key_cmp page.0 (entries after) (sorted_right key_cmp (entries before) (page.0 ++ entries after) (sorted_parts before page after h))
 
-  rest_of_all : (ps : List (Page X)) → AllByRecursion IsFilled ps → AreRestFilled ps
+  rest_of_all : (ps : List (Page X)) → AllByRecursion HasEntry ps → RestHaveEntries ps
   rest_of_all ps h = grind (arith, common_steps)
 
-  after_filled : (before : List (Page X)) (page : Page X) (after : List (Page X)) → AreRestFilled (before ++ page ∷ after) → AllByRecursion IsFilled after
+  after_filled : (before : List (Page X)) (page : Page X) (after : List (Page X)) → RestHaveEntries (before ++ page ∷ after) → AllByRecursion HasEntry after
   after_filled [] page after h = h
-  after_filled (b ∷ before) page after h = (all-back IsFilled before (page ∷ after) h).1
+  after_filled (b ∷ before) page after h = (all-back HasEntry before (page ∷ after) h).1
 
-  page_filled : (before : List (Page X)) (page : Page X) (after : List (Page X)) → 0 < length before → AreRestFilled (before ++ page ∷ after) → IsFilled page
+  page_filled : (before : List (Page X)) (page : Page X) (after : List (Page X)) → 0 < length before → RestHaveEntries (before ++ page ∷ after) → HasEntry page
   page_filled [] page after lt h = absurd (omega arith)
-  page_filled (b ∷ before) page after lt h = (all-back IsFilled before (page ∷ after) h).0
+  page_filled (b ∷ before) page after lt h = (all-back HasEntry before (page ∷ after) h).0
 
   -- ---- where a key stands
 
-  heads : (x k : Bytes) (ps : List (Page X)) (j : ℕ) (d : Page X) → IsBelowAll x (entries ps) → AllByRecursion IsFilled ps → j < length ps
+  heads : (x k : Bytes) (ps : List (Page X)) (j : ℕ) (d : Page X) → IsBelowAll x (entries ps) → AllByRecursion HasEntry ps → j < length ps
       → starts_by k (get_or ps j d).0 ≡ true → is_le (key_cmp x k) ≡ true
   heads x k [] j d h f lt t = absurd (omega arith)
   heads x k (p ∷ ps) zero d h f lt t = ap is_le (first_of x k p.0 (below_left key_cmp x p.0 (entries ps) h) f.0 t)
   heads x k (p ∷ ps) (suc j) d h f lt t = heads x k ps j d (below_right key_cmp x p.0 (entries ps) h) f.1 (omega arith) t
 
-  starts_too : (k : Bytes) (es : List (Bytes × X)) (ps : List (Page X)) (j : ℕ) (d : Page X) → IsSorted (es ++ entries ps) → AllByRecursion IsFilled ps
+  starts_too : (k : Bytes) (es : List (Bytes × X)) (ps : List (Page X)) (j : ℕ) (d : Page X) → IsSorted (es ++ entries ps) → AllByRecursion HasEntry ps
       → j < length ps → starts_by k (get_or ps j d).0 ≡ true → starts_by k es ≡ true
   starts_too k es ps j d h f lt t = grind (arith, common_steps, heads, below_right, parts)
 
   -- the pages that start by k come first
-  pub parted : (k : Bytes) (ps : List (Page X)) → IsSorted (entries ps) → AreRestFilled ps → IsPartitionedBy (λ (p : Page X). starts_by k p.0) ps
+  pub parted : (k : Bytes) (ps : List (Page X)) → IsSorted (entries ps) → RestHaveEntries ps → IsPartitionedBy (λ (p : Page X). starts_by k p.0) ps
   parted k [] h f i j d le lt t = absurd (omega arith)
   parted k (p ∷ ps) h f zero zero d le lt t = t
   parted k (p ∷ ps) h f zero (suc j) d le lt t = starts_too k p.0 ps j d h f (omega arith) t
   parted k (p ∷ ps) h f (suc i) zero d le lt t = absurd (omega arith)
   parted k (p ∷ ps) h f (suc i) (suc j) d le lt t = parted k ps (sorted_right key_cmp p.0 (entries ps) h) (rest_of_all ps f) i j d (omega arith) (omega arith) t
 
-  all_above : (k : Bytes) (ps : List (Page X)) → IsSorted (entries ps) → AllByRecursion IsFilled ps
+  all_above : (k : Bytes) (ps : List (Page X)) → IsSorted (entries ps) → AllByRecursion HasEntry ps
       → AllByRecursion (λ (p : Page X). starts_by k p.0 ≡ false) ps → IsBelowAll k (entries ps)
   all_above k [] h f n = tt
   all_above k (p ∷ ps) h f n = above_of k p.0 (entries ps) h f.0 n.0
@@ -229,25 +229,25 @@ module _ {X : Type 0} where
 
   -- ---- a changed page
 
-  swap_filled : (before : List (Page X)) (p r : Page X) (after : List (Page X)) → (IsFilled p → IsFilled r) → AreRestFilled (before ++ p ∷ after)
-      → AreRestFilled (before ++ r ∷ after)
+  swap_filled : (before : List (Page X)) (p r : Page X) (after : List (Page X)) → (HasEntry p → HasEntry r) → RestHaveEntries (before ++ p ∷ after)
+      → RestHaveEntries (before ++ r ∷ after)
   swap_filled [] p r after g h = h
   swap_filled (b ∷ bs) p r after g h =
-      let back = all-back IsFilled bs (p ∷ after) h in
-      all-append IsFilled bs (r ∷ after) (all-front IsFilled bs (p ∷ after) h) (g back.0, back.1)
+      let back = all-back HasEntry bs (p ∷ after) h in
+      all-append HasEntry bs (r ∷ after) (all-front HasEntry bs (p ∷ after) h) (g back.0, back.1)
 
-  two_filled : (before : List (Page X)) (p lo up : Page X) (after : List (Page X)) → IsFilled lo → IsFilled up → AreRestFilled (before ++ p ∷ after)
-      → AreRestFilled (before ++ lo ∷ up ∷ after)
+  two_filled : (before : List (Page X)) (p lo up : Page X) (after : List (Page X)) → HasEntry lo → HasEntry up → RestHaveEntries (before ++ p ∷ after)
+      → RestHaveEntries (before ++ lo ∷ up ∷ after)
   two_filled [] p lo up after f g h = (g, h)
   two_filled (b ∷ bs) p lo up after f g h =
-      all-append IsFilled bs (lo ∷ up ∷ after) (all-front IsFilled bs (p ∷ after) h) (f, (g, (all-back IsFilled bs (p ∷ after) h).1))
+      all-append HasEntry bs (lo ∷ up ∷ after) (all-front HasEntry bs (p ∷ after) h) (f, (g, (all-back HasEntry bs (p ∷ after) h).1))
 
   -- pages with more room
   pub record Grown (old new : List (Page X)) : Type 0 where
     pub order : IsInOrder new
     pub roomier : IsRoomier old new
 
-  same_order : (old new : List (Page X)) → entries new ≡ entries old → AreRestFilled new → IsInOrder old → IsInOrder new
+  same_order : (old new : List (Page X)) → entries new ≡ entries old → RestHaveEntries new → IsInOrder old → IsInOrder new
   same_order old new e f h = record { sorted = subst (λ (l : List (Bytes × X)). IsSorted l) (sym e) h.sorted; filled = f }
 
   grown_parts : (b : List (Page X)) (p r : Page X) (a : List (Page X)) → IsInOrder (b ++ p ∷ a) → r.0 ≡ p.0 → p.1 ≤ r.1 → Grown (b ++ p ∷ a) (b ++ r ∷ a)
@@ -259,7 +259,7 @@ module _ {X : Type 0} where
         roomier = record { entries = e; rooms = λ q. omega (arith, room-replaced 0 q b p r a (omega arith) (λ lt. ap (starts_by q) same)) };
       }
 
-  split_parts : (b : List (Page X)) (p lo up : Page X) (a : List (Page X)) → IsInOrder (b ++ p ∷ a) → p.0 ≡ lo.0 ++ up.0 → IsFilled lo → IsFilled up
+  split_parts : (b : List (Page X)) (p lo up : Page X) (a : List (Page X)) → IsInOrder (b ++ p ∷ a) → p.0 ≡ lo.0 ++ up.0 → HasEntry lo → HasEntry up
       → p.1 ≤ lo.1 → p.1 ≤ up.1 → Grown (b ++ p ∷ a) (b ++ lo ∷ up ∷ a)
   split_parts b p lo up a h same f g l u =
       grind (arith, common_steps, entries-append, append_assoc, halves, sorted_page, same_order, two_filled, room-split, starts-append, starts_lower)
@@ -323,7 +323,7 @@ module _ {X : Type 0} where
       ap (λ (l : List (Page X)). insert l n up) (set_is ps k i lo w) ∙ ap (λ m. insert (w.before ++ lo ∷ w.after) m up) at ∙ insert_after w.before lo up w.after
 
   pub split : (ps : List (Page X)) (k : Bytes) (i n : ℕ) (p lo up : Page X) → IsPlace ps k i → p ≡ get_or ps i p → IsInOrder ps → n ≡ i + 1 → p.0 ≡ lo.0 ++ up.0
-      → IsFilled lo → IsFilled up → p.1 ≤ lo.1 → p.1 ≤ up.1 → Grown ps (insert (set ps i lo) n up)
+      → HasEntry lo → HasEntry up → p.1 ≤ lo.1 → p.1 ≤ up.1 → Grown ps (insert (set ps i lo) n up)
   split ps k i n p lo up w is h at same f g l u =
       let e = page_is ps k i p w is in
       rw (split_is ps k i n lo up w at, w.is)
@@ -332,13 +332,13 @@ module _ {X : Type 0} where
 
   -- the key stands in one part or the other
   pub split_count : (ps : List (Page X)) (k : Bytes) (i n : ℕ) (p lo up : Page X) → IsPlace ps k i → p ≡ get_or ps i p → n ≡ i + 1 → p.0 ≡ lo.0 ++ up.0
-      → IsFilled lo
+      → HasEntry lo
       → (count_at k (insert (set ps i lo) n up) ≡ length lo.0) ⊎ (count_at k (insert (set ps i lo) n up) ≡ length up.0)
   split_count ps k i n p lo up w is at same f = grind (arith, common_steps, split_is, starts-append, page_is, cases_Bool, append_assoc, count_here)
 
   -- a page that is cut in the middle
   pub halved : (ps old new : List (Page X)) (k : Bytes) (i n cut : ℕ) (p lo up : Page X) → old ≡ ps → new ≡ insert (set ps i lo) n up → IsPlace ps k i
-      → p ≡ get_or ps i p → n ≡ i + 1 → p.0 ≡ lo.0 ++ up.0 → IsFilled lo
+      → p ≡ get_or ps i p → n ≡ i + 1 → p.0 ≡ lo.0 ++ up.0 → HasEntry lo
       → lo.0 ≡ take cut p.0 → cut ≤ length p.0 → (stands_behind k p.0 ≡ false → 2 * cut ≤ length p.0) → (stands_behind k p.0 ≡ false → length p.0 ≤ 2 * cut + 1)
       → IsHalved k old new
   halved ps old new k i n cut p lo up was now w is at same f lower within under over =
@@ -423,7 +423,7 @@ module _ {X : Type 0} where
       → record { order : IsInOrder (ps ++ p ∷ []); entries : entries (ps ++ p ∷ []) ≡ entries ps ++ e ∷ [] }
   pushed_page ps e h g p is = grind (arith, common_steps, entries-append)
 
-  set_filled : (qs : List (Page X)) (j : ℕ) (q s : Page X) → q ≡ get_or qs j q → (IsFilled q → IsFilled s) → AreRestFilled qs → AreRestFilled (set qs j s)
+  set_filled : (qs : List (Page X)) (j : ℕ) (q s : Page X) → q ≡ get_or qs j q → (HasEntry q → HasEntry s) → RestHaveEntries qs → RestHaveEntries (set qs j s)
   set_filled qs j q s is f a = grind (arith, common_steps, all_set)
 
   same_list : (qs : List (Page X)) (j : ℕ) (q s : Page X) (more : List (Bytes × X)) → j + 1 ≡ length qs → q ≡ get_or qs j q → s.0 ≡ q.0 ++ more

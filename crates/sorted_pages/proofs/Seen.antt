@@ -18,7 +18,7 @@ use Rattle.model.proofs.InOrder.{both, parts}
 use Rattle.model.specs.Map.{Bytes}
 use Rattle.sorted_pages.specs.Blanks.{IsBlankTo, shown}
 use Rattle.sorted_pages.specs.Gaps.{AreBeside, IsBeside, IsHiddenFrom, are_active_or_none, end_beside, active_or_none}
-use Rattle.sorted_pages.specs.Gaps.{is_in_some, is_none, is_within, none, with_gap}
+use Rattle.sorted_pages.specs.Gaps.{is_in_some, is_empty_gap, is_within, no_gap, with_gap}
 use Rattle.sorted_pages.specs.Summaries.{AreAllHiddenIn, AreHidden, AreHiddenIn, AreOver, IsSummary, IsSummaryBut}
 use Rattle.sorted_pages.specs.Summaries.{KeepsGap, all_but, hides_but, hides_some, is_known}
 use Rattle.sorted_pages.specs.declared.gap.Gap.{Gap}
@@ -291,15 +291,15 @@ module _ {X : Type 0} (hides : ℕ → X → Bool) (shows : X → Bool) where
   opened es s none h n le = none_shows n es (h.live ∙ none) (h.after n le)
 
   abbrev with_first : Gap → Older → Older
-  with_first g o = cond (is_none o.first) (record o { first = g }) (cond (is_none o.second) (record o { second = g }) (record o { third = g }))
+  with_first g o = cond (is_empty_gap o.first) (record o { first = g }) (cond (is_empty_gap o.second) (record o { second = g }) (record o { third = g }))
 
   one_more : (es : List (Bytes × X)) (g : Gap) (o : Older) → AreHiddenIn hides es g → AreAllHiddenIn hides es o → AreAllHiddenIn hides es (with_gap g o)
-  one_more es g o h all = elim (is_none g) as (λ b. AreAllHiddenIn hides es (cond b o (with_first g o))) [
+  one_more es g o h all = elim (is_empty_gap g) as (λ b. AreAllHiddenIn hides es (cond b o (with_first g o))) [
     | true ↦ all
-    | false ↦ elim (is_none o.first) as
-        (λ b. AreAllHiddenIn hides es (cond b (record o { first = g }) (cond (is_none o.second) (record o { second = g }) (record o { third = g })))) [
+    | false ↦ elim (is_empty_gap o.first) as
+        (λ b. AreAllHiddenIn hides es (cond b (record o { first = g }) (cond (is_empty_gap o.second) (record o { second = g }) (record o { third = g })))) [
           | true ↦ record { first = h; second = all.second; third = all.third }
-          | false ↦ elim (is_none o.second) as (λ b. AreAllHiddenIn hides es (cond b (record o { second = g }) (record o { third = g }))) [
+          | false ↦ elim (is_empty_gap o.second) as (λ b. AreAllHiddenIn hides es (cond b (record o { second = g }) (record o { third = g }))) [
             | true ↦ record { first = all.first; second = h; third = all.third }
             | false ↦ record { first = all.first; second = all.second; third = h }
           ]
@@ -320,7 +320,7 @@ module _ {X : Type 0} (hides : ℕ → X → Bool) (shows : X → Bool) where
 
   still_hidden : (ns : List ℕ) (es : List (Bytes × X)) (g : Gap) → AreHiddenIn hides es g → AreHiddenIn hides es (active_or_none ns g)
   still_hidden ns es g h =
-      elim (list_any (λ n. is_within n g) ns) as (λ b. AreHiddenIn hides es (cond b g none)) [ true ↦ h | false ↦ λ n low high. absurd (omega arith) ]
+      elim (list_any (λ n. is_within n g) ns) as (λ b. AreHiddenIn hides es (cond b g no_gap)) [ true ↦ h | false ↦ λ n low high. absurd (omega arith) ]
 
   pub active_gaps : (ns : List ℕ) (es : List (Bytes × X)) (s t : Summary) → t.first ≡ s.first → t.last ≡ s.last → t.live ≡ s.live → t.gap ≡ s.gap
       → t.older ≡ are_active_or_none ns s.older → IsSummary hides shows es s → IsSummary hides shows es t
@@ -352,13 +352,13 @@ module _ {X : Type 0} (hides : ℕ → X → Bool) (shows : X → Bool) where
 
   -- a number of a gap that was kept is in some of them
   in_some : (n : ℕ) (g : Gap) (o : Older) → is_within n g ≡ true → is_in_some n (with_gap g o) ≡ true
-  in_some n g o t = elim (is_none g) as (λ b. is_none g ≡ b → is_in_some n (cond b o (with_first g o)) ≡ true) [
+  in_some n g o t = elim (is_empty_gap g) as (λ b. is_empty_gap g ≡ b → is_in_some n (cond b o (with_first g o)) ≡ true) [
     | true ↦ λ e. (let p = and_parts (nat_le g.from n) (nat_lt n g.to) t in let low : g.from ≤ n = grind (arith, nat_tests) in let top : n
         < g.to = grind (arith, nat_tests) in let none : g.to ≤ g.from = grind (arith, nat_tests) in absurd (omega arith))
-    | false ↦ λ e. elim (is_none o.first) as
-        (λ b. is_in_some n (cond b (record o { first = g }) (cond (is_none o.second) (record o { second = g }) (record o { third = g }))) ≡ true) [
+    | false ↦ λ e. elim (is_empty_gap o.first) as
+        (λ b. is_in_some n (cond b (record o { first = g }) (cond (is_empty_gap o.second) (record o { second = g }) (record o { third = g }))) ≡ true) [
           | true ↦ or_left (is_within n g) (is_within n o.second || is_within n o.third) t
-          | false ↦ elim (is_none o.second) as (λ b. is_in_some n (cond b (record o { second = g }) (record o { third = g })) ≡ true) [
+          | false ↦ elim (is_empty_gap o.second) as (λ b. is_in_some n (cond b (record o { second = g }) (record o { third = g })) ≡ true) [
             | true ↦ or_right (is_within n o.first) (is_within n g || is_within n o.third) (or_left (is_within n g) (is_within n o.third) t)
             | false ↦ or_right (is_within n o.first) (is_within n o.second || is_within n g) (or_right (is_within n o.second) (is_within n g) t)
           ]

@@ -7,15 +7,15 @@ use Rattle.sorted_pages.specs.declared.older.Older.{Older}
 abbrev pub is_within : ℕ → Gap → Bool
 is_within n g = nat_le g.from n && nat_lt n g.to
 
-abbrev pub none : Gap
-none = record { from = 0; to = 0 }
+abbrev pub no_gap : Gap
+no_gap = record { from = 0; to = 0 }
 
-abbrev pub is_none : Gap → Bool
-is_none g = nat_le g.to g.from
+abbrev pub is_empty_gap : Gap → Bool
+is_empty_gap g = nat_le g.to g.from
 
 -- the gap, where one of these active numbers is in it
 abbrev pub active_or_none : List ℕ → Gap → Gap
-active_or_none ns g = if list_any (λ n. is_within n g) ns then g else none
+active_or_none ns g = if list_any (λ n. is_within n g) ns then g else no_gap
 
 -- where the numbers below `to` end that may see nothing of a value: at its last change, if it shows
 abbrev pub end_beside : {X : Type 0} → (X → Bool) → (X → ℕ) → X → ℕ → ℕ
@@ -51,5 +51,5 @@ are_active_or_none ns o = record {
 
 -- with one gap more, if it has a number: in the first place that has none, and in the last where each has one
 abbrev pub with_gap : Gap → Older → Older
-with_gap g o = if is_none g then o else if is_none o.first then record o { first = g } else if is_none o.second then
-    record o { second = g } else record o { third = g }
+with_gap g o = if is_empty_gap g then o else if is_empty_gap o.first then record o { first = g }
+    else if is_empty_gap o.second then record o { second = g } else record o { third = g }

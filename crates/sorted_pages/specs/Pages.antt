@@ -113,18 +113,18 @@ abbrev pub AreAllFull : {X : Type 0} → List (Page X) → Type 0
 AreAllFull ps = AllByRecursion (λ p. 384 ≤ length p.0) ps
 
 -- the page has an entry
-abbrev pub IsFilled : {X : Type 0} → Page X → Type 0
-IsFilled p = 0 < length p.0
+abbrev pub HasEntry : {X : Type 0} → Page X → Type 0
+HasEntry p = 0 < length p.0
 
 -- each page but the first has an entry
-abbrev pub AreRestFilled : {X : Type 0} → List (Page X) → Type 0
-AreRestFilled [] = ⊤
-AreRestFilled (p ∷ ps) = AllByRecursion IsFilled ps
+abbrev pub RestHaveEntries : {X : Type 0} → List (Page X) → Type 0
+RestHaveEntries [] = ⊤
+RestHaveEntries (p ∷ ps) = AllByRecursion HasEntry ps
 
 -- the keys of all pages rise strictly
 pub record IsInOrder {X : Type 0} (ps : List (Page X)) : Type 0 where
   pub sorted : T (is_sorted (slice_cmp nat_cmp) (entries ps))
-  pub filled : AreRestFilled ps
+  pub filled : RestHaveEntries ps
 
 -- the keys of the entries are below k
 abbrev pub AreBelow : {X : Type 0} → Bytes → List (Bytes × X) → Type 0

@@ -31,8 +31,8 @@ IsFirstShown hides [] = ⊤
 IsFirstShown hides (e ∷ es) = hides e.1 ≡ false
 
 -- a lent entry's key and value
-abbrev pub entry_of : {X : Type 0} → KeyRef × Bor X → Bytes × X
-entry_of e = (key_bytes e.0, e.1.now)
+abbrev pub lent_entry : {X : Type 0} → KeyRef × Bor X → Bytes × X
+lent_entry e = (key_bytes e.0, e.1.now)
 
 -- k is at most each of the keys
 abbrev pub AreFrom : {X : Type 0} → Bytes → List (Bytes × X) → Type 0

@@ -12,18 +12,18 @@ pub(crate) struct Gap {
 
 impl Gap {
     ghost use Rattle.std.specs.List.{list_any};
-    ghost use Rattle.sorted_pages.specs.Gaps.{IsBeside, active_or_none, is_none, is_within, none};
+    ghost use Rattle.sorted_pages.specs.Gaps.{IsBeside, active_or_none, is_empty_gap, is_within, no_gap};
 
     // That of no number.
     pub(crate) fn none() -> Gap
-        ensures { result ≡ none }
+        ensures { result ≡ no_gap }
     {
         Gap { from: 0, to: 0 }
     }
 
     // Is there no number in it?
     pub(crate) fn is_none(self) -> bool
-        ensures { result ≡ is_none self }
+        ensures { result ≡ is_empty_gap self }
     {
         self.to <= self.from
     }

@@ -63,9 +63,9 @@ impl<'a, V: Aging> Iterator for Entries<'a, V> {
     type Item = (KeyRef<'a>, &'a V);
 
     ghost use Rattle.std.specs.Iterator.{YieldsFirstBy, item_count};
-    ghost use Rattle.sorted_pages.specs.Ranges.{entries_left, entry_of};
+    ghost use Rattle.sorted_pages.specs.Ranges.{entries_left, lent_entry};
 
-    ghost next_gives = { YieldsFirstBy entry_of (entries_left V.hides) };
+    ghost next_gives = { YieldsFirstBy lent_entry (entries_left V.hides) };
 
     ghost remaining = { item_count (entries_left V.hides) };
 

@@ -1,7 +1,7 @@
 //! The program: its words and its standard streams go to the commands, and it ends with the status that they answer.
 #![tactic(auto)]
 
-use commands::{Ending, Fault, NullDevice, keep_standard, report, tell};
+use commands::{Ending, Fault, NullDevice, finish, keep_standard, report};
 use std::alloc::{Alloc, AllocError, Global};
 use std::env::{self, Env};
 use std::io::{self, ErrorKind, IsTerminal};
@@ -32,7 +32,7 @@ fn main(rt: HostRuntime) -> ExitCode {
             }
             Err(_) => report(Fault::Memory, &mut err).status,
         },
-        Err(error) => tell(&refused(rt.alloc(), &error), &mut out, &mut err).status,
+        Err(error) => finish(&refused(rt.alloc(), &error), &mut out, &mut err).status,
     };
     drop(kept);
     ExitCode::from(status)

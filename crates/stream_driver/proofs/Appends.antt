@@ -18,9 +18,9 @@ use Rattle.sessions.specs.declared.events.Outcome.{Outcome}
 use Rattle.sessions.specs.declared.events.Outcome.TheVariants.{Done, Memory}
 use Rattle.stream_driver.proofs.States.{seen_after}
 use Rattle.stream_driver.specs.Appends.{AddsNone, AddsOne, IsReplied, KeepsShare, ServesOnce}
-use Rattle.stream_driver.specs.Appends.{AppendsAtMost, SpendsShare, ready_count, ready_in, ready_of}
+use Rattle.stream_driver.specs.Appends.{AppendsAtMost, SpendsShare, ready_count, ready_in, count_if_ready}
 use Rattle.stream_driver.specs.Calls.{Flushes, WritesSome}
-use Rattle.stream_driver.specs.Sends.{LeadsTelling}
+use Rattle.stream_driver.specs.Sends.{LeadsAnswering}
 use Rattle.stream_driver.specs.Sessions.{Ghosts, Hub, Leads, Stands, pending_at, session_of}
 use Rattle.stream_driver.specs.Traffic.{KeepsTo, Traffic, bytes_written}
 use Rattle.stream_driver.specs.Types.{Empty, Exchange, WriteAnswer, Wrote, Entry, EntryState, Ready}
@@ -110,14 +110,14 @@ module _ {D : Type 0} {g : Ghosts D} {old new : Hub D g} where
   }
 
 -- a reply is pending
-pub replied_now : {D : Type 0} {g : Ghosts D} {a b : Hub D g} {s : ℕ} {tells : Type 0} {t u : Traffic} → Stands a
-    → LeadsTelling s tells a t b u (λ h k. pending_at k.hub s ≢ []) → pending_of b s ≢ []
+pub replied_now : {D : Type 0} {g : Ghosts D} {a b : Hub D g} {s : ℕ} {reports : Type 0} {t u : Traffic} → Stands a
+    → LeadsAnswering s reports a t b u (λ h k. pending_at k.hub s ≢ []) → pending_of b s ≢ []
 replied_now {D} {g} {a} {b} {s} some p =
     seen_after (hlevel) some p.leads (λ h k was is some_now none. some_now (sym (pending_seen b k.hub is s) ∙ none))
 
 -- nothing is pending once the output was written
-pub pending_none : {D : Type 0} {g : Ghosts D} {a b : Hub D g} {s : ℕ} {tells : Type 0} {t u : Traffic} → Stands a
-    → LeadsTelling s tells a t b u (λ h k. Flushes s tells h t Empty k u) → pending_of b s ≡ []
+pub pending_none : {D : Type 0} {g : Ghosts D} {a b : Hub D g} {s : ℕ} {reports : Type 0} {t u : Traffic} → Stands a
+    → LeadsAnswering s reports a t b u (λ h k. Flushes s reports h t Empty k u) → pending_of b s ≡ []
 pending_none {D} {g} {a} {b} {s} some p = seen_after (hlevel props) some p.leads (λ h k was is q. pending_seen b k.hub is s ∙ q.why.1)
 
 pub none_none : {D : Type 0} {g : Ghosts D} (s : ℕ) (hub : Hub D g) → AddsNone s hub hub
@@ -125,18 +125,18 @@ none_none s hub = record { records = refl; wrote = refl }
 
 -- Since the drive began, with so many records and a stream whose share was ended so or not, none was added. Or one was, and the stream takes no more than the
 -- reply to that request; or it takes nothing more, and the reply to the next one is pending.
-pub data SoFar {D : Type 0} {g : Ghosts D} {T : Type 0} (most : ℕ → T → Type 0) (told : T → Bool) (s records : ℕ) (was : Bool) (hub : Hub D g) (stream : T) :
+pub data SoFar {D : Type 0} {g : Ghosts D} {T : Type 0} (most : ℕ → T → Type 0) (is_over : T → Bool) (s records : ℕ) (was : Bool) (hub : Hub D g) (stream : T) :
     Type 0 where
-  AddedNone : records_of hub ≡ records → told stream ≡ was → SoFar most told s records was hub stream
-  AddedOne : records_of hub ≡ records + 1 → has_written hub s ≡ false → most (length (pending_of hub s)) stream → told stream ≡ true
-      → SoFar most told s records was hub stream
-  TakesNone : records_of hub ≡ records + 1 → pending_of hub s ≢ [] → most 0 stream → told stream ≡ true → SoFar most told s records was hub stream
+  AddedNone : records_of hub ≡ records → is_over stream ≡ was → SoFar most is_over s records was hub stream
+  AddedOne : records_of hub ≡ records + 1 → has_written hub s ≡ false → most (length (pending_of hub s)) stream → is_over stream ≡ true
+      → SoFar most is_over s records was hub stream
+  TakesNone : records_of hub ≡ records + 1 → pending_of hub s ≢ [] → most 0 stream → is_over stream ≡ true → SoFar most is_over s records was hub stream
 
 -- nothing is pending: no record was added, or one was, and the stream takes nothing more
 abbrev pub IsOut : {D : Type 0} {g : Ghosts D} {T : Type 0} → (ℕ → T → Type 0) → (T → Bool) → ℕ → ℕ → Bool → Hub D g → T → Type 0
-IsOut most told s records was hub stream =
-    ((records_of hub ≡ records) × (told stream ≡ was))
-    ⊎ ((records_of hub ≡ records + 1) × (has_written hub s ≡ false) × most 0 stream × (told stream ≡ true))
+IsOut most is_over s records was hub stream =
+    ((records_of hub ≡ records) × (is_over stream ≡ was))
+    ⊎ ((records_of hub ≡ records + 1) × (has_written hub s ≡ false) × most 0 stream × (is_over stream ≡ true))
 
 -- as many as before, or one more, with which the share was ended
 abbrev pub IsOnce : ℕ → Bool → ℕ → Bool → Type 0
@@ -156,14 +156,14 @@ none_written (Wrote n) differs = absurd (differs n refl)
 none_written _ differs = refl
 
 -- of the bytes that a stream takes at most, some are written, and then others
-keeps_to_none : {T : Type 0} {most : ℕ → T → Type 0} {told : T → Bool} (t : T) → KeepsTo most told t 0 t
+keeps_to_none : {T : Type 0} {most : ℕ → T → Type 0} {is_over : T → Bool} (t : T) → KeepsTo most is_over t 0 t
 keeps_to_none {most = most} t = record {
   takes = λ n m. (let same : n ≡ n - 0 = omega arith in (omega arith, subst (λ x. most x t) same m));
   stays = refl;
 }
 
-keeps_to_then : {T : Type 0} {most : ℕ → T → Type 0} {told : T → Bool} {t u v : T} (a b c : ℕ) → a + b ≡ c → KeepsTo most told t a u → KeepsTo most told u b v
-    → KeepsTo most told t c v
+keeps_to_then : {T : Type 0} {most : ℕ → T → Type 0} {is_over : T → Bool} {t u v : T} (a b c : ℕ) → a + b ≡ c → KeepsTo most is_over t a u
+    → KeepsTo most is_over u b v → KeepsTo most is_over t c v
 keeps_to_then {most = most} {v = v} a b c all p q = record {
   takes = λ n m.
       let first = p.takes n m in
@@ -173,8 +173,8 @@ keeps_to_then {most = most} {v = v} a b c all p q = record {
   stays = q.stays ∙ p.stays;
 }
 
-module _ {D : Type 0} {g : Ghosts D} {T : Type 0} {keeps : Type 0} {most : ℕ → T → Type 0} {told : T → Bool} {s : ℕ} where
-  pub spends_none : (hub : Hub D g) (t : T) → SpendsShare keeps most told s hub t hub t
+module _ {D : Type 0} {g : Ghosts D} {T : Type 0} {keeps : Type 0} {most : ℕ → T → Type 0} {is_over : T → Bool} {s : ℕ} where
+  pub spends_none : (hub : Hub D g) (t : T) → SpendsShare keeps most is_over s hub t hub t
   spends_none hub t = record {
     sent = 0;
     pending = omega arith;
@@ -182,11 +182,11 @@ module _ {D : Type 0} {g : Ghosts D} {T : Type 0} {keeps : Type 0} {most : ℕ �
     adds = none_none s hub;
   }
 
-  pub keeps_none : (hub : Hub D g) (t : T) → KeepsShare keeps most told s hub t hub t
+  pub keeps_none : (hub : Hub D g) (t : T) → KeepsShare keeps most is_over s hub t hub t
   keeps_none hub t = record { share = λ k. keeps_to_none t; adds = none_none s hub }
 
-  pub spends_then : {a b c : Hub D g} {t u v : T} → SpendsShare keeps most told s a t b u → SpendsShare keeps most told s b u c v
-      → SpendsShare keeps most told s a t c v
+  pub spends_then : {a b c : Hub D g} {t u v : T} → SpendsShare keeps most is_over s a t b u → SpendsShare keeps most is_over s b u c v
+      → SpendsShare keeps most is_over s a t c v
   spends_then p q = record {
     sent = p.sent + q.sent;
     pending = omega (arith, p.pending, q.pending);
@@ -195,14 +195,14 @@ module _ {D : Type 0} {g : Ghosts D} {T : Type 0} {keeps : Type 0} {most : ℕ �
   }
 
   -- what was asked for was only the beginning of a request, and the stream was read
-  pub keeps_idle : {a b c d : Hub D g} {t u v : T} → KeepsShare keeps most told s a t b u → AddsNone s b c → KeepsShare keeps most told s c u d v
-      → KeepsShare keeps most told s a t d v
+  pub keeps_idle : {a b c d : Hub D g} {t u v : T} → KeepsShare keeps most is_over s a t b u → AddsNone s b c → KeepsShare keeps most is_over s c u d v
+      → KeepsShare keeps most is_over s a t d v
   keeps_idle p idle q =
       record { share = λ k. keeps_to_then 0 0 0 refl (p.share k) (q.share k); adds = none_then (none_then p.adds idle) q.adds }
 
   -- and then a request was served
-  pub serves_then : {a b c : Hub D g} {t u : T} {answer : Exchange} → KeepsShare keeps most told s a t b u → AddsOne s b c
-      → IsReplied answer (pending_of c s) → ServesOnce keeps most told s a t answer c u
+  pub serves_then : {a b c : Hub D g} {t u : T} {answer : Exchange} → KeepsShare keeps most is_over s a t b u → AddsOne s b c
+      → IsReplied answer (pending_of c s) → ServesOnce keeps most is_over s a t answer c u
   serves_then p q replied = record {
     share = λ k same. p.share k;
     adds = record {
@@ -214,8 +214,8 @@ module _ {D : Type 0} {g : Ghosts D} {T : Type 0} {keeps : Type 0} {most : ℕ �
   }
 
   -- none was served
-  pub serves_not : {a b : Hub D g} {t u : T} {answer : Exchange} → KeepsShare keeps most told s a t b u → IsReplied answer (pending_of b s)
-      → ServesOnce keeps most told s a t answer b u
+  pub serves_not : {a b : Hub D g} {t u : T} {answer : Exchange} → KeepsShare keeps most is_over s a t b u → IsReplied answer (pending_of b s)
+      → ServesOnce keeps most is_over s a t answer b u
   serves_not p replied = record {
     share = λ k same. p.share k;
     adds = record { none = λ none. p.adds.records; one = λ differs. absurd (differs p.adds.records); ended = λ differs. absurd (differs p.adds.records) };
@@ -223,9 +223,9 @@ module _ {D : Type 0} {g : Ghosts D} {T : Type 0} {keeps : Type 0} {most : ℕ �
   }
 
   -- so many bytes were written of what was pending
-  pub spends_some : {a b : Hub D g} {t u : T} {tells : Type 0} {before after : Traffic} (n : ℕ) → Stands a
-      → Leads a b (λ h k. WritesSome s tells h before (Wrote n) k after) → (keeps → KeepsTo most told t n u) → AddsNone s a b
-      → SpendsShare keeps most told s a t b u
+  pub spends_some : {a b : Hub D g} {t u : T} {reports : Type 0} {before after : Traffic} (n : ℕ) → Stands a
+      → Leads a b (λ h k. WritesSome s reports h before (Wrote n) k after) → (keeps → KeepsTo most is_over t n u) → AddsNone s a b
+      → SpendsShare keeps most is_over s a t b u
   spends_some {a} {b} n some leads takes adds = record {
     sent = n;
     pending = seen_after (hlevel ℕ_set) some leads
@@ -234,15 +234,15 @@ module _ {D : Type 0} {g : Ghosts D} {T : Type 0} {keeps : Type 0} {most : ℕ �
     adds = adds;
   }
 
-  pub spends_not : {a : Hub D g} {t u : T} (answer : WriteAnswer) → ((n : ℕ) → answer ≢ Wrote n) → (keeps → KeepsTo most told t (bytes_written answer) u)
-      → SpendsShare keeps most told s a t a u
+  pub spends_not : {a : Hub D g} {t u : T} (answer : WriteAnswer) → ((n : ℕ) → answer ≢ Wrote n) → (keeps → KeepsTo most is_over t (bytes_written answer) u)
+      → SpendsShare keeps most is_over s a t a u
   spends_not {a} answer differs takes =
       record { sent = bytes_written answer; pending = omega (arith, none_written answer differs); share = takes; adds = none_none s a }
 
 -- ---- the entries of a table, one after another
 
 pub at_most_one : {D : Type 0} {g : Ghosts D} {old new : Hub D g} {state : EntryState} {was is : Bool} → state ≡ Ready
-    → IsOnce (records_of old) was (records_of new) is → AppendsAtMost (ready_of state) old new
+    → IsOnce (records_of old) was (records_of new) is → AppendsAtMost (count_if_ready state) old new
 at_most_one e (inl x) = rw e (record { kept = omega (arith, x.0); few = omega (arith, x.0) })
 at_most_one e (inr x) = rw e (record { kept = omega (arith, x.0); few = omega (arith, x.0) })
 
@@ -267,24 +267,24 @@ appends_more key slots slot is p q =
 
 -- ---- between two requests
 
-once : {D : Type 0} {g : Ghosts D} {T : Type 0} {most : ℕ → T → Type 0} {told : T → Bool} {s records : ℕ} {was : Bool} {hub : Hub D g} {stream : T}
-    → SoFar most told s records was hub stream → IsOnce records was (records_of hub) (told stream)
+once : {D : Type 0} {g : Ghosts D} {T : Type 0} {most : ℕ → T → Type 0} {is_over : T → Bool} {s records : ℕ} {was : Bool} {hub : Hub D g} {stream : T}
+    → SoFar most is_over s records was hub stream → IsOnce records was (records_of hub) (is_over stream)
 once (AddedNone same still) = inl (same, still)
 once (AddedOne one written takes on) = inr (one, on)
 once (TakesNone one some takes on) = inr (one, on)
 
-module _ {D : Type 0} {g : Ghosts D} {T : Type 0} {keeps : Type 0} {most : ℕ → T → Type 0} {told : T → Bool} {s records : ℕ} {was : Bool} {hub new : Hub D g}
+module _ {D : Type 0} {g : Ghosts D} {T : Type 0} {keeps : Type 0} {most : ℕ → T → Type 0} {is_over : T → Bool} {s records : ℕ} {was : Bool} {hub new : Hub D g}
     {stream after : T} where
-  pub spent : keeps → SoFar most told s records was hub stream → SpendsShare keeps most told s hub stream new after
-      → IsOnce records was (records_of new) (told after)
+  pub spent : keeps → SoFar most is_over s records was hub stream → SpendsShare keeps most is_over s hub stream new after
+      → IsOnce records was (records_of new) (is_over after)
   spent k p q = elim (once p) [
     | inl x ↦ inl (q.adds.records ∙ x.0, (q.share k).stays ∙ x.1)
     | inr x ↦ inr (q.adds.records ∙ x.0, (q.share k).stays ∙ x.1)
   ]
 
   -- all that was pending was written
-  pub out : keeps → SoFar most told s records was hub stream → SpendsShare keeps most told s hub stream new after → pending_of new s ≡ []
-      → IsOut most told s records was new after
+  pub out : keeps → SoFar most is_over s records was hub stream → SpendsShare keeps most is_over s hub stream new after → pending_of new s ≡ []
+      → IsOut most is_over s records was new after
   out k (AddedNone same still) q none = inl (q.adds.records ∙ same, (q.share k).stays ∙ still)
   out k (AddedOne one written takes on) q none =
       let left = (q.share k).takes (length (pending_of hub s)) takes in
@@ -295,9 +295,9 @@ module _ {D : Type 0} {g : Ghosts D} {T : Type 0} {keeps : Type 0} {most : ℕ �
       absurd (some (nil_from_length (pending_of hub s) (omega (arith, q.pending, ap length none, left.0))))
 
   -- a request was looked for, and where that added a record the share was ended, and the stream takes no more than the reply
-  pub served : {answer : Exchange} → keeps → IsOut most told s records was hub stream → ServesOnce keeps most told s hub stream answer new after
-      → (records_of new ≢ records_of hub → most (length (pending_of new s)) after) → (records_of new ≢ records_of hub → told after ≡ true)
-      → pending_of new s ≢ [] → SoFar most told s records was new after
+  pub served : {answer : Exchange} → keeps → IsOut most is_over s records was hub stream → ServesOnce keeps most is_over s hub stream answer new after
+      → (records_of new ≢ records_of hub → most (length (pending_of new s)) after) → (records_of new ≢ records_of hub → is_over after ≡ true)
+      → pending_of new s ≢ [] → SoFar most is_over s records was new after
   served k (inl x) q ends on some = elim (cases_eq (records_of new) (records_of hub)) [
     | inl still ↦ AddedNone (still ∙ x.0) ((q.share k still).stays ∙ x.1)
     | inr differs ↦ AddedOne (q.adds.one differs ∙ ap (λ n. n + 1) x.0) (q.adds.ended differs) (ends differs) (on differs)
@@ -306,8 +306,8 @@ module _ {D : Type 0} {g : Ghosts D} {T : Type 0} {keeps : Type 0} {most : ℕ �
       let still = q.adds.none x.1 in
       TakesNone (still ∙ x.0) some ((q.share k still).takes 0 x.2).1 ((q.share k still).stays ∙ x.3)
 
-  pub served_once : {answer : Exchange} → keeps → IsOut most told s records was hub stream → ServesOnce keeps most told s hub stream answer new after
-      → (records_of new ≢ records_of hub → told after ≡ true) → IsOnce records was (records_of new) (told after)
+  pub served_once : {answer : Exchange} → keeps → IsOut most is_over s records was hub stream → ServesOnce keeps most is_over s hub stream answer new after
+      → (records_of new ≢ records_of hub → is_over after ≡ true) → IsOnce records was (records_of new) (is_over after)
   served_once k (inl x) q on = elim (cases_eq (records_of new) (records_of hub)) [
     | inl still ↦ inl (still ∙ x.0, (q.share k still).stays ∙ x.1)
     | inr differs ↦ inr (q.adds.one differs ∙ ap (λ n. n + 1) x.0, on differs)

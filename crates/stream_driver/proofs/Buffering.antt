@@ -9,16 +9,17 @@ use Rattle.model.proofs.Elements.{all-each, all-append}
 use Rattle.stream_driver.proofs.Answered.{ends_then, moved_then, none_called}
 use Rattle.stream_driver.proofs.Carry.{grown}
 use Rattle.stream_driver.specs.Buffers.{buffered_in, BehindEnds, BehindMoved, FlushFails, GivesSome, KeepsBytes}
-use Rattle.stream_driver.specs.Buffers.{ShortAfter, TakesSome, WasRead, WhyGave, WhyGaveSome, WhyTook, WhyTookSome}
-use Rattle.stream_driver.specs.Buffers.{traffic_through, ReadFails, RoomFails, StaysFailed, WhyRoom, WriteFails}
-use Rattle.stream_driver.specs.Buffers.{HasFailed, KeepsTurn, WritesBuffered, room_in, Flushes, WhyFlushed}
-use Rattle.stream_driver.specs.Traffic.{AllMoved, Departure, DepartAt, EndsWith, IsBeginning, ReadsWithin, Traffic}
+use Rattle.stream_driver.specs.Buffers.{ShortAfter, TakesSome, InnerWasRead, WhyGave, WhyGaveSome, WhyTook}
+use Rattle.stream_driver.specs.Buffers.{WhyTookSome, traffic_through, ReadFails, RoomFails, StaysFailed, WhyRoom}
+use Rattle.stream_driver.specs.Buffers.{WriteFails, HasFailed, KeepsTurn, WritesBuffered, buffer_room, Flushes}
+use Rattle.stream_driver.specs.Buffers.{WhyBufferFlushed}
+use Rattle.stream_driver.specs.Traffic.{AllMoved, Departure, DepartAt, CountsLast, IsBeginning, ReadsWithin, Traffic}
 use Rattle.stream_driver.specs.Traffic.{WritesWithin, bytes_read, bytes_written}
 use Rattle.stream_driver.specs.Types.{ReadAnswer, Moved, WriteAnswer, Wrote, WriteBlocked, WriteFailed, Read, Write}
 use Rattle.stream_driver.specs.Types.{BufferedBytes, Flushed, All, FlushedBlocked as Blocked, FlushedFailed as Failed}
 use Rattle.stream_driver.specs.Types.{BufferedStream, Blocked as ReadBlocked, Failed as ReadFailed}
 
-empty_room : (h : BufferedBytes) → buffered_in h ≡ [] → 0 < room_in h
+empty_room : (h : BufferedBytes) → buffered_in h ≡ [] → 0 < buffer_room h
 empty_room h e =
     let none : length h.bytes.items - h.left ≡ 0 = sym (length-drop h.left h.bytes.items) ∙ ap length e in
     let len : vec_len h.bytes ≡ length h.bytes.items = h.bytes.ok.0 in
@@ -26,7 +27,8 @@ empty_room h e =
     let zero : h.left ≡ 0 = h.empty at_end in
     omega arith
 
-pub room_after : {T : Type 0} (traffic : T → Traffic) (answer : Flushed) (a b : BufferedStream T) → WhyFlushed traffic a answer b → WhyRoom traffic a answer b
+pub room_after : {T : Type 0} (traffic : T → Traffic) (answer : Flushed) (a b : BufferedStream T) → WhyBufferFlushed traffic a answer b
+    → WhyRoom traffic a answer b
 room_after traffic answer a b e = grind (arith, empty_room)
 
 -- a read that moved bytes is short where they are fewer than it asked for, unless such a read means nothing
@@ -66,8 +68,8 @@ module _ {moment : ℕ} {a b : Traffic} where
         search (grown a.departed b.departed b.departed c.departed p.departures q.departures p.departed_are refl q.departed_are, each)
 
 -- between two writes of what is buffered
-abbrev pub FlushedSoFar : {T : Type 0} (tells : Type 0) (traffic : T → Traffic) (moment : ℕ) → BufferedStream T → BufferedStream T → Type 0
-FlushedSoFar tells traffic moment a b = KeepsBytes tells traffic moment a b × StaysFailed a b × BehindMoved traffic a b
+abbrev pub FlushedSoFar : {T : Type 0} (reports : Type 0) (traffic : T → Traffic) (moment : ℕ) → BufferedStream T → BufferedStream T → Type 0
+FlushedSoFar reports traffic moment a b = KeepsBytes reports traffic moment a b × StaysFailed a b × BehindMoved traffic a b
 
 -- ---- whether what is buffered failed to leave
 
@@ -81,7 +83,8 @@ module _ {T : Type 0} where
       inr (grind arith, failed)
 
   -- where there was no room, what is buffered was written
-  pub room_flushed : (a : BufferedStream T) (answer : Flushed) (b : BufferedStream T) → room_in a.buffered ≡ 0 → FlushFails a answer b → RoomFails a answer b
+  pub room_flushed : (a : BufferedStream T) (answer : Flushed) (b : BufferedStream T) → buffer_room a.buffered ≡ 0 → FlushFails a answer b
+      → RoomFails a answer b
   room_flushed a answer b none s = grind arith
 
   write_fails : (old new : BufferedStream T) (answer : WriteAnswer) → buffered_in new.buffered ≡ [] → RoomFails old All new → WriteFails old answer new
@@ -128,10 +131,10 @@ module _ {T : Type 0} where
     took_same answer (inr (inl stops)) = ap (λ (i : T). (traffic i).connection) stops.0.inner_is
     took_same answer (inr (inr why)) = took_some_same answer why.1
 
-    pub flushed_same : (answer : Flushed) → WhyFlushed traffic old answer new → (traffic new.inner).connection ≡ (traffic old.inner).connection
+    pub flushed_same : (answer : Flushed) → WhyBufferFlushed traffic old answer new → (traffic new.inner).connection ≡ (traffic old.inner).connection
     flushed_same answer why = grind arith
 
-    why_gave : (answer : ReadAnswer) → WasRead traffic old answer new → WhyGaveSome traffic old answer new
+    why_gave : (answer : ReadAnswer) → InnerWasRead traffic old answer new → WhyGaveSome traffic old answer new
     why_gave answer read = grind arith
 
     why_took : (answer : WriteAnswer) → BehindEnds traffic (Write answer) old new → WhyTookSome traffic old answer new
@@ -148,19 +151,20 @@ module _ {T : Type 0} where
         )
 
   pub takes_why : (traffic : T → Traffic) (old mid : BufferedStream T) {inner : T} (answer : WriteAnswer) → BehindMoved traffic old mid
-      → EndsWith (Write answer) (traffic mid.inner) (traffic inner) → WhyTookSome traffic old answer (record mid { inner = inner })
+      → CountsLast (Write answer) (traffic mid.inner) (traffic inner) → WhyTookSome traffic old answer (record mid { inner = inner })
   takes_why traffic old mid {inner} answer moved answered =
       why_took traffic old (record mid { inner = inner }) answer
       (ends_then (Write answer) (traffic old.inner) (traffic mid.inner) (traffic inner) moved answered)
 
-  module _ {tells : Type 0} {traffic : T → Traffic} {moment : ℕ} where
-    kept_then : {a b c : BufferedStream T} → KeepsBytes tells traffic moment a b → KeepsBytes tells traffic moment b c → KeepsBytes tells traffic moment a c
+  module _ {reports : Type 0} {traffic : T → Traffic} {moment : ℕ} where
+    kept_then : {a b c : BufferedStream T} → KeepsBytes reports traffic moment a b → KeepsBytes reports traffic moment b c
+        → KeepsBytes reports traffic moment a c
     kept_then {a} {b} p q =
-        let departed = λ (t : tells). departed_then [] (q.sent t
+        let departed = λ (t : reports). departed_then [] (q.sent t
         ∙ sym (append-nil ((traffic b.inner).sent ++ buffered_in b.buffered))) (p.departed t) (q.departed t) in
         assumption (
-          λ (t : tells). q.received t ∙ p.received t,
-          λ (t : tells). q.sent t ∙ p.sent t,
+          λ (t : reports). q.received t ∙ p.received t,
+          λ (t : reports). q.sent t ∙ p.sent t,
           departed,
           q.counts ∙ p.counts,
           q.short ∙ p.short,
@@ -169,7 +173,7 @@ module _ {T : Type 0} where
           turn_then p.turn q.turn,
         )
 
-    pub flushed_none : (b : BufferedStream T) → FlushedSoFar tells traffic moment b b
+    pub flushed_none : (b : BufferedStream T) → FlushedSoFar reports traffic moment b b
     flushed_none b = (
       record {
         received = λ t. refl;
@@ -185,22 +189,22 @@ module _ {T : Type 0} where
       none_called (traffic b.inner),
     )
 
-    module _ {a b : BufferedStream T} (so_far : FlushedSoFar tells traffic moment a b) {c : BufferedStream T} where
-      pub flushed_more : {n : ℕ} → WritesBuffered tells traffic moment b (Wrote n) c → FlushedSoFar tells traffic moment a c
+    module _ {a b : BufferedStream T} (so_far : FlushedSoFar reports traffic moment a b) {c : BufferedStream T} where
+      pub flushed_more : {n : ℕ} → WritesBuffered reports traffic moment b (Wrote n) c → FlushedSoFar reports traffic moment a c
       flushed_more {n} w = (
         kept_then so_far.0 w.kept,
         stays_moved a b c n so_far.1 w.why.0 w.why.1 w.why.2 w.why.3,
         moved_then (traffic a.inner) (traffic b.inner) (traffic c.inner) so_far.2 w.why.4,
       )
 
-      pub flushed_blocked : WritesBuffered tells traffic moment b WriteBlocked c → Flushes tells traffic moment a Blocked c
+      pub flushed_blocked : WritesBuffered reports traffic moment b WriteBlocked c → Flushes reports traffic moment a Blocked c
       flushed_blocked w = record {
         kept = kept_then so_far.0 w.kept;
         why = ends_then (Write WriteBlocked) (traffic a.inner) (traffic b.inner) (traffic c.inner) so_far.2 w.why.1;
         failed = rw (w.why.0, w.why.2) so_far.1;
       }
 
-      pub flushed_failed : buffered_in b.buffered ≢ [] → WritesBuffered tells traffic moment b WriteFailed c → Flushes tells traffic moment a Failed c
+      pub flushed_failed : buffered_in b.buffered ≢ [] → WritesBuffered reports traffic moment b WriteFailed c → Flushes reports traffic moment a Failed c
       flushed_failed some w = record {
         kept = kept_then so_far.0 w.kept;
         why = ends_then (Write WriteFailed) (traffic a.inner) (traffic b.inner) (traffic c.inner) so_far.2 w.why.1;
@@ -208,56 +212,56 @@ module _ {T : Type 0} where
             (λ none. some (sym w.why.0 ∙ none), w.why.2);
       }
 
-    module _ {old : BufferedStream T} {inner : T} (received : tells → (traffic inner).received ≡ (traffic old.inner).received) (departed : tells
+    module _ {old : BufferedStream T} {inner : T} (received : reports → (traffic inner).received ≡ (traffic old.inner).received) (departed : reports
         → DepartAt moment (traffic old.inner) (traffic inner)) where
-      keeps : (buffered : BufferedBytes) (failed : Bool) → (tells → (traffic inner).sent ++ buffered_in buffered ≡ (traffic old.inner).sent
+      keeps : (buffered : BufferedBytes) (failed : Bool) → (reports → (traffic inner).sent ++ buffered_in buffered ≡ (traffic old.inner).sent
           ++ buffered_in old.buffered)
-          → KeepsBytes tells traffic moment old (record old { inner = inner; buffered = buffered; has_failed = failed })
+          → KeepsBytes reports traffic moment old (record old { inner = inner; buffered = buffered; has_failed = failed })
       keeps buffered failed sent =
-          assumption (λ (t : tells). left_behind traffic old (record old { inner = inner; buffered = buffered; has_failed = failed }) (departed t))
+          assumption (λ (t : reports). left_behind traffic old (record old { inner = inner; buffered = buffered; has_failed = failed }) (departed t))
 
       -- some of what is buffered left
       pub wrote_buffered : {n : ℕ} (buffered : BufferedBytes) {from : List ℕ} → AllMoved (traffic old.inner) (traffic inner) → from ≡ buffered_in old.buffered
           → (0 < n) × (n ≤ length from) → buffered_in buffered ≡ drop n (buffered_in old.buffered)
-          → (tells → (traffic inner).sent ≡ (traffic old.inner).sent ++ take n from)
-          → WritesBuffered tells traffic moment old (Wrote n) (record old { inner = inner; buffered = buffered; has_failed = false })
+          → (reports → (traffic inner).sent ≡ (traffic old.inner).sent ++ take n from)
+          → WritesBuffered reports traffic moment old (Wrote n) (record old { inner = inner; buffered = buffered; has_failed = false })
       wrote_buffered {n} buffered moved is fits rest sent =
           let kept = keeps buffered false (λ t. rw (sent t, rest, is, append_assoc, take-append-drop)) in
           record { kept = kept; why = (fits.0, subst (λ l. n ≤ length l) is fits.1, rest, refl, moved) }
 
       -- none of it left
-      pub kept_buffered : (failed : Bool) → (tells → (traffic inner).sent ≡ (traffic old.inner).sent ++ [])
-          → KeepsBytes tells traffic moment old (record old { inner = inner; has_failed = failed })
+      pub kept_buffered : (failed : Bool) → (reports → (traffic inner).sent ≡ (traffic old.inner).sent ++ [])
+          → KeepsBytes reports traffic moment old (record old { inner = inner; has_failed = failed })
       kept_buffered failed sent = keeps old.buffered failed (λ t. ap (λ l. l ++ buffered_in old.buffered) (sent t ∙ append-nil (traffic old.inner).sent))
 
     -- a call of the inner stream after what is buffered was written
-    left_then : (a b c : BufferedStream T) (more : List ℕ) → KeepsBytes tells traffic moment a b → tells
+    left_then : (a b c : BufferedStream T) (more : List ℕ) → KeepsBytes reports traffic moment a b → reports
         → (traffic_through traffic c).sent ≡ (traffic_through traffic b).sent ++ more
         → DepartAt moment (traffic b.inner) (traffic c.inner) → DepartAt moment (traffic_through traffic a) (traffic_through traffic c)
     left_then a b c more p t sent q = departed_then more sent (p.departed t) (left_behind traffic b c q)
 
     -- the inner stream was read once nothing was buffered
     pub gives_some : {old mid : BufferedStream T} {inner : T} (short : Bool) {before after : List ℕ} (answer : ReadAnswer)
-        → Flushes tells traffic moment old All mid → ReadsWithin answer (length before)
-        → (tells → (traffic inner).received ≡ (traffic mid.inner).received ++ take (bytes_read answer) after)
-        → (tells → (traffic inner).sent ≡ (traffic mid.inner).sent) → (tells → DepartAt moment (traffic mid.inner) (traffic inner))
+        → Flushes reports traffic moment old All mid → ReadsWithin answer (length before)
+        → (reports → (traffic inner).received ≡ (traffic mid.inner).received ++ take (bytes_read answer) after)
+        → (reports → (traffic inner).sent ≡ (traffic mid.inner).sent) → (reports → DepartAt moment (traffic mid.inner) (traffic inner))
         → ShortAfter old (length before) answer (record mid { inner = inner; is_short = short })
-        → GivesSome tells traffic moment old before answer (record mid { inner = inner; is_short = short }) after
+        → GivesSome reports traffic moment old before answer (record mid { inner = inner; is_short = short }) after
     gives_some {old} {mid} {inner} short {before} {after} answer flushed within received sent departed shorter =
         let new : BufferedStream T = record mid { inner = inner; is_short = short } in
-        let all = λ (t : tells). ap (λ l. l ++ buffered_in mid.buffered) (sent t) in
-        let left = λ (t : tells). left_then old mid new [] flushed.kept t (all t
+        let all = λ (t : reports). ap (λ l. l ++ buffered_in mid.buffered) (sent t) in
+        let left = λ (t : reports). left_then old mid new [] flushed.kept t (all t
         ∙ sym (append-nil ((traffic mid.inner).sent ++ buffered_in mid.buffered))) (departed t) in
         assumption (
-          λ (t : tells). received t ∙ ap (λ l. l ++ take (bytes_read answer) after) (flushed.kept.received t),
-          λ (t : tells). all t ∙ flushed.kept.sent t,
+          λ (t : reports). received t ∙ ap (λ l. l ++ take (bytes_read answer) after) (flushed.kept.received t),
+          λ (t : reports). all t ∙ flushed.kept.sent t,
           left,
           read_fails old new answer flushed.why.0 flushed.failed,
         )
 
     -- why it answers so
-    pub gives_why : {old mid : BufferedStream T} {inner : T} (short : Bool) (answer : ReadAnswer) → Flushes tells traffic moment old All mid
-        → EndsWith (Read answer) (traffic mid.inner) (traffic inner) → mid.is_drained ≡ false
+    pub gives_why : {old mid : BufferedStream T} {inner : T} (short : Bool) (answer : ReadAnswer) → Flushes reports traffic moment old All mid
+        → CountsLast (Read answer) (traffic mid.inner) (traffic inner) → mid.is_drained ≡ false
         → WhyGaveSome traffic old answer (record mid { inner = inner; is_short = short })
     gives_why {old} {mid} {inner} short answer flushed answered more =
         let new : BufferedStream T = record mid { inner = inner; is_short = short } in
@@ -268,7 +272,7 @@ module _ {T : Type 0} where
         )
 
     -- a share that is used up
-    pub gave_none : (b : BufferedStream T) (bytes : List ℕ) → GivesSome tells traffic moment b bytes ReadBlocked b bytes
+    pub gave_none : (b : BufferedStream T) (bytes : List ℕ) → GivesSome reports traffic moment b bytes ReadBlocked b bytes
     gave_none b bytes = record {
       within = tt;
       received = λ t. sym (append-nil (traffic b.inner).received);
@@ -279,7 +283,7 @@ module _ {T : Type 0} where
       short = record { short = refl; drained = refl; reads_on = refl; turn = same_turn };
     }
 
-    pub took_none : (b : BufferedStream T) (from : List ℕ) → TakesSome tells traffic moment b from WriteBlocked b
+    pub took_none : (b : BufferedStream T) (from : List ℕ) → TakesSome reports traffic moment b from WriteBlocked b
     took_none b from = record {
       within = tt;
       received = λ t. refl;
@@ -294,7 +298,7 @@ module _ {T : Type 0} where
     }
 
     -- what is buffered has failed to leave
-    pub gave_failed : (b : BufferedStream T) (bytes : List ℕ) → b.has_failed ≡ true → GivesSome tells traffic moment b bytes ReadFailed b bytes
+    pub gave_failed : (b : BufferedStream T) (bytes : List ℕ) → b.has_failed ≡ true → GivesSome reports traffic moment b bytes ReadFailed b bytes
     gave_failed b bytes failed = record {
       within = tt;
       received = λ t. sym (append-nil (traffic b.inner).received);
@@ -305,7 +309,7 @@ module _ {T : Type 0} where
       short = record { short = refl; drained = refl; reads_on = refl; turn = same_turn };
     }
 
-    pub took_failed : (b : BufferedStream T) (from : List ℕ) → b.has_failed ≡ true → TakesSome tells traffic moment b from WriteFailed b
+    pub took_failed : (b : BufferedStream T) (from : List ℕ) → b.has_failed ≡ true → TakesSome reports traffic moment b from WriteFailed b
     took_failed b from failed = record {
       within = tt;
       received = λ t. refl;
@@ -321,7 +325,7 @@ module _ {T : Type 0} where
 
     -- of the bytes, those at the front were to be written
     module _ {old new : BufferedStream T} {answer : WriteAnswer} (most : ℕ) (piece from : List ℕ) (is : piece ≡ take most from) (le : most ≤ length from)
-        (p : TakesSome tells traffic moment old piece answer new) where
+        (p : TakesSome reports traffic moment old piece answer new) where
       fits_front : WritesWithin answer most
       fits_front = subst (λ n. WritesWithin answer n) (ap length is ∙ length-take-le most from le) p.within
 
@@ -331,7 +335,7 @@ module _ {T : Type 0} where
       same_front : take (bytes_written answer) piece ≡ take (bytes_written answer) from
       same_front = ap (λ l. take (bytes_written answer) l) is ∙ take-take (bytes_written answer) most from took_front
 
-      pub takes_front : TakesSome tells traffic moment old from answer new
+      pub takes_front : TakesSome reports traffic moment old from answer new
       takes_front = record {
         within = within_most answer most (length from) le fits_front;
         received = p.received;
@@ -345,34 +349,34 @@ module _ {T : Type 0} where
         turn = p.turn;
       }
 
-    module _ {old mid : BufferedStream T} (kept : KeepsBytes tells traffic moment old mid) (stays : RoomFails old All mid) {from : List ℕ} where
+    module _ {old mid : BufferedStream T} (kept : KeepsBytes reports traffic moment old mid) (stays : RoomFails old All mid) {from : List ℕ} where
       -- they were written to the inner stream
       pub takes_on : {inner : T} {answer : WriteAnswer} → buffered_in mid.buffered ≡ [] → WritesWithin answer (length from)
-          → (tells → (traffic inner).received ≡ (traffic mid.inner).received)
-          → (tells → (traffic inner).sent ≡ (traffic mid.inner).sent ++ take (bytes_written answer) from)
-          → (tells → DepartAt moment (traffic mid.inner) (traffic inner))
-          → TakesSome tells traffic moment old from answer (record mid { inner = inner })
+          → (reports → (traffic inner).received ≡ (traffic mid.inner).received)
+          → (reports → (traffic inner).sent ≡ (traffic mid.inner).sent ++ take (bytes_written answer) from)
+          → (reports → DepartAt moment (traffic mid.inner) (traffic inner))
+          → TakesSome reports traffic moment old from answer (record mid { inner = inner })
       takes_on {inner} {answer} none within received sent departed =
           let new : BufferedStream T = record mid { inner = inner } in
-          let all : tells → (traffic inner).sent ++ buffered_in mid.buffered ≡ ((traffic mid.inner).sent ++ buffered_in mid.buffered)
+          let all : reports → (traffic inner).sent ++ buffered_in mid.buffered ≡ ((traffic mid.inner).sent ++ buffered_in mid.buffered)
           ++ take (bytes_written answer) from =
           λ t. rw none (append-nil (traffic inner).sent ∙ sent t
           ∙ ap (λ l. l ++ take (bytes_written answer) from) (sym (append-nil (traffic mid.inner).sent))) in
-          let left = λ (t : tells). left_then old mid new (take (bytes_written answer) from) kept t (all t) (departed t) in
+          let left = λ (t : reports). left_then old mid new (take (bytes_written answer) from) kept t (all t) (departed t) in
           assumption (
-            λ (t : tells). received t ∙ kept.received t,
-            λ (t : tells). all t ∙ ap (λ l. l ++ take (bytes_written answer) from) (kept.sent t),
+            λ (t : reports). received t ∙ kept.received t,
+            λ (t : reports). all t ∙ ap (λ l. l ++ take (bytes_written answer) from) (kept.sent t),
             left,
             write_fails old new answer none stays,
           )
 
       -- they are buffered
       pub takes_in : (buffered : BufferedBytes) {n : ℕ} → (0 < n) × (n ≤ length from) → buffered_in buffered ≡ buffered_in mid.buffered ++ take n from
-          → TakesSome tells traffic moment old from (Wrote n) (record mid { buffered = buffered })
+          → TakesSome reports traffic moment old from (Wrote n) (record mid { buffered = buffered })
       takes_in buffered {n} fits is =
           let all : (traffic mid.inner).sent ++ buffered_in buffered ≡ ((traffic mid.inner).sent ++ buffered_in mid.buffered) ++ take n from =
           ap (λ l. (traffic mid.inner).sent ++ l) is ∙ sym (append_assoc (traffic mid.inner).sent (buffered_in mid.buffered) (take n from)) in
           assumption (
-            λ (t : tells). all ∙ ap (λ l. l ++ take n from) (kept.sent t),
-            λ (t : tells). departed_and_sent {c = traffic_through traffic (record mid { buffered = buffered })} (take n from) refl all (kept.departed t),
+            λ (t : reports). all ∙ ap (λ l. l ++ take n from) (kept.sent t),
+            λ (t : reports). departed_and_sent {c = traffic_through traffic (record mid { buffered = buffered })} (take n from) refl all (kept.departed t),
           )

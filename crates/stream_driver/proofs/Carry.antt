@@ -14,7 +14,8 @@ use Rattle.sessions.specs.SessionStreams.{HubState, SessionStream, HubEvent, Cho
 use Rattle.stream_driver.proofs.Events.{no_events}
 use Rattle.stream_driver.specs.Calls.{Moves}
 use Rattle.stream_driver.specs.Drives.{Carried}
-use Rattle.stream_driver.specs.Sessions.{Adds, ComeInTurn, GoesOn, Point, Runs, session_of, status_at, IsPresentIn}
+use Rattle.stream_driver.specs.Sessions.{Adds, ComeInTurn, GoesOn, Point, RunsOneSession, session_of, status_at}
+use Rattle.stream_driver.specs.Sessions.{IsPresentIn}
 use Rattle.stream_driver.specs.Traffic.{Traffic}
 
 -- two lists that grow one after the other
@@ -61,7 +62,7 @@ risen_either xs ys a b c ab bc f g some = grind (arith, nat_tests, failed_then x
 pub one_history : (x y : SessionStream) → Some x ≡ Some y → x ≡ y
 one_history x y e = cc
 
-abbrev pub runs_then : (s : ℕ) (a b c : Point) → Runs s a b → Runs s b c → Runs s a c
+abbrev pub runs_then : (s : ℕ) (a b c : Point) → RunsOneSession s a b → RunsOneSession s b c → RunsOneSession s a c
 runs_then s a b c p q =
     let own = all-append (λ e. session_of e.0 ≡ s) p.events q.events p.own q.own in
     let possible = possible_then a.hub p.events q.events p.possible (subst (λ v. ArePossible v q.events) p.adds.run_is q.possible) in
@@ -83,32 +84,32 @@ pub in_turn_then : (h : HubState) (xs ys : List (HubEvent × Choice)) → ComeIn
 in_turn_then h [] ys a b = b
 in_turn_then h (x ∷ xs) ys a b = (a.0, in_turn_then (hub_step h x.0 x.1).0 xs ys a.1 b)
 
-module _ {s : ℕ} {tells : Type 0} where
+module _ {s : ℕ} {reports : Type 0} where
   -- a run in which nothing was served or replied, over what the stream moved
-  abbrev pub moved_by : {h k : Point} {before after : Traffic} (r : Runs s h k) → ComeInTurn h.hub r.events
-      → (tells → after.received ≡ before.received ++ r.history.received) → (tells → after.sent ≡ before.sent ++ r.history.sent)
-      → length r.history.served ≡ 0 → r.history.replies ≡ [] → status_at k.hub s ≡ status_at h.hub s → Moves s tells h before k after
+  abbrev pub moved_by : {h k : Point} {before after : Traffic} (r : RunsOneSession s h k) → ComeInTurn h.hub r.events
+      → (reports → after.received ≡ before.received ++ r.history.received) → (reports → after.sent ≡ before.sent ++ r.history.sent)
+      → length r.history.served ≡ 0 → r.history.replies ≡ [] → status_at k.hub s ≡ status_at h.hub s → Moves s reports h before k after
   moved_by r turn received sent served replied status =
       record { carried = record { runs = r; in_turn = turn; received = received; sent = sent }; none_served = served; none_replied = replied; status = status }
 
   -- the stream answered, and the hub stayed
-  abbrev pub answered : {h : Point} {before after : Traffic} → IsPresentIn h.hub s → (tells → after.received ≡ before.received ++ [])
-      → (tells → after.sent ≡ before.sent ++ []) → Moves s tells h before h after
+  abbrev pub answered : {h : Point} {before after : Traffic} → IsPresentIn h.hub s → (reports → after.received ≡ before.received ++ [])
+      → (reports → after.sent ≡ before.sent ++ []) → Moves s reports h before h after
   answered {h} present received sent = moved_by (no_events s h present) tt received sent refl refl refl
 
   -- nothing has happened
-  abbrev pub nothing : {h : Point} {t : Traffic} → IsPresentIn h.hub s → Moves s tells h t h t
+  abbrev pub nothing : {h : Point} {t : Traffic} → IsPresentIn h.hub s → Moves s reports h t h t
   nothing {h} {t} present = answered present (λ _. sym (append-nil t.received)) (λ _. sym (append-nil t.sent))
 
   -- the stream stayed, and the hub ran
-  abbrev pub alone : {h k : Point} {t : Traffic} (r : Runs s h k) → ComeInTurn h.hub r.events → [] ≡ r.history.received → [] ≡ r.history.sent
-      → Carried s tells h t k t
+  abbrev pub alone : {h k : Point} {t : Traffic} (r : RunsOneSession s h k) → ComeInTurn h.hub r.events → [] ≡ r.history.received → [] ≡ r.history.sent
+      → Carried s reports h t k t
   alone r in_turn received sent = record { runs = r; in_turn = in_turn; received = λ _. rw (← received, append-nil); sent = λ _. rw (← sent, append-nil) }
 
   -- one part after another
   abbrev pub and_then : {old : Point} {before : Traffic} {mid : Point} {between : Traffic} {new : Point} {after : Traffic}
-      → Carried s tells old before mid between → Carried s tells mid between new after
-      → Carried s tells old before new after
+      → Carried s reports old before mid between → Carried s reports mid between new after
+      → Carried s reports old before new after
   and_then {old} {before} {mid} {between} {new} {after} p q = record {
     runs = runs_then s old mid new p.runs q.runs;
     in_turn = in_turn_then old.hub p.runs.events q.runs.events p.in_turn (subst (λ v. ComeInTurn v q.runs.events) p.runs.adds.run_is q.in_turn);

@@ -15,14 +15,14 @@ use Rattle.model.specs.ReplyText.{reply_text}
 use Rattle.engine.specs.Meaning.{has_risen}
 use Rattle.sessions.specs.Laws.{failures_in}
 use Rattle.sessions.specs.SessionStreams.{HubState, SessionState, SessionStream, HubEvent, Receives, Serves, Sends}
-use Rattle.sessions.specs.SessionStreams.{Leaves, Front, IsFront, Choice, Effect, IsPossible, IsServePossible}
+use Rattle.sessions.specs.SessionStreams.{Leaves, Head, IsHead, Choice, Effect, IsPossible, IsServePossible}
 use Rattle.sessions.specs.SessionStreams.{hub_step, stream_of, with_stream, with_effect, depart, may_serve}
-use Rattle.sessions.specs.SessionStreams.{serve_front, room}
+use Rattle.sessions.specs.SessionStreams.{serve_head, room}
 use Rattle.sessions.specs.StandsFor.{status_in}
 use Rattle.sessions.specs.declared.events.Outcome.{Outcome}
 use Rattle.sessions.specs.declared.events.Outcome.TheVariants.{Done, Memory, Idle}
 use Rattle.sessions.specs.declared.events.Status.TheVariants.{Absent, Open, Ending, Refused}
-use Rattle.stream_driver.specs.Sessions.{Adds, GoesOn, Point, Runs, session_of, status_at, IsPresentIn}
+use Rattle.stream_driver.specs.Sessions.{Adds, GoesOn, Point, RunsOneSession, session_of, status_at, IsPresentIn}
 
 -- ---- sessions in the list of those that are present, after one of them has changed or gone
 
@@ -70,7 +70,7 @@ same_history st = grows_by st st [] [] [] [] (still st.received) (still st.serve
 abbrev pub adds_none : (p : Point) → Adds p [] p
 adds_none p = record { run_is = refl; events_are = sym (append-nil p.events) }
 
-abbrev pub no_events : (s : ℕ) (p : Point) → IsPresentIn p.hub s → Runs s p p
+abbrev pub no_events : (s : ℕ) (p : Point) → IsPresentIn p.hub s → RunsOneSession s p p
 no_events s p present =
     let here = found (stream_of p.hub s) present in
     let counted : p.failures ≤ p.failures = omega arith in
@@ -93,7 +93,8 @@ fails_then e c risen same some = grind arith
 -- one event that changes its session's history alone
 abbrev pub one_event : (s : ℕ) (p : Point) (e : HubEvent) (c : Choice) (count : ℕ) (first last : SessionStream) → session_of e ≡ s → Happens p e c count
     → stream_of p.hub s ≡ Some first
-    → (hub_step p.hub e c).0.present ≡ set_value (test s) p.hub.present last → GoesOn first last → last.now.status ≢ Absent → Runs s p (point_after p e c count)
+    → (hub_step p.hub e c).0.present ≡ set_value (test s) p.hub.present last → GoesOn first last → last.now.status ≢ Absent
+    → RunsOneSession s p (point_after p e c count)
 one_event s p e c count first last own happens is changes history present =
     let adds : Adds p ((e, c) ∷ []) (point_after p e c count) = record { run_is = refl; events_are = refl } in
     let last_is = ap (lookup (test s)) changes ∙ set-same s last p.hub.present first is in
@@ -143,23 +144,23 @@ abbrev pub after_effect : SessionStream → Effect → SessionStream
 after_effect st e = record st { now = e.now; served = st.served ++ e.served; replies = st.replies ++ e.replies }
 
 pub serves : (h : HubState) (s : ℕ) (c : Choice) (st : SessionStream) → stream_of h s ≡ Some st → st.now.status ≡ Open → st.now.pending ≡ []
-    → hub_step h (Serves s) c ≡ with_effect h s st (serve_front c.front c h.machine s st.now)
+    → hub_step h (Serves s) c ≡ with_effect h s st (serve_head c.head c h.machine s st.now)
 unfolding hub_step
 serves h s c st is opened nothing = rw (is, opened, nothing) refl
 
 -- the texts of the replies are pending
-pub effect_texts : (front : Front) (c : Choice) (m : State) (s : ℕ) (n : SessionState) → n.pending ≡ []
-    → (serve_front front c m s n).now.pending ≡ flat_map reply_text (serve_front front c m s n).replies
-effect_texts front c m s n nothing = grind (arith, common_steps)
+pub effect_texts : (head : Head) (c : Choice) (m : State) (s : ℕ) (n : SessionState) → n.pending ≡ []
+    → (serve_head head c m s n).now.pending ≡ flat_map reply_text (serve_head head c m s n).replies
+effect_texts head c m s n nothing = grind (arith, common_steps)
 
 -- each reply has some text
 reply_some : (r : Response) → reply_text r ≢ []
 reply_some r = grind (arith, common_steps)
 
 -- and stands in the output once a request was served
-pub effect_replied : (front : Front) (c : Choice) (m : State) (s : ℕ) (n : SessionState) → (serve_front front c m s n).outcome ≡ Done
-    → (serve_front front c m s n).now.pending ≢ []
-effect_replied front c m s n done = grind (arith, common_steps, reply_some)
+pub effect_replied : (head : Head) (c : Choice) (m : State) (s : ℕ) (n : SessionState) → (serve_head head c m s n).outcome ≡ Done
+    → (serve_head head c m s n).now.pending ≢ []
+effect_replied head c m s n done = grind (arith, common_steps, reply_some)
 
 abbrev pub was_served : (st : SessionStream) (e : Effect) → st.now.pending ≡ [] → e.now.pending ≡ flat_map reply_text e.replies → GoesOn st (after_effect st e)
 was_served st e nothing texts =
@@ -172,18 +173,18 @@ Comes Done n e = ((e.now.status ≡ Open) × (length e.served ≡ 1)) ⊎ ((e.no
 Comes Memory n e = (e.now.status ≡ Refused) × (e.served ≡ [])
 Comes _ n e = (e.now ≡ n) × (e.served ≡ []) × (e.replies ≡ []) × IsProperBeginning n.inbox
 
-comes : (front : Front) (c : Choice) (m : State) (s : ℕ) (n : SessionState) → IsFront n.inbox front
-    → Comes (serve_front front c m s n).outcome n (serve_front front c m s n)
-comes front c m s n is = grind (arith, common_steps)
+comes : (head : Head) (c : Choice) (m : State) (s : ℕ) (n : SessionState) → IsHead n.inbox head
+    → Comes (serve_head head c m s n).outcome n (serve_head head c m s n)
+comes head c m s n is = grind (arith, common_steps)
 
 pub comes_idle : (o : Outcome) (n : SessionState) (e : Effect) → o ≢ Done → o ≢ Memory → Comes o n e → Comes Idle n e
 comes_idle o n e a b w = grind arith
 
-pub one_each : (front : Front) (c : Choice) (m : State) (s : ℕ) (n : SessionState) → length (serve_front front c m s n).served ≤ 1
-one_each front c m s n = grind arith
+pub one_each : (head : Head) (c : Choice) (m : State) (s : ℕ) (n : SessionState) → length (serve_head head c m s n).served ≤ 1
+one_each head c m s n = grind arith
 
-kept : (front : Front) (c : Choice) (m : State) (s : ℕ) (n : SessionState) → n.status ≢ Absent → (serve_front front c m s n).now.status ≢ Absent
-kept front c m s n here = grind arith
+kept : (head : Head) (c : Choice) (m : State) (s : ℕ) (n : SessionState) → n.status ≢ Absent → (serve_head head c m s n).now.status ≢ Absent
+kept head c m s n here = grind arith
 
 -- the event of a Serve
 module _ {s : ℕ} {p : Point} {c : Choice} {count : ℕ} {st : SessionStream} (is : stream_of p.hub s ≡ Some st) (opened : st.now.status
@@ -192,7 +193,7 @@ module _ {s : ℕ} {p : Point} {c : Choice} {count : ℕ} {st : SessionStream} (
   h = p.hub
 
   abbrev pub effect : Effect
-  effect = serve_front c.front c h.machine s st.now
+  effect = serve_head c.head c h.machine s st.now
 
   pub serves_is : hub_step h (Serves s) c ≡ with_effect h s st effect
   serves_is = serves h s c st is opened nothing
@@ -201,14 +202,14 @@ module _ {s : ℕ} {p : Point} {c : Choice} {count : ℕ} {st : SessionStream} (
   comes_to =
       let here : IsServePossible h.machine s (Some st) c = subst (λ o. IsServePossible h.machine s o c) is happens.possible in
       let may : may_serve st.now ≡ true = rw (opened, nothing) refl in
-      comes c.front c h.machine s st.now (here may).0
+      comes c.head c h.machine s st.now (here may).0
 
   pub status_kept : effect.now.status ≢ Absent
-  status_kept = kept c.front c h.machine s st.now (λ gone. (let bad : Open ≡ Absent = sym opened ∙ gone in cc))
+  status_kept = kept c.head c h.machine s st.now (λ gone. (let bad : Open ≡ Absent = sym opened ∙ gone in cc))
 
-  abbrev pub served_event : Runs s p (point_after p (Serves s) c count)
+  abbrev pub served_event : RunsOneSession s p (point_after p (Serves s) c count)
   served_event = one_event s p (Serves s) c count st (after_effect st effect) refl happens is (ap (λ r. r.0.present) serves_is)
-      (was_served st effect nothing (effect_texts c.front c h.machine s st.now nothing)) status_kept
+      (was_served st effect nothing (effect_texts c.head c h.machine s st.now nothing)) status_kept
 
 -- ---- a session leaves
 

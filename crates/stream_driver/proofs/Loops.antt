@@ -17,15 +17,15 @@ use Rattle.stream_driver.proofs.Carry.{nothing, alone, and_then}
 use Rattle.stream_driver.proofs.Events.{Happens, point_after, Comes, comes_idle, comes_to, one_each, serves_is}
 use Rattle.stream_driver.proofs.Events.{effect_replied, served_event, effect, open_present}
 use Rattle.stream_driver.proofs.Inboxes.{beginning_short}
-use Rattle.stream_driver.proofs.Sends.{tells_step, tells_still, tells_three, tells_two_at}
+use Rattle.stream_driver.proofs.Sends.{reports_step, reports_still, reports_three, reports_two_at}
 use Rattle.stream_driver.proofs.States.{Follow, seen_after}
 use Rattle.stream_driver.specs.Calls.{Moves, WritesSome, ReadsSome, Flushes, Exchanges, WhyExchanged, WhyFlushed}
 use Rattle.stream_driver.specs.Calls.{WrittenSoFar, ReadSoFar, DrivenSoFar, DrivenOut, served_in}
-use Rattle.stream_driver.specs.Drives.{Carried, Departs, Drove, EndsAs, Why}
-use Rattle.stream_driver.specs.Sends.{LeadsTelling}
-use Rattle.stream_driver.specs.Sessions.{Ghosts, Hub, Leads, Stands, Point, Runs, AwaitsMore, status_at, pending_at}
-use Rattle.stream_driver.specs.Sessions.{room_at, inbox_at, inbox_in, IsPresentIn}
-use Rattle.stream_driver.specs.Traffic.{Traffic, AllMoved, EndsWith}
+use Rattle.stream_driver.specs.Drives.{Carried, Departs, Drove, LeavesIfGone, Why}
+use Rattle.stream_driver.specs.Sends.{LeadsAnswering}
+use Rattle.stream_driver.specs.Sessions.{Ghosts, Hub, Leads, Stands, Point, RunsOneSession, AwaitsMore, status_at}
+use Rattle.stream_driver.specs.Sessions.{pending_at, inbox_room, inbox_at, inbox_in, IsPresentIn}
+use Rattle.stream_driver.specs.Traffic.{Traffic, AllMoved, CountsLast}
 use Rattle.stream_driver.specs.Types.{Read, Write, ReadAnswer, WriteAnswer, Moved, Blocked, Failed, Ended, Wrote}
 use Rattle.stream_driver.specs.Types.{WriteBlocked, WriteFailed, Progress, Waiting, Again, Gone, OutputState, Empty}
 use Rattle.stream_driver.specs.Types.{FlushBlocked, FlushFailed, Exchange, Served, Broke as ExchangeBroke}
@@ -38,21 +38,21 @@ none_in_both a b = rw (a, b)
 closed_kinds : (status : Status) → status ≢ Absent → status ≢ Open → {none : List ℕ} → none ≡ [] → (status ≡ Refused) ⊎ ((status ≡ Ending) × (none ≡ []))
 closed_kinds status a b e = grind arith
 
-module _ {s : ℕ} {tells : Type 0} where
-  pub written_none : {h : Point} {t : Traffic} {owed : ℕ} → IsPresentIn h.hub s → owed ≡ length (pending_at h.hub s) → WrittenSoFar s tells h t h t owed
+module _ {s : ℕ} {reports : Type 0} where
+  pub written_none : {h : Point} {t : Traffic} {owed : ℕ} → IsPresentIn h.hub s → owed ≡ length (pending_at h.hub s) → WrittenSoFar s reports h t h t owed
   written_none {h} {t} present is = record { moves = nothing present; moved = none_called t; owed_is = is }
 
-  pub read_nothing : {h : Point} {t : Traffic} {room : ℕ} → status_at h.hub s ≡ Open → pending_at h.hub s ≡ [] → room ≡ room_at h.hub s
-      → ReadSoFar s tells h t h t room
+  pub read_nothing : {h : Point} {t : Traffic} {room : ℕ} → status_at h.hub s ≡ Open → pending_at h.hub s ≡ [] → room ≡ inbox_room h.hub s
+      → ReadSoFar s reports h t h t room
   read_nothing {h} {t} is_open none is =
       record { moves = nothing (open_present h.hub s is_open); moved = none_called t; none_sent = refl; is_open = is_open; nothing = none; room_is = is }
 
-  pub driven_none : {h : Point} {t : Traffic} → IsPresentIn h.hub s → DrivenOut s tells h t h t 0
+  pub driven_none : {h : Point} {t : Traffic} → IsPresentIn h.hub s → DrivenOut s reports h t h t 0
   driven_none {h} {t} present =
       record { driven = record { carried = (nothing present).carried; few = omega arith }; moved = none_called t; served_is = λ _. refl }
 
   module _ {old : Point} {before : Traffic} {mid : Point} {between : Traffic} {new : Point} {after : Traffic} where
-    abbrev pub moves_then : Moves s tells old before mid between → Moves s tells mid between new after → Moves s tells old before new after
+    abbrev pub moves_then : Moves s reports old before mid between → Moves s reports mid between new after → Moves s reports old before new after
     moves_then p q =
         let both = length-append p.carried.runs.history.served q.carried.runs.history.served in
         record {
@@ -62,25 +62,25 @@ module _ {s : ℕ} {tells : Type 0} where
           status = q.status ∙ p.status;
         }
 
-    module _ {owed : ℕ} (p : WrittenSoFar s tells old before mid between owed) where
-      pub written_then : (n : ℕ) → WritesSome s tells mid between (Wrote n) new after → WrittenSoFar s tells old before new after (owed - n)
+    module _ {owed : ℕ} (p : WrittenSoFar s reports old before mid between owed) where
+      pub written_then : (n : ℕ) → WritesSome s reports mid between (Wrote n) new after → WrittenSoFar s reports old before new after (owed - n)
       written_then n q =
           let owed_is : owed - n ≡ length (pending_at new.hub s) = omega (arith, p.owed_is, q.why.1) in
           assumption (moves_then p.moves q.moves, moved_then before between after p.moved q.answered.0)
 
       -- the stream stopped
-      pub written_stopped : (answer : WriteAnswer) (flush : OutputState) → 0 < owed → (q : WritesSome s tells mid between answer new after)
+      pub written_stopped : (answer : WriteAnswer) (flush : OutputState) → 0 < owed → (q : WritesSome s reports mid between answer new after)
           → pending_at new.hub s ≡ pending_at mid.hub s
-          → (EndsWith (Write answer) before after × (pending_at new.hub s ≢ []) → WhyFlushed s new.hub before after flush)
-          → Flushes s tells old before flush new after
+          → (CountsLast (Write answer) before after × (pending_at new.hub s ≢ []) → WhyFlushed s new.hub before after flush)
+          → Flushes s reports old before flush new after
       written_stopped answer flush some q same why =
           let left : pending_at new.hub s ≢ [] = λ none. absurd (omega (arith, p.owed_is, ap length (sym same ∙ none))) in
           assumption (moves_then p.moves q.moves, why (ends_then (Write answer) before between after p.moved q.answered, left))
 
-    module _ {room : ℕ} (p : ReadSoFar s tells old before mid between room) where
-      pub read_then : (n : ℕ) → ReadsSome s tells mid between (Moved n) new after → ReadSoFar s tells old before new after (room - n)
+    module _ {room : ℕ} (p : ReadSoFar s reports old before mid between room) where
+      pub read_then : (n : ℕ) → ReadsSome s reports mid between (Moved n) new after → ReadSoFar s reports old before new after (room - n)
       read_then n q =
-          let room_is : room - n ≡ room_at new.hub s = omega (arith, p.room_is, q.why.1) in
+          let room_is : room - n ≡ inbox_room new.hub s = omega (arith, p.room_is, q.why.1) in
           let moved = moved_then before between after p.moved q.answered.0 in
           record {
             moves = moves_then p.moves q.moves;
@@ -93,19 +93,19 @@ module _ {s : ℕ} {tells : Type 0} where
 
       -- the stream stopped
       pub read_stopped : (answer : ReadAnswer) (exchange : Exchange) → AwaitsMore mid.hub s
-          → (q : ReadsSome s tells mid between answer new after) → new.hub ≡ mid.hub
-          → ((served : ℕ) → EndsWith (Read answer) before after × AwaitsMore new.hub s
+          → (q : ReadsSome s reports mid between answer new after) → new.hub ≡ mid.hub
+          → ((served : ℕ) → CountsLast (Read answer) before after × AwaitsMore new.hub s
           → WhyExchanged s new.hub before after served exchange)
-          → Exchanges s tells old before exchange new after
+          → Exchanges s reports old before exchange new after
       read_stopped answer exchange more q same why =
-          let all : Moves s tells old before new after = moves_then p.moves q.moves in
+          let all : Moves s reports old before new after = moves_then p.moves q.moves in
           let few : served_in all.carried ≤ 1 = omega (arith, all.none_served) in
           let why_so = why (served_in all.carried) (ends_then (Read answer) before between after p.moved q.answered, rw same more) in
           record { carried = all.carried; few = few; none_sent = none_in_both p.none_sent q.none_sent; why = why_so }
 
   -- ---- a request is looked for
 
-  module _ {old : Point} {before : Traffic} {mid : Point} {between : Traffic} {room : ℕ} (p : ReadSoFar s tells old before mid between room) {c : Choice}
+  module _ {old : Point} {before : Traffic} {mid : Point} {between : Traffic} {room : ℕ} (p : ReadSoFar s reports old before mid between room) {c : Choice}
       {count : ℕ} (happens : Happens mid (Serves s) c count)
       {outcome : Outcome} (outcome_is : outcome ≡ (hub_step mid.hub (Serves s) c).1) where
     abbrev st : SessionStream
@@ -123,10 +123,10 @@ module _ {s : ℕ} {tells : Type 0} where
     abbrev new : Point
     new = point_after mid (Serves s) c count
 
-    abbrev served : Runs s mid new
+    abbrev served : RunsOneSession s mid new
     served = served_event is opened none happens
 
-    abbrev done : Carried s tells old before new between
+    abbrev done : Carried s reports old before new between
     done = and_then p.moves.carried (alone served (tt, tt) refl refl)
 
     abbrev comes_now : Outcome → Type 0
@@ -141,40 +141,41 @@ module _ {s : ℕ} {tells : Type 0} where
     how_many : served_in done ≡ length served.history.served
     how_many = length-append p.moves.carried.runs.history.served served.history.served ∙ (let a = p.moves.none_served in omega arith)
 
-    exchanged : (exchange : Exchange) → WhyExchanged s new.hub before between (served_in done) exchange → Exchanges s tells old before exchange new between
+    exchanged : (exchange : Exchange) → WhyExchanged s new.hub before between (served_in done) exchange → Exchanges s reports old before exchange new between
     exchanged exchange why =
-        let one = one_each c.front c mid.hub.machine s st.now in
+        let one = one_each c.head c mid.hub.machine s st.now in
         let few : served_in done ≤ 1 = omega (arith, how_many, one) in
         record { carried = done; few = few; none_sent = none_in_both p.none_sent refl; why = why }
 
-    pub serve_starved : outcome ≡ Memory → Exchanges s tells old before ExchangeStarved new between
+    pub serve_starved : outcome ≡ Memory → Exchanges s reports old before ExchangeStarved new between
     serve_starved e = exchanged ExchangeStarved (p.moved, status_is ∙ (what Memory e).0)
 
-    pub serve_open : outcome ≡ Done → status_at new.hub s ≡ Open → Exchanges s tells old before Served new between
+    pub serve_open : outcome ≡ Done → status_at new.hub s ≡ Open → Exchanges s reports old before Served new between
     serve_open e is_open = elim (what Done e) [
       | inl w ↦ exchanged Served (p.moved, is_open, how_many ∙ w.1)
       | inr w ↦ absurd (let bad : Ending ≡ Open = sym w.0 ∙ sym status_is ∙ is_open in cc)
     ]
 
-    pub serve_closed : outcome ≡ Done → status_at new.hub s ≢ Open → Exchanges s tells old before ExchangeBroke new between
+    pub serve_closed : outcome ≡ Done → status_at new.hub s ≢ Open → Exchanges s reports old before ExchangeBroke new between
     serve_closed e is_closed = elim (what Done e) [ inl w ↦ absurd (is_closed (status_is ∙ w.0)) | inr w ↦ exchanged ExchangeBroke (p.moved, status_is ∙ w.0) ]
 
     pub serve_replied : outcome ≡ Done → pending_at new.hub s ≢ []
     serve_replied e =
         let done = sym (ap (λ r. r.1) (serves_is is opened none happens)) ∙ sym outcome_is ∙ e in
-        λ nothing. effect_replied c.front c mid.hub.machine s st.now done (sym (ap pending_in served.last_is) ∙ nothing)
+        λ nothing. effect_replied c.head c mid.hub.machine s st.now done (sym (ap pending_in served.last_is) ∙ nothing)
 
     -- the inbox holds the beginning of a request, and has room for more
-    pub serve_awaits : outcome ≢ Done → outcome ≢ Memory → ReadSoFar s tells old before new between room × AwaitsMore new.hub s × (0 < room)
+    pub serve_awaits : outcome ≢ Done → outcome ≢ Memory → ReadSoFar s reports old before new between room × AwaitsMore new.hub s × (0 < room)
     serve_awaits not_done not_memory =
         let w = comes_idle outcome st.now _ not_done not_memory (what outcome refl) in
         let inbox_now : inbox_at new.hub s ≡ st.now.inbox = ap inbox_in served.last_is ∙ ap (λ n. n.inbox) w.0 in
         let pending_now : pending_at new.hub s ≡ [] = ap pending_in served.last_is ∙ ap (λ n. n.pending) w.0 ∙ none in
         let status_now : status_at new.hub s ≡ Open = status_is ∙ ap (λ n. n.status) w.0 ∙ opened in
-        let room_now : room_at new.hub s ≡ room_at mid.hub s = ap room_in served.last_is ∙ ap (λ n. inbox_max - length n.inbox) w.0 ∙ sym (ap room_in is) in
+        let room_now : inbox_room new.hub s ≡ inbox_room mid.hub s = ap room_in served.last_is ∙ ap (λ n. inbox_max - length n.inbox) w.0
+        ∙ sym (ap room_in is) in
         let short : length st.now.inbox < inbox_max = beginning_short st.now.inbox w.3 in
         let room_was : room ≡ inbox_max - length st.now.inbox = p.room_is ∙ ap room_in is in
-        let moves : Moves s tells old before new between =
+        let moves : Moves s reports old before new between =
         record {
           carried = done;
           none_served = how_many ∙ ap length w.1;
@@ -196,35 +197,36 @@ module _ {s : ℕ} {tells : Type 0} where
   -- ---- between two requests
 
   module _ {old : Point} {before : Traffic} {mid : Point} {between : Traffic} {new : Point} {after : Traffic} {count : ℕ}
-      (p : DrivenSoFar s tells old before mid between count) where
+      (p : DrivenSoFar s reports old before mid between count) where
     -- the output was written, as far as it goes
-    abbrev pub driven_flushed : Moves s tells mid between new after → DrivenSoFar s tells old before new after count
+    abbrev pub driven_flushed : Moves s reports mid between new after → DrivenSoFar s reports old before new after count
     driven_flushed q =
         let both = length-append p.carried.runs.history.served q.carried.runs.history.served in
         record { carried = and_then p.carried q.carried; few = omega (arith, p.few, q.none_served) }
 
     -- a request was looked for
-    abbrev pub driven_served : {exchange : Exchange} → Exchanges s tells mid between exchange new after → DrivenSoFar s tells old before new after (count + 1)
+    abbrev pub driven_served : {exchange : Exchange} → Exchanges s reports mid between exchange new after
+        → DrivenSoFar s reports old before new after (count + 1)
     driven_served q = record {
       carried = and_then p.carried q.carried;
       few = let all = length-append p.carried.runs.history.served q.carried.runs.history.served in omega (arith, p.few, q.few);
     }
 
   -- the drive ends
-  drove : {old : Point} {before : Traffic} {last : Point} {after : Traffic} {count : ℕ} (p : DrivenSoFar s tells old before last after count) → count ≤ 64
-      → (answer : Progress) → {end : Point} → EndsAs s last end answer
-      → Why s last.hub before after (served_in p.carried) answer → Drove s tells old before answer end after
+  drove : {old : Point} {before : Traffic} {last : Point} {after : Traffic} {count : ℕ} (p : DrivenSoFar s reports old before last after count) → count ≤ 64
+      → (answer : Progress) → {end : Point} → LeavesIfGone s last end answer
+      → Why s last.hub before after (served_in p.carried) answer → Drove s reports old before answer end after
   drove {old} {before} {last} p le answer ends why = record { last = last; carried = p.carried; few = (omega (arith, p.few)); ends = ends; why = why }
 
   -- ---- the output is written
 
   module _ {old : Point} {before : Traffic} {mid : Point} {between : Traffic} {new : Point} {after : Traffic} {count : ℕ}
-      (p : DrivenOut s tells old before mid between count) where
-    served_still : (q : Moves s tells mid between new after) → status_at new.hub s ≡ Open → served_in (driven_flushed p.driven q).carried ≡ count
+      (p : DrivenOut s reports old before mid between count) where
+    served_still : (q : Moves s reports mid between new after) → status_at new.hub s ≡ Open → served_in (driven_flushed p.driven q).carried ≡ count
     served_still q is_open =
         omega (arith, length-append p.driven.carried.runs.history.served q.carried.runs.history.served, p.served_is (sym q.status ∙ is_open), q.none_served)
 
-    pub out_flushed : Flushes s tells mid between Empty new after → DrivenOut s tells old before new after count × (pending_at new.hub s ≡ [])
+    pub out_flushed : Flushes s reports mid between Empty new after → DrivenOut s reports old before new after count × (pending_at new.hub s ≡ [])
     out_flushed q = (
       record {
         driven = driven_flushed p.driven q.moves;
@@ -234,37 +236,37 @@ module _ {s : ℕ} {tells : Type 0} where
       q.why.1,
     )
 
-    pub waits_to_write : count ≤ 64 → Flushes s tells mid between FlushBlocked new after → Drove s tells old before Waiting new after
+    pub waits_to_write : count ≤ 64 → Flushes s reports mid between FlushBlocked new after → Drove s reports old before Waiting new after
     waits_to_write le q = drove (driven_flushed p.driven q.moves) le Waiting refl
         (inl (ends_then (Write WriteBlocked) before between after p.moved q.why.0, q.why.1))
 
-    pub again : count ≡ 64 → Flushes s tells mid between Empty new after → status_at new.hub s ≡ Open → Drove s tells old before Again new after
+    pub again : count ≡ 64 → Flushes s reports mid between Empty new after → status_at new.hub s ≡ Open → Drove s reports old before Again new after
     again all q is_open =
         drove (driven_flushed p.driven q.moves) (omega arith) Again refl
         (moved_then before between after p.moved q.why.0, served_still q.moves is_open ∙ all, is_open, q.why.1)
 
-    pub gone_writing : count ≤ 64 → Flushes s tells mid between FlushFailed new after → {gone : Point} → Departs s new gone
-        → Drove s tells old before Gone gone after
+    pub gone_writing : count ≤ 64 → Flushes s reports mid between FlushFailed new after → {gone : Point} → Departs s new gone
+        → Drove s reports old before Gone gone after
     gone_writing le q departs =
         drove (driven_flushed p.driven q.moves) le Gone departs (inr (inl (ends_then (Write WriteFailed) before between after p.moved q.why.0, q.why.1)))
 
     -- nothing is pending, and the session is no longer open
-    pub gone_closed : count ≤ 64 → Flushes s tells mid between Empty new after → status_at new.hub s ≢ Open → {gone : Point} → Departs s new gone
-        → Drove s tells old before Gone gone after
+    pub gone_closed : count ≤ 64 → Flushes s reports mid between Empty new after → status_at new.hub s ≢ Open → {gone : Point} → Departs s new gone
+        → Drove s reports old before Gone gone after
     gone_closed le q is_closed departs =
         let closed = closed_kinds (status_at new.hub s) q.moves.carried.runs.present is_closed q.why.1 in
         drove (driven_flushed p.driven q.moves) le Gone departs (inr (inr (inr (moved_then before between after p.moved q.why.0, closed))))
 
   -- ---- a request, once what was pending has left
 
-  module _ {old : Point} {before : Traffic} {mid : Point} {between : Traffic} {count : ℕ} (p : DrivenOut s tells old before mid between count
+  module _ {old : Point} {before : Traffic} {mid : Point} {between : Traffic} {count : ℕ} (p : DrivenOut s reports old before mid between count
       × (pending_at mid.hub s ≡ [])) where
-    module _ {new : Point} {after : Traffic} {exchange : Exchange} (q : Exchanges s tells mid between exchange new after) where
-      abbrev pub on : DrivenSoFar s tells old before new after (count + 1)
+    module _ {new : Point} {after : Traffic} {exchange : Exchange} (q : Exchanges s reports mid between exchange new after) where
+      abbrev pub on : DrivenSoFar s reports old before new after (count + 1)
       on = driven_served p.0.driven q
 
       out_on : AllMoved between after → (status_at new.hub s ≡ Open → (status_at mid.hub s ≡ Open) × (served_in q.carried ≡ 1))
-          → DrivenOut s tells old before new after (count + 1)
+          → DrivenOut s reports old before new after (count + 1)
       out_on moved one = record {
         driven = on;
         moved = moved_then before between after p.0.moved moved;
@@ -277,17 +279,17 @@ module _ {s : ℕ} {tells : Type 0} where
       }
 
     module _ {new : Point} {after : Traffic} where
-      pub out_served : status_at mid.hub s ≡ Open → Exchanges s tells mid between Served new after → DrivenOut s tells old before new after (count + 1)
+      pub out_served : status_at mid.hub s ≡ Open → Exchanges s reports mid between Served new after → DrivenOut s reports old before new after (count + 1)
       out_served is_open q = out_on q q.why.0 (λ _. (is_open, q.why.2))
 
-      pub out_broke : Exchanges s tells mid between ExchangeBroke new after → DrivenOut s tells old before new after (count + 1)
+      pub out_broke : Exchanges s reports mid between ExchangeBroke new after → DrivenOut s reports old before new after (count + 1)
       out_broke q = out_on q q.why.0 (λ is_open. absurd (let bad : Open ≡ Ending = sym is_open ∙ q.why.1 in cc))
 
-      pub waits_to_read : count < 64 → Exchanges s tells mid between ExchangeBlocked new after → Drove s tells old before Waiting new after
+      pub waits_to_read : count < 64 → Exchanges s reports mid between ExchangeBlocked new after → Drove s reports old before Waiting new after
       waits_to_read lt q = drove (on q) (omega arith) Waiting refl (inr (ends_then (Read Blocked) before between after p.0.moved q.why.0, q.why.1))
 
       pub gone_serving : count < 64 → (answer : Exchange) → answer ≢ Served → answer ≢ ExchangeBroke → answer ≢ ExchangeBlocked
-          → Exchanges s tells mid between answer new after → {gone : Point} → Departs s new gone → Drove s tells old before Gone gone after
+          → Exchanges s reports mid between answer new after → {gone : Point} → Departs s new gone → Drove s reports old before Gone gone after
       gone_serving lt answer a b c q departs =
           let why : Why s new.hub before after 0 Gone =
           grind (
@@ -302,32 +304,32 @@ module _ {s : ℕ} {tells : Type 0} where
 -- from hub to hub
 
 -- so much is pending
-pub owed_now : {D : Type 0} {g : Ghosts D} {a b : Hub D g} {s : ℕ} {tells : Type 0} {before between : Traffic} {owed : ℕ} → Stands a
-    → LeadsTelling s tells a before b between (λ h k. WrittenSoFar s tells h before k between owed)
+pub owed_now : {D : Type 0} {g : Ghosts D} {a b : Hub D g} {s : ℕ} {reports : Type 0} {before between : Traffic} {owed : ℕ} → Stands a
+    → LeadsAnswering s reports a before b between (λ h k. WrittenSoFar s reports h before k between owed)
     → owed ≡ length (pending_of b s)
 owed_now {D} {g} {a} {b} {s} some p = seen_after (hlevel ℕ_set) some p.leads (λ h k was stands x. x.owed_is ∙ ap length (sym (pending_seen b k.hub stands s)))
 
-module _ {D : Type 0} {g : Ghosts D} (follow : Follow D g) {a b c : Hub D g} {s : ℕ} {tells : Type 0} {before between behind : Traffic} {count : ℕ}
-    (p : LeadsTelling s tells a before b between (λ h k. DrivenOut s tells h before k between count)) where
-  pub flushes_out : LeadsTelling s tells b between c behind (λ k l. Flushes s tells k between Empty l behind)
-      → LeadsTelling s tells a before c behind (λ h l. DrivenOut s tells h before l behind count × (pending_at l.hub s ≡ []))
-  flushes_out q = tells_two_at follow p q (λ h k x. x.driven.carried) (λ h k l was stands x y. out_flushed x y)
+module _ {D : Type 0} {g : Ghosts D} (follow : Follow D g) {a b c : Hub D g} {s : ℕ} {reports : Type 0} {before between behind : Traffic} {count : ℕ}
+    (p : LeadsAnswering s reports a before b between (λ h k. DrivenOut s reports h before k between count)) where
+  pub flushes_out : LeadsAnswering s reports b between c behind (λ k l. Flushes s reports k between Empty l behind)
+      → LeadsAnswering s reports a before c behind (λ h l. DrivenOut s reports h before l behind count × (pending_at l.hub s ≡ []))
+  flushes_out q = reports_two_at follow p q (λ h k x. x.driven.carried) (λ h k l was stands x y. out_flushed x y)
 
   -- the session leaves after a write of the output
   pub leaves : {d : Hub D g} {answer : Progress} {flush : OutputState} → answer ≡ Gone
-      → LeadsTelling s tells b between c behind (λ k l. Flushes s tells k between flush l behind) → Leads c d (λ l m. Departs s l m)
-      → ((h k l m : Point) → StandsFor c l.hub → DrivenOut s tells h before k between count → Flushes s tells k between flush l behind → Departs s l m
-      → Drove s tells h before Gone m behind)
-      → LeadsTelling s tells a before d behind (λ h m. Drove s tells h before answer m behind)
-  leaves is q left f = rw is (tells_three follow p q (tells_still left) (λ h k x. x.driven.carried) (λ k l y. y.moves.carried) f)
+      → LeadsAnswering s reports b between c behind (λ k l. Flushes s reports k between flush l behind) → Leads c d (λ l m. Departs s l m)
+      → ((h k l m : Point) → StandsFor c l.hub → DrivenOut s reports h before k between count → Flushes s reports k between flush l behind → Departs s l m
+      → Drove s reports h before Gone m behind)
+      → LeadsAnswering s reports a before d behind (λ h m. Drove s reports h before answer m behind)
+  leaves is q left f = rw is (reports_three follow p q (reports_still left) (λ h k x. x.driven.carried) (λ k l y. y.moves.carried) f)
 
 -- a request was looked for, and there is only the beginning of one
 abbrev pub HasRead : ℕ → Type 0 → Traffic → Traffic → ℕ → Point → Point → Type 0
-HasRead s tells before between room h k = ReadSoFar s tells h before k between room × AwaitsMore k.hub s × (0 < room)
+HasRead s reports before between room h k = ReadSoFar s reports h before k between room × AwaitsMore k.hub s × (0 < room)
 
-pub waits : {D : Type 0} {g : Ghosts D} → Follow D g → {a b c : Hub D g} {s : ℕ} {tells : Type 0} {before between : Traffic} {room : ℕ} {outcome : Outcome}
-    → LeadsTelling s tells a before b between (λ h k. ReadSoFar s tells h before k between room)
+pub waits : {D : Type 0} {g : Ghosts D} → Follow D g → {a b c : Hub D g} {s : ℕ} {reports : Type 0} {before between : Traffic} {room : ℕ} {outcome : Outcome}
+    → LeadsAnswering s reports a before b between (λ h k. ReadSoFar s reports h before k between room)
     → HubLeads b c (Serves s) outcome → RunsAlone b c (Serves s) → failures b ≤ failures c → outcome ≢ Done → outcome ≢ Memory
-    → LeadsTelling s tells a before c between (HasRead s tells before between room)
+    → LeadsAnswering s reports a before c between (HasRead s reports before between room)
 waits follow p q alone counted not_done not_memory =
-    tells_step follow p q alone counted (λ h k r. r.moves.carried) (λ h k choice happens is stands r. serve_awaits r happens is not_done not_memory)
+    reports_step follow p q alone counted (λ h k r. r.moves.carried) (λ h k choice happens is stands r. serve_awaits r happens is not_done not_memory)

@@ -7,27 +7,27 @@ use Rattle.std.proofs.lemmas.List.{get_or-set_same, get_or-set_other}
 use Rattle.model.proofs.Lookups.{some_same}
 use Rattle.sessions.specs.SessionStreams.{stream_of}
 use Rattle.stream_driver.proofs.Events.{leaves_others}
-use Rattle.stream_driver.specs.Drives.{EndsAs}
-use Rattle.stream_driver.specs.Entries.{DrivenIn, state_after}
+use Rattle.stream_driver.specs.Drives.{LeavesIfGone}
+use Rattle.stream_driver.specs.Entries.{DrivenIn, entry_state_after}
 use Rattle.stream_driver.specs.Sessions.{Point, IsPresentIn}
 use Rattle.stream_driver.specs.Traffic.{Traffic}
 use Rattle.stream_driver.specs.Types.{Progress, Gone, EntryState, Idle, Ready, EntryGone, Entry}
 
-pub ends_other : (s : ℕ) (last new : Point) (answer : Progress) (t : ℕ) → t ≢ s → EndsAs s last new answer → stream_of new.hub t ≡ stream_of last.hub t
+pub ends_other : (s : ℕ) (last new : Point) (answer : Progress) (t : ℕ) → t ≢ s → LeavesIfGone s last new answer → stream_of new.hub t ≡ stream_of last.hub t
 ends_other s last new Gone t d e = ap (λ h. stream_of h t) e.adds.run_is ∙ leaves_others last.hub s e.choice t d
 ends_other s last new _ t d e = ap (λ p. stream_of p.hub t) e
 
 -- a session that wasn't to leave is where its run led
-pub ends_last : (s : ℕ) (last new : Point) (answer : Progress) → answer ≢ Gone → EndsAs s last new answer → new ≡ last
+pub ends_last : (s : ℕ) (last new : Point) (answer : Progress) → answer ≢ Gone → LeavesIfGone s last new answer → new ≡ last
 ends_last s last new Gone differs e = absurd (differs refl)
 ends_last s last new _ differs e = e
 
-module _ {T : Type 0} (tells : Type 0) (traffic : T → Traffic) where
+module _ {T : Type 0} (reports : Type 0) (traffic : T → Traffic) where
   pub entry_present : (state : EntryState) (earlier : Point) (old : Entry T) (later : Point) (new : Entry T) → old.state ≡ state
-      → DrivenIn tells traffic state earlier old later new → new.state ≢ EntryGone
+      → DrivenIn reports traffic state earlier old later new → new.state ≢ EntryGone
       → IsPresentIn earlier.hub old.session → IsPresentIn later.hub new.session
   entry_present Ready earlier old later new is d alive p =
-      let going : d.answer ≢ Gone = λ gone. alive (d.state ∙ ap state_after gone) in
+      let going : d.answer ≢ Gone = λ gone. alive (d.state ∙ ap entry_state_after gone) in
       let last = ends_last old.session d.drove.last later d.answer going d.drove.ends in
       rw d.session (subst (λ v. IsPresentIn v.hub old.session) (sym last) d.drove.carried.runs.present)
   entry_present Idle earlier old later new is d alive p = rw (d.0, d.1) p
@@ -35,7 +35,7 @@ module _ {T : Type 0} (tells : Type 0) (traffic : T → Traffic) where
 
   -- each other session is as it was
   pub entry_other : (state : EntryState) (earlier : Point) (old : Entry T) (later : Point) (new : Entry T) → old.state ≡ state
-      → DrivenIn tells traffic state earlier old later new
+      → DrivenIn reports traffic state earlier old later new
       → (t : ℕ) → (old.state ≢ EntryGone → t ≢ old.session) → stream_of later.hub t ≡ stream_of earlier.hub t
   entry_other Ready earlier old later new is d t differs =
       let apart : t ≢ old.session = differs (λ gone. cc) in

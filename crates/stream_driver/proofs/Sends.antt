@@ -13,7 +13,7 @@ use Rattle.stream_driver.proofs.Carry.{and_then, grown, one_history, run_then}
 use Rattle.stream_driver.proofs.Events.{Happens, point_after}
 use Rattle.stream_driver.proofs.States.{Follow, at_point, leads_event, leads_map, leads_two_at, point_of}
 use Rattle.stream_driver.specs.Drives.{Carried}
-use Rattle.stream_driver.specs.Sends.{IsAnswered, IsToldBefore, AreToldBefore, HasSent, LeadsTelling}
+use Rattle.stream_driver.specs.Sends.{IsAnswered, WasAnsweredBefore, WereAnsweredBefore, HasSent, LeadsAnswering}
 use Rattle.stream_driver.specs.Sessions.{Ghosts, Hub, Leads, Point}
 use Rattle.stream_driver.specs.Traffic.{Departure, DepartAt, IsBeginning, Traffic}
 
@@ -37,43 +37,43 @@ answered_on {s} {h} {es} {fs} {before} {between} {after} (inr some) (inl same) =
 module _ {D : Type 0} {g : Ghosts D} (s : ℕ) (h : HubState) where
   -- more events came since
   pub all_since : Follow D g → (a b c : Hub D g) (es fs : List (HubEvent × Choice)) → Ran b c fs → (ds : List Departure)
-      → AllByRecursion (IsToldBefore s h a b es) ds → AllByRecursion (IsToldBefore s h a c (es ++ fs)) ds
-  all_since follow a b c es fs ran ds = all-each (IsToldBefore s h a b es) (IsToldBefore s h a c (es ++ fs)) ds
+      → AllByRecursion (WasAnsweredBefore s h a b es) ds → AllByRecursion (WasAnsweredBefore s h a c (es ++ fs)) ds
+  all_since follow a b c es fs ran ds = all-each (WasAnsweredBefore s h a b es) (WasAnsweredBefore s h a c (es ++ fs)) ds
       (λ d t. search (ap (λ l. l ++ fs) t.events_are ∙ append_assoc t.before t.since fs, follow t.hub b c t.since fs t.goes_on ran))
 
   -- others had come before
   pub all_before : Follow D g → (a b c : Hub D g) (es fs : List (HubEvent × Choice)) → Ran a b es → (ds : List Departure)
-      → AllByRecursion (IsToldBefore s (run h es) b c fs) ds
-      → AllByRecursion (IsToldBefore s h a c (es ++ fs)) ds
-  all_before follow a b c es fs ran ds = all-each (IsToldBefore s (run h es) b c fs) (IsToldBefore s h a c (es ++ fs)) ds
+      → AllByRecursion (WasAnsweredBefore s (run h es) b c fs) ds
+      → AllByRecursion (WasAnsweredBefore s h a c (es ++ fs)) ds
+  all_before follow a b c es fs ran ds = all-each (WasAnsweredBefore s (run h es) b c fs) (WasAnsweredBefore s h a c (es ++ fs)) ds
       (λ d t. search (
         ap (λ l. es ++ l) t.events_are ∙ sym (append_assoc es t.before t.since),
         follow a b t.hub es t.before ran t.came,
-        answered_then s h es t.before d.bytes t.told,
+        answered_then s h es t.before d.bytes t.was_answered,
       ))
 
   -- nothing left
   pub none_left : (a b : Hub D g) (es : List (HubEvent × Choice)) (before after : Traffic) → after.departed ≡ before.departed
-      → AreToldBefore s h a b es before after
+      → WereAnsweredBefore s h a b es before after
   none_left a b es before after e = record { departures = []; departed_are = e ∙ sym (append-nil before.departed); each = tt }
 
-  pub more_since : Follow D g → (a b c : Hub D g) (es fs : List (HubEvent × Choice)) → Ran b c fs → (t u : Traffic) → AreToldBefore s h a b es t u
-      → AreToldBefore s h a c (es ++ fs) t u
+  pub more_since : Follow D g → (a b c : Hub D g) (es fs : List (HubEvent × Choice)) → Ran b c fs → (t u : Traffic) → WereAnsweredBefore s h a b es t u
+      → WereAnsweredBefore s h a c (es ++ fs) t u
   more_since follow a b c es fs ran t u p =
       record { departures = p.departures; departed_are = p.departed_are; each = all_since follow a b c es fs ran p.departures p.each }
 
   -- one part of the run after the other
-  pub all_told_then : Follow D g → (a b c : Hub D g) (es fs : List (HubEvent × Choice)) → Ran a b es → Ran b c fs → (t u v : Traffic)
-      → AreToldBefore s h a b es t u → AreToldBefore s (run h es) b c fs u v → AreToldBefore s h a c (es ++ fs) t v
-  all_told_then follow a b c es fs first second t u v p q =
-      let each = all-append (IsToldBefore s h a c (es ++ fs)) p.departures q.departures (all_since follow a b c es fs second p.departures p.each)
+  pub all_were_answered_then : Follow D g → (a b c : Hub D g) (es fs : List (HubEvent × Choice)) → Ran a b es → Ran b c fs → (t u v : Traffic)
+      → WereAnsweredBefore s h a b es t u → WereAnsweredBefore s (run h es) b c fs u v → WereAnsweredBefore s h a c (es ++ fs) t v
+  all_were_answered_then follow a b c es fs first second t u v p q =
+      let each = all-append (WasAnsweredBefore s h a c (es ++ fs)) p.departures q.departures (all_since follow a b c es fs second p.departures p.each)
       (all_before follow a b c es fs first q.departures q.each) in
       search (grown t.departed u.departed u.departed v.departed p.departures q.departures p.departed_are refl q.departed_are, each)
 
 -- what was sent over the stream is what was reported as sent, after a run over it too
-pub sent_after : (s : ℕ) (tells : Type 0) (h : Point) (t : Traffic) (k : Point) (u : Traffic) → Carried s tells h t k u → tells → HasSent s h.hub t
+pub sent_after : (s : ℕ) (reports : Type 0) (h : Point) (t : Traffic) (k : Point) (u : Traffic) → Carried s reports h t k u → reports → HasSent s h.hub t
     → HasSent s k.hub u
-sent_after s tells h t k u c is has =
+sent_after s reports h t k u c is has =
     let same : has.stream ≡ c.runs.first = one_history has.stream c.runs.first (sym has.stream_is ∙ c.runs.first_is) in
     search (c.runs.last_is, c.sent is ∙ ap (λ l. l ++ c.runs.history.sent) (has.sent ∙ ap (λ (x : SessionStream). x.sent) same) ∙ sym c.runs.history.sent_is)
 
@@ -95,85 +95,96 @@ answered_now : (s : ℕ) (h : HubState) (es : List (HubEvent × Choice)) (bytes 
     → IsBeginning bytes (st.sent ++ st.now.pending) → IsAnswered s h es bytes
 answered_now s h es bytes st is begins = record { by = []; since = es; events_are = refl; stream = st; stream_is = is; answered = begins }
 
-module _ {D : Type 0} {g : Ghosts D} {s : ℕ} {tells : Type 0} where
+module _ {D : Type 0} {g : Ghosts D} {s : ℕ} {reports : Type 0} where
   -- the stream was not called
-  pub tells_still : {a b : Hub D g} {t : Traffic} {P : Point → Point → Type 0} → Leads a b P → LeadsTelling s tells a t b t P
-  tells_still {a} {b} {t} p = record {
+  pub reports_still : {a b : Hub D g} {t : Traffic} {P : Point → Point → Type 0} → Leads a b P → LeadsAnswering s reports a t b t P
+  reports_still {a} {b} {t} p = record {
     leads = p;
-    telling = λ _ h stands has. none_left s h a b p.choices t t refl;
+    answering = λ _ h stands has. none_left s h a b p.choices t t refl;
     answered = λ _ h stands has. answered_now s h p.choices t.sent has.stream has.stream_is (record { rest = has.stream.now.pending; all_is = rw has.sent });
   }
 
-  pub tells_map : {a b : Hub D g} {t u : Traffic} {P Q : Point → Point → Type 0} → LeadsTelling s tells a t b u P
-      → ((h k : Point) → StandsFor b k.hub → P h k → Q h k) → LeadsTelling s tells a t b u Q
-  tells_map {a} {b} {t} {u} {P} {Q} p f = record { leads = leads_map a b P Q p.leads f; telling = p.telling; answered = p.answered }
+  pub reports_map : {a b : Hub D g} {t u : Traffic} {P Q : Point → Point → Type 0} → LeadsAnswering s reports a t b u P
+      → ((h k : Point) → StandsFor b k.hub → P h k → Q h k) → LeadsAnswering s reports a t b u Q
+  reports_map {a} {b} {t} {u} {P} {Q} p f = record { leads = leads_map a b P Q p.leads f; answering = p.answering; answered = p.answered }
 
   -- one call of the stream, which moved no more than was pending
-  pub tells_call : {a b : Hub D g} {t u : Traffic} {P : Point → Point → Type 0} → NoneRuns a → Leads a b P → (moment : ℕ) → moment ≡ g.moment (device a)
-      → (tells → DepartAt moment t u)
-      → (tells → (bytes : List ℕ) × IsBeginning bytes (pending_of a s) × (u.sent ≡ t.sent ++ bytes)) → LeadsTelling s tells a t b u P
-  tells_call {a} {b} {t} {u} none p moment now departs took = record {
+  pub reports_call : {a b : Hub D g} {t u : Traffic} {P : Point → Point → Type 0} → NoneRuns a → Leads a b P → (moment : ℕ) → moment ≡ g.moment (device a)
+      → (reports → DepartAt moment t u)
+      → (reports → (bytes : List ℕ) × IsBeginning bytes (pending_of a s) × (u.sent ≡ t.sent ++ bytes)) → LeadsAnswering s reports a t b u P
+  reports_call {a} {b} {t} {u} none p moment now departs took = record {
     leads = p;
-    telling = λ is h stands has.
+    answering = λ is h stands has.
         let d = departs is in
-        let told = λ (d : Departure) (left : (d.moment ≡ moment)
+        let was_answered = λ (d : Departure) (left : (d.moment ≡ moment)
         × IsBeginning d.bytes u.sent). answered_now s h [] d.bytes has.stream has.stream_is
         (begins_through d.bytes u.sent _ left.1 (begins is h stands has)) in
-        let each = all-each _ (IsToldBefore s h a b p.choices) d.departures (λ d left.
-        record { before = []; since = p.choices; events_are = refl; hub = a; came = none; goes_on = p.ran; moment_is = left.0 ∙ now; told = told d left })
+        let each = all-each _ (WasAnsweredBefore s h a b p.choices) d.departures (λ d left.
+        record {
+          before = [];
+          since = p.choices;
+          events_are = refl;
+          hub = a;
+          came = none;
+          goes_on = p.ran;
+          moment_is = left.0
+              ∙ now;
+          was_answered = was_answered d left;
+        })
         d.each in
         search (d.departed_are, each);
     answered = λ is h stands has. answered_now s h p.choices u.sent has.stream has.stream_is (begins is h stands has);
   }
     where
-      begins : tells → (h : HubState) → StandsFor a h → (has : HasSent s h t) → IsBeginning u.sent (has.stream.sent ++ has.stream.now.pending)
+      begins : reports → (h : HubState) → StandsFor a h → (has : HasSent s h t) → IsBeginning u.sent (has.stream.sent ++ has.stream.now.pending)
       begins is h stands has =
           let w = took is in
           begins_all w.0 has.stream.now.pending has.stream.sent t.sent u.sent
           (subst (λ l. IsBeginning w.0 l) (pending_seen a h stands s ∙ ap pending_in has.stream_is) w.1) has.sent w.2
 
   -- with what the hub between stands for
-  pub tells_two_at : Follow D g → {a b c : Hub D g} {t u v : Traffic} {P Q R : Point → Point → Type 0} → LeadsTelling s tells a t b u P
-      → LeadsTelling s tells b u c v Q
-      → ((h k : Point) → P h k → Carried s tells h t k u) → ((h k l : Point) → StandsFor b k.hub → StandsFor c l.hub → P h k → Q k l → R h l)
-      → LeadsTelling s tells a t c v R
-  tells_two_at follow {a} {b} {c} {t} {u} {v} {P} {Q} {R} p q carried f = record {
+  pub reports_two_at : Follow D g → {a b c : Hub D g} {t u v : Traffic} {P Q R : Point → Point → Type 0} → LeadsAnswering s reports a t b u P
+      → LeadsAnswering s reports b u c v Q
+      → ((h k : Point) → P h k → Carried s reports h t k u) → ((h k l : Point) → StandsFor b k.hub → StandsFor c l.hub → P h k → Q k l → R h l)
+      → LeadsAnswering s reports a t c v R
+  reports_two_at follow {a} {b} {c} {t} {u} {v} {P} {Q} {R} p q carried f = record {
     leads = leads_two_at follow a b c P Q R p.leads q.leads f;
-    telling = λ is h stands has.
+    answering = λ is h stands has.
         let mid = between is h stands has in
-        all_told_then s h follow a b c p.leads.choices q.leads.choices p.leads.ran q.leads.ran t u v (p.telling is h stands has)
-        (q.telling is (run h p.leads.choices) mid.0 mid.1);
+        all_were_answered_then s h follow a b c p.leads.choices q.leads.choices p.leads.ran q.leads.ran t u v (p.answering is h stands has)
+        (q.answering is (run h p.leads.choices) mid.0 mid.1);
     answered = λ is h stands has.
         let mid = between is h stands has in
         answered_then s h p.leads.choices q.leads.choices v.sent (q.answered is (run h p.leads.choices) mid.0 mid.1);
   }
     where
-      between : tells → (h : HubState) → StandsFor a h → HasSent s h t → StandsFor b (run h p.leads.choices) × HasSent s (run h p.leads.choices) u
+      between : reports → (h : HubState) → StandsFor a h → HasSent s h t → StandsFor b (run h p.leads.choices) × HasSent s (run h p.leads.choices) u
       between is h stands has =
           let to = p.leads.to (point_of a h) (at_point a h stands) in (
             subst (StandsFor b) to.2.0.run_is to.1.state,
-            subst (λ v. HasSent s v u) to.2.0.run_is (sent_after s tells (point_of a h) t to.0 u (carried (point_of a h) to.0 to.2.1) is has),
+            subst (λ v. HasSent s v u) to.2.0.run_is (sent_after s reports (point_of a h) t to.0 u (carried (point_of a h) to.0 to.2.1) is has),
           )
 
-  pub tells_three : Follow D g → {a b c d : Hub D g} {t u v w : Traffic} {P Q R S : Point → Point → Type 0} → LeadsTelling s tells a t b u P
-      → LeadsTelling s tells b u c v Q → LeadsTelling s tells c v d w R
-      → ((h k : Point) → P h k → Carried s tells h t k u) → ((k l : Point) → Q k l → Carried s tells k u l v)
-      → ((h k l m : Point) → StandsFor c l.hub → P h k → Q k l → R l m → S h m) → LeadsTelling s tells a t d w S
-  tells_three follow {a} {b} {c} {d} {t} {u} {v} {w} {P} {Q} p q r one two f =
-      tells_two_at follow (tells_two_at follow {R = λ h l. (k : Point) × StandsFor c l.hub × P h k × Q k l} p q one (λ h k l was stands x y. (k, stands, x, y)))
+  pub reports_three : Follow D g → {a b c d : Hub D g} {t u v w : Traffic} {P Q R S : Point → Point → Type 0} → LeadsAnswering s reports a t b u P
+      → LeadsAnswering s reports b u c v Q → LeadsAnswering s reports c v d w R
+      → ((h k : Point) → P h k → Carried s reports h t k u) → ((k l : Point) → Q k l → Carried s reports k u l v)
+      → ((h k l m : Point) → StandsFor c l.hub → P h k → Q k l → R l m → S h m) → LeadsAnswering s reports a t d w S
+  reports_three follow {a} {b} {c} {d} {t} {u} {v} {w} {P} {Q} p q r one two f =
+      reports_two_at follow (reports_two_at follow {R = λ h l. (k : Point) × StandsFor c l.hub × P h k
+      × Q k l} p q one (λ h k l was stands x y. (k, stands, x, y)))
       r
       (λ h l x. and_then (one h x.0 x.2) (two x.0 l x.3))
       (λ h l m stands last x z. f h x.0 l m x.1 x.2 x.3 z)
 
   -- and then an event of the hub
-  pub tells_step : Follow D g → {a b c : Hub D g} {t u : Traffic} {P R : Point → Point → Type 0} {e : HubEvent} {outcome : Outcome}
-      → LeadsTelling s tells a t b u P → HubLeads b c e outcome → RunsAlone b c e
-      → failures b ≤ failures c → ((h k : Point) → P h k → Carried s tells h t k u)
+  pub reports_step : Follow D g → {a b c : Hub D g} {t u : Traffic} {P R : Point → Point → Type 0} {e : HubEvent} {outcome : Outcome}
+      → LeadsAnswering s reports a t b u P → HubLeads b c e outcome → RunsAlone b c e
+      → failures b ≤ failures c → ((h k : Point) → P h k → Carried s reports h t k u)
       → ((h k : Point) (choice : Choice) → Happens k e choice (failures c) → outcome ≡ (hub_step k.hub e choice).1 → StandsFor c (hub_step k.hub e choice).0
       → P h k → R h (point_after k e choice (failures c)))
-      → LeadsTelling s tells a t c u R
-  tells_step follow {a} {b} {c} {t} {u} {P} {R} {e} {outcome} p q alone counted carried f =
-      tells_two_at follow p
-      (tells_still (leads_event b c (λ k l. (h : Point) → P h k
+      → LeadsAnswering s reports a t c u R
+  reports_step follow {a} {b} {c} {t} {u} {P} {R} {e} {outcome} p q alone counted carried f =
+      reports_two_at follow p
+      (reports_still (leads_event b c (λ k l. (h : Point) → P h k
       → R h l) e outcome q alone counted (λ k at happens is stands h x. f h k q.0 happens is stands x))) carried
       (λ h k l was stands x y. y h x)

@@ -10,66 +10,68 @@ use Rattle.sessions.specs.SessionStreams.{Choice, HubEvent, HubState, run}
 use Rattle.sessions.specs.StandsFor.{status_in, StandsFor}
 use Rattle.stream_driver.proofs.Carry.{run_then}
 use Rattle.stream_driver.proofs.OneEntry.{below, entry_other, entry_present, get_set, ends_last}
-use Rattle.stream_driver.proofs.Sends.{tells_still, all_told_then, answered_on, more_since, none_left, sent_after}
+use Rattle.stream_driver.proofs.Sends.{reports_still, all_were_answered_then, answered_on, more_since, none_left}
+use Rattle.stream_driver.proofs.Sends.{sent_after}
 use Rattle.stream_driver.proofs.States.{Follow, leads_none, present_after, at_point, leads_map, leads_two_at}
 use Rattle.stream_driver.proofs.States.{point_of}
 use Rattle.stream_driver.specs.Drives.{Drove}
 use Rattle.stream_driver.specs.Entries.{HaveSessions, DrivenEntry, DrivenIn, DrivenSlot, DrivenAll, EntriesSoFar}
-use Rattle.stream_driver.specs.Entries.{state_after, KeepSessions}
-use Rattle.stream_driver.specs.Sends.{DrivesTelling, LeadsTelling, AreToldBefore, IsAnswered, HasSent, HaveSent}
+use Rattle.stream_driver.specs.Entries.{entry_state_after, KeepSessions}
+use Rattle.stream_driver.specs.Sends.{DrivesAnswering, LeadsAnswering, WereAnsweredBefore, IsAnswered, HasSent}
+use Rattle.stream_driver.specs.Sends.{HaveSent}
 use Rattle.stream_driver.specs.Sessions.{Ghosts, Hub, Point, Leads, IsPresent, StandsAt}
 use Rattle.stream_driver.specs.Traffic.{Traffic}
 use Rattle.stream_driver.specs.Types.{Progress, Gone, EntryState, Ready, EntryGone, Idle, Entry}
 
-module _ {T : Type 0} (tells : Type 0) (traffic : T → Traffic) where
+module _ {T : Type 0} (reports : Type 0) (traffic : T → Traffic) where
   -- what was sent over the stream of an entry that isn't gone is what was reported as sent, after its drive too
-  entry_sent : (state : EntryState) (k : Point) (old : Entry T) (l : Point) (entry : Entry T) → old.state ≡ state → DrivenIn tells traffic state k old l entry
-      → entry.state ≢ EntryGone → tells
+  entry_sent : (state : EntryState) (k : Point) (old : Entry T) (l : Point) (entry : Entry T) → old.state ≡ state → DrivenIn reports traffic state k old l entry
+      → entry.state ≢ EntryGone → reports
       → HasSent old.session k.hub (traffic old.stream) → HasSent entry.session l.hub (traffic entry.stream)
   entry_sent Ready k old l entry is d alive t has =
-      let going : d.answer ≢ Gone = λ gone. alive (d.state ∙ ap state_after gone) in
+      let going : d.answer ≢ Gone = λ gone. alive (d.state ∙ ap entry_state_after gone) in
       let same : l ≡ d.drove.last = ends_last old.session d.drove.last l d.answer going d.drove.ends in
       subst (λ s. HasSent s l.hub (traffic entry.stream)) (sym d.session)
       (subst (λ (p : Point). HasSent old.session p.hub (traffic entry.stream)) (sym same)
-      (sent_after old.session tells k (traffic old.stream) d.drove.last (traffic entry.stream) d.drove.carried t has))
+      (sent_after old.session reports k (traffic old.stream) d.drove.last (traffic entry.stream) d.drove.carried t has))
   entry_sent Idle k old l entry is d alive t has =
       subst (λ (p : Point). HasSent entry.session p.hub (traffic entry.stream)) (sym d.1)
       (subst (λ (x : Entry T). HasSent x.session k.hub (traffic x.stream)) (sym d.0) has)
   entry_sent EntryGone k old l entry is d alive t has = absurd (alive (ap (λ (x : Entry T). x.state) d.0 ∙ is))
 
   -- nothing leaves over the stream of one that is gone
-  gone_same : (old entry : Entry T) (k l : Point) (state : EntryState) → state ≡ EntryGone → DrivenIn tells traffic state k old l entry → entry ≡ old
+  gone_same : (old entry : Entry T) (k l : Point) (state : EntryState) → state ≡ EntryGone → DrivenIn reports traffic state k old l entry → entry ≡ old
   gone_same old entry k l Ready e d = absurd (cc)
   gone_same old entry k l _ e d = d.0
 
   module _ {D : Type 0} {g : Ghosts D} where
     pub drives_none : (hub : Hub D g) (slots : List (Option (Entry T))) → NoneRuns hub → (P : Point → Point → Type 0) → ((h : Point) → StandsAt hub h → P h h)
-        → DrivesTelling traffic tells hub slots hub slots P
+        → DrivesAnswering traffic reports hub slots hub slots P
     drives_none hub slots none P f = record {
       leads = leads_none hub none P f;
-      telling = λ t h stands has key was entry e d. none_left was.session h hub hub [] (traffic was.stream) (traffic entry.stream)
+      answering = λ t h stands has key was entry e d. none_left was.session h hub hub [] (traffic was.stream) (traffic entry.stream)
           (ap (λ (x : Entry T). (traffic x.stream).departed) (some_same (sym d ∙ e)));
       answered = λ t h stands has key was entry e d. inl (ap (λ (x : Entry T). (traffic x.stream).sent) (some_same (sym d ∙ e)));
       keeps = λ t h stands has. has;
     }
 
     pub drives_map : {hub : Hub D g} {slots : List (Option (Entry T))} {later : Hub D g} {new : List (Option (Entry T))} {P Q : Point → Point → Type 0}
-        → DrivesTelling traffic tells hub slots later new P
-        → ((h k : Point) → StandsFor later k.hub → P h k → Q h k) → DrivesTelling traffic tells hub slots later new Q
+        → DrivesAnswering traffic reports hub slots later new P
+        → ((h k : Point) → StandsFor later k.hub → P h k → Q h k) → DrivesAnswering traffic reports hub slots later new Q
     drives_map {hub} {slots} {later} {new} {P} {Q} p f =
-        record { leads = leads_map hub later P Q p.leads f; telling = p.telling; answered = p.answered; keeps = p.keeps }
+        record { leads = leads_map hub later P Q p.leads f; answering = p.answering; answered = p.answered; keeps = p.keeps }
 
     -- what left over the stream of an entry was answered before, and if more was sent since, all that was answered
-    abbrev Tells : ℕ → HubState → Hub D g → Hub D g → List (HubEvent × Choice) → Entry T → Entry T → Type 0
-    Tells s h a b es was now =
-        AreToldBefore s h a b es (traffic was.stream) (traffic now.stream)
+    abbrev EntryWasAnswered : ℕ → HubState → Hub D g → Hub D g → List (HubEvent × Choice) → Entry T → Entry T → Type 0
+    EntryWasAnswered s h a b es was now =
+        WereAnsweredBefore s h a b es (traffic was.stream) (traffic now.stream)
         × (((traffic now.stream).sent ≡ (traffic was.stream).sent) ⊎ IsAnswered s h es (traffic now.stream).sent)
 
     -- and then one entry more
     module _ (follow : Follow D g) (key : ℕ) {hub : Hub D g} {slots : List (Option (Entry T))} {mid : Hub D g} {new : List (Option (Entry T))} {old : Entry T}
         {later : Hub D g} (entry : Entry T)
-        {P : Point → Point → Type 0} (R : Point → Point → Type 0) (p : DrivesTelling traffic tells hub slots mid new P)
-        (q : LeadsTelling old.session tells mid (traffic old.stream) later (traffic entry.stream) (λ h k. DrivenEntry tells traffic h old k entry))
+        {P : Point → Point → Type 0} (R : Point → Point → Type 0) (p : DrivesAnswering traffic reports hub slots mid new P)
+        (q : LeadsAnswering old.session reports mid (traffic old.stream) later (traffic entry.stream) (λ h k. DrivenEntry reports traffic h old k entry))
         (is : get_or new key None ≡ Some old) (lt : key < length new) (sessions : HaveSessions mid new) (numbers : KeepSessions slots new) where
       abbrev es : List (HubEvent × Choice)
       es = p.leads.choices
@@ -80,42 +82,44 @@ module _ {T : Type 0} (tells : Type 0) (traffic : T → Traffic) where
       mid_stands : (h : HubState) → StandsFor hub h → StandsFor mid (run h es)
       mid_stands h stands = let to = p.leads.to (point_of hub h) (at_point hub h stands) in subst (StandsFor mid) to.2.0.run_is to.1.state
 
-      entry_told : tells → (h : HubState) → StandsFor mid h → HaveSent traffic h new → Tells old.session h mid later fs old entry
-      entry_told t h stands has =
+      entry_was_answered : reports → (h : HubState) → StandsFor mid h → HaveSent traffic h new → EntryWasAnswered old.session h mid later fs old entry
+      entry_was_answered t h stands has =
           let to = q.leads.to (point_of mid h) (at_point mid h stands) in
           by old.state refl (λ gone. gone_same old entry (point_of mid h) to.0 old.state gone to.2.1)
         where
-          by : (state : EntryState) → old.state ≡ state → (old.state ≡ EntryGone → entry ≡ old) → Tells old.session h mid later fs old entry
+          by : (state : EntryState) → old.state ≡ state → (old.state ≡ EntryGone → entry ≡ old) → EntryWasAnswered old.session h mid later fs old entry
           by EntryGone e same = (
             none_left old.session h mid later fs (traffic old.stream) (traffic entry.stream) (ap (λ (x : Entry T). (traffic x.stream).departed) (same e)),
             inl (ap (λ (x : Entry T). (traffic x.stream).sent) (same e)),
           )
-          by _ e same = let sent = has key old is (λ gone. cc) in (q.telling t h stands sent, inr (q.answered t h stands sent))
+          by _ e same = let sent = has key old is (λ gone. cc) in (q.answering t h stands sent, inr (q.answered t h stands sent))
 
-      all_told : tells → (h : HubState) → StandsFor hub h → HaveSent traffic h slots → (other : ℕ) (was now : Entry T) → get_or slots other None ≡ Some was
+      all_were_answered : reports → (h : HubState) → StandsFor hub h → HaveSent traffic h slots → (other : ℕ) (was now : Entry T)
+          → get_or slots other None ≡ Some was
           → get_or (set new key (Some entry)) other None ≡ Some now
-          → Tells was.session h hub later (es ++ fs) was now
-      all_told t h stands has other was now e d = elim (get_set new key other entry now lt d) [
+          → EntryWasAnswered was.session h hub later (es ++ fs) was now
+      all_were_answered t h stands has other was now e d = elim (get_set new key other entry now lt d) [
         | inl (same, which) ↦
             let there : get_or new other None ≡ Some old = ap (λ k. get_or new k None) same ∙ is in
             let before = numbers other old there in
             let session : old.session ≡ was.session = before.2 ∙ ap (λ (x : Entry T). x.session) (some_same (sym before.1 ∙ e)) in
-            let this = subst (λ s. Tells s (run h es) mid later fs old entry) session (entry_told t (run h es) (mid_stands h stands) (p.keeps t h stands has))
+            let this = subst (λ s. EntryWasAnswered s (run h es) mid later fs old entry) session (entry_was_answered t (run h es) (mid_stands h stands)
+            (p.keeps t h stands has))
             in
-            let told = all_told_then was.session h follow hub mid later es fs p.leads.ran q.leads.ran (traffic was.stream) (traffic old.stream)
-            (traffic entry.stream) (p.telling t h stands has other was old e there) this.0 in
-            subst (λ (x : Entry T). Tells was.session h hub later (es ++ fs) was x) (sym which) (
-              told,
+            let was_answered = all_were_answered_then was.session h follow hub mid later es fs p.leads.ran q.leads.ran (traffic was.stream) (traffic old.stream)
+            (traffic entry.stream) (p.answering t h stands has other was old e there) this.0 in
+            subst (λ (x : Entry T). EntryWasAnswered was.session h hub later (es ++ fs) was x) (sym which) (
+              was_answered,
               answered_on (p.answered t h stands has other was old e there) this.1,
             )
         | inr (differs, there) ↦ (
           more_since was.session h follow hub mid later es fs q.leads.ran (traffic was.stream) (traffic now.stream)
-              (p.telling t h stands has other was now e there),
+              (p.answering t h stands has other was now e there),
           answered_on (p.answered t h stands has other was now e there) (inl refl),
         )
       ]
 
-      all_kept : tells → (h : HubState) → StandsFor mid h → HaveSent traffic h new → HaveSent traffic (run h fs) (set new key (Some entry))
+      all_kept : reports → (h : HubState) → StandsFor mid h → HaveSent traffic h new → HaveSent traffic (run h fs) (set new key (Some entry))
       all_kept t h stands has other now e alive =
           let to = q.leads.to (point_of mid h) (at_point mid h stands) in
           let at : Point = point_of mid h in
@@ -133,18 +137,18 @@ module _ {T : Type 0} (tells : Type 0) (traffic : T → Traffic) where
                 λ going one. differs (sessions.own other key now old there is alive going one) in
                 record {
                   stream = was.stream;
-                  stream_is = entry_other tells traffic old.state at old to.0 entry refl to.2.1 now.session apart ∙ was.stream_is;
+                  stream_is = entry_other reports traffic old.state at old to.0 entry refl to.2.1 now.session apart ∙ was.stream_is;
                   sent = was.sent;
                 }
           ])
 
-      pub drives_then : ((h k l : Point) → StandsFor later l.hub → P h k → DrivenEntry tells traffic k old l entry → R h l)
-          → DrivesTelling traffic tells hub slots later (set new key (Some entry)) R
+      pub drives_then : ((h k l : Point) → StandsFor later l.hub → P h k → DrivenEntry reports traffic k old l entry → R h l)
+          → DrivesAnswering traffic reports hub slots later (set new key (Some entry)) R
       drives_then f = record {
-        leads = leads_two_at follow hub mid later P (λ h k. DrivenEntry tells traffic h old k entry) R p.leads q.leads
+        leads = leads_two_at follow hub mid later P (λ h k. DrivenEntry reports traffic h old k entry) R p.leads q.leads
             (λ h k l was stands x y. f h k l stands x y);
-        telling = λ t h stands has other was now e d. (all_told t h stands has other was now e d).0;
-        answered = λ t h stands has other was now e d. (all_told t h stands has other was now e d).1;
+        answering = λ t h stands has other was now e d. (all_were_answered t h stands has other was now e d).0;
+        answered = λ t h stands has other was now e d. (all_were_answered t h stands has other was now e d).1;
         keeps = λ t h stands has other now e alive.
             subst (λ v. HasSent now.session v (traffic now.stream)) (sym (run_then h es fs))
             (all_kept t (run h es) (mid_stands h stands) (p.keeps t h stands has) other now e alive);
@@ -167,42 +171,43 @@ entry_was {T} slots key old new is same stays other now e = elim (get_set slots 
   | inr (differs, there) ↦ (now, there, refl, λ alive. alive)
 ]
 
-module _ {T : Type 0} (tells : Type 0) (traffic : T → Traffic) where
+module _ {T : Type 0} (reports : Type 0) (traffic : T → Traffic) where
   -- an entry that was ready was driven
   pub driven_once : {earlier later : Point} {old : Entry T} {answer : Progress} {stream : T} {state : EntryState} → old.state ≡ Ready
-      → state ≡ state_after answer
-      → Drove old.session tells earlier (traffic old.stream) answer later (traffic stream)
-      → DrivenEntry tells traffic earlier old later (record { session = old.session; stream = stream; state = state })
+      → state ≡ entry_state_after answer
+      → Drove old.session reports earlier (traffic old.stream) answer later (traffic stream)
+      → DrivenEntry reports traffic earlier old later (record { session = old.session; stream = stream; state = state })
   driven_once {earlier} {later} {old} {answer} {stream} {state} ready is drove =
       let new : Entry T = record { session = old.session; stream = stream; state = state } in
-      subst (λ (s : EntryState). DrivenIn tells traffic s earlier old later new) (sym ready)
+      subst (λ (s : EntryState). DrivenIn reports traffic s earlier old later new) (sym ready)
       (record { answer = answer; drove = drove; session = refl; state = is })
 
   -- one that isn't ready is left alone
   pub left_alone : {D : Type 0} {g : Ghosts D} (hub : Hub D g) (old : Entry T) → NoneRuns hub → old.state ≢ Ready
-      → LeadsTelling old.session tells hub (traffic old.stream) hub (traffic old.stream) (λ h k. DrivenEntry tells traffic h old k old)
-  left_alone hub old none differs = tells_still (leads_none hub none _ (λ h at. by old.state differs h))
+      → LeadsAnswering old.session reports hub (traffic old.stream) hub (traffic old.stream) (λ h k. DrivenEntry reports traffic h old k old)
+  left_alone hub old none differs = reports_still (leads_none hub none _ (λ h at. by old.state differs h))
     where
-      by : (state : EntryState) → state ≢ Ready → (h : Point) → DrivenIn tells traffic state h old h old
+      by : (state : EntryState) → state ≢ Ready → (h : Point) → DrivenIn reports traffic state h old h old
       by state d h = grind arith
 
   driven_more : (earlier : Point) (xs : List (Option (Entry T))) (mid : Point) (ys : List (Option (Entry T))) (x : Option (Entry T)) (later : Point)
       (y : Option (Entry T))
-      → DrivenAll tells traffic earlier xs mid ys → DrivenSlot tells traffic mid x later y → DrivenAll tells traffic earlier (xs ++ x ∷ []) later (ys ++ y ∷ [])
+      → DrivenAll reports traffic earlier xs mid ys → DrivenSlot reports traffic mid x later y
+      → DrivenAll reports traffic earlier (xs ++ x ∷ []) later (ys ++ y ∷ [])
   driven_more earlier [] mid ys x later y (e, same) d =
-      (y, later, [], ap (λ (l : List (Option (Entry T))). l ++ y ∷ []) e, subst (λ (v : Point). DrivenSlot tells traffic v x later y) same d, (refl, refl))
+      (y, later, [], ap (λ (l : List (Option (Entry T))). l ++ y ∷ []) e, subst (λ (v : Point). DrivenSlot reports traffic v x later y) same d, (refl, refl))
   driven_more earlier (z ∷ zs) mid ys x later y (first, m, others, e, dz, rest) d =
       (first, m, others ++ y ∷ [], ap (λ (l : List (Option (Entry T))). l ++ y ∷ []) e, dz, driven_more m zs mid others x later y rest d)
 
   module _ {D : Type 0} {g : Ghosts D} {hub later : Hub D g} (slots : List (Option (Entry T))) (key : ℕ) {old : Entry T} (new : Entry T)
       (is : get_or slots key None ≡ Some old) (same : new.session ≡ old.session)
-      (stays : old.state ≡ EntryGone → new.state ≡ EntryGone) (leads : Leads hub later (λ h k. DrivenEntry tells traffic h old k new)) where
+      (stays : old.state ≡ EntryGone → new.state ≡ EntryGone) (leads : Leads hub later (λ h k. DrivenEntry reports traffic h old k new)) where
     still_present : new.state ≢ EntryGone → IsPresent hub old.session → IsPresent later new.session
-    still_present alive has = present_after old.session new.session has leads (λ h k p d. entry_present tells traffic old.state h old k new refl d alive p)
+    still_present alive has = present_after old.session new.session has leads (λ h k p d. entry_present reports traffic old.state h old k new refl d alive p)
 
     other_present : (s : ℕ) → (old.state ≢ EntryGone → s ≢ old.session) → IsPresent hub s → IsPresent later s
     other_present s apart has =
-        present_after s s has leads (λ h k p d gone. p (sym (ap status_in (entry_other tells traffic old.state h old k new refl d s apart)) ∙ gone))
+        present_after s s has leads (λ h k p d gone. p (sym (ap status_in (entry_other reports traffic old.state h old k new refl d s apart)) ∙ gone))
 
     pub sessions_kept : HaveSessions hub slots → HaveSessions later (set slots key (Some new))
     sessions_kept has =
@@ -229,10 +234,10 @@ module _ {T : Type 0} (tells : Type 0) (traffic : T → Traffic) where
   drop_next key slots new e = sym (drop-drop 1 key new) ∙ ap (λ (l : List (Option (Entry T))). drop 1 l) e ∙ drop-drop 1 key slots
 
   pub entries_none : {D : Type 0} {g : Ghosts D} {hub : Hub D g} {slots : List (Option (Entry T))} → NoneRuns hub → HaveSessions hub slots
-      → EntriesSoFar tells traffic 0 hub slots hub slots
+      → EntriesSoFar reports traffic 0 hub slots hub slots
   entries_none {D} {g} {hub} {slots} none has =
       record {
-        driven = drives_none tells traffic hub slots none _ (λ h stands. (refl, refl));
+        driven = drives_none reports traffic hub slots none _ (λ h stands. (refl, refl));
         rest = refl;
         len = refl;
         sessions = has;
@@ -240,8 +245,8 @@ module _ {T : Type 0} (tells : Type 0) (traffic : T → Traffic) where
       }
 
   one_vacant : (key : ℕ) (slots new : List (Option (Entry T))) → length new ≡ length slots → drop key new ≡ drop key slots → get_or new key None ≡ None
-      → (h k : Point) → DrivenAll tells traffic h (take key slots) k (take key new)
-      → DrivenAll tells traffic h (take (key + 1) slots) k (take (key + 1) new)
+      → (h k : Point) → DrivenAll reports traffic h (take key slots) k (take key new)
+      → DrivenAll reports traffic h (take (key + 1) slots) k (take (key + 1) new)
   one_vacant key slots new len rest none h k now = elim (cases_lt key (length slots)) [
     | inl lt ↦
         let lt_new : key < length new = rw len lt in
@@ -259,8 +264,8 @@ module _ {T : Type 0} (tells : Type 0) (traffic : T → Traffic) where
 
   one_driven : (key : ℕ) (slots new : List (Option (Entry T))) (old entry : Entry T) → length new ≡ length slots → drop key new ≡ drop key slots
       → get_or new key None ≡ Some old → (h k l : Point)
-      → DrivenAll tells traffic h (take key slots) k (take key new) → DrivenEntry tells traffic k old l entry
-      → DrivenAll tells traffic h (take (key + 1) slots) l (take (key + 1) (set new key (Some entry)))
+      → DrivenAll reports traffic h (take key slots) k (take key new) → DrivenEntry reports traffic k old l entry
+      → DrivenAll reports traffic h (take (key + 1) slots) l (take (key + 1) (set new key (Some entry)))
   one_driven key slots new old entry len rest is h k l now d =
       let lt_new : key < length new = below new key old is in
       let lt : key < length slots = rw (← len) lt_new in
@@ -268,18 +273,18 @@ module _ {T : Type 0} (tells : Type 0) (traffic : T → Traffic) where
       (driven_more h (take key slots) k (take key new) (Some old) l (Some entry) now (entry, refl, d))
 
   module _ {D : Type 0} {g : Ghosts D} {key : ℕ} {hub : Hub D g} {slots : List (Option (Entry T))} {mid : Hub D g} {new : List (Option (Entry T))}
-      (p : EntriesSoFar tells traffic key hub slots mid new) where
-    pub entries_vacant : get_or new key None ≡ None → EntriesSoFar tells traffic (key + 1) hub slots mid new
+      (p : EntriesSoFar reports traffic key hub slots mid new) where
+    pub entries_vacant : get_or new key None ≡ None → EntriesSoFar reports traffic (key + 1) hub slots mid new
     entries_vacant none =
-        let driven = drives_map tells traffic p.driven (λ (h k : Point) (stands : StandsFor mid k.hub). one_vacant key slots new p.len p.rest none h k) in
+        let driven = drives_map reports traffic p.driven (λ (h k : Point) (stands : StandsFor mid k.hub). one_vacant key slots new p.len p.rest none h k) in
         assumption (driven, drop_next key slots new p.rest)
 
     pub entries_driven : Follow D g → (old : Entry T) {later : Hub D g} {entry : Entry T} → get_or new key None ≡ Some old → entry.session ≡ old.session
         → (old.state ≡ EntryGone → entry.state ≡ EntryGone)
-        → LeadsTelling old.session tells mid (traffic old.stream) later (traffic entry.stream) (λ h k. DrivenEntry tells traffic h old k entry)
-        → EntriesSoFar tells traffic (key + 1) hub slots later (set new key (Some entry))
+        → LeadsAnswering old.session reports mid (traffic old.stream) later (traffic entry.stream) (λ h k. DrivenEntry reports traffic h old k entry)
+        → EntriesSoFar reports traffic (key + 1) hub slots later (set new key (Some entry))
     entries_driven follow old {later} {entry} is same stays leads = record {
-      driven = drives_then tells traffic follow key entry _ p.driven leads is (below new key old is) p.sessions p.numbers
+      driven = drives_then reports traffic follow key entry _ p.driven leads is (below new key old is) p.sessions p.numbers
           (λ h k l stands now d. one_driven key slots new old entry p.len p.rest is h k l now d);
       rest = rw (drop-set-lt (key + 1) new key (Some entry) (omega arith)) (drop_next key slots new p.rest);
       len = length-set new key (Some entry) ∙ p.len;
@@ -290,5 +295,5 @@ module _ {T : Type 0} (tells : Type 0) (traffic : T → Traffic) where
           (before.0, before.1, was.2 ∙ before.2);
     }
 
-    pub entries_all : length slots ≤ key → DrivesTelling traffic tells hub slots mid new (λ h k. DrivenAll tells traffic h slots k new)
+    pub entries_all : length slots ≤ key → DrivesAnswering traffic reports hub slots mid new (λ h k. DrivenAll reports traffic h slots k new)
     entries_all le = rw (take_all key slots le, take_all key new (rw p.len le)) at p.driven

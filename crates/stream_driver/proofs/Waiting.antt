@@ -9,7 +9,8 @@ use Rattle.stream_driver.specs.Buffers.{ShortAfter, WhyTook, buffered_in}
 use Rattle.stream_driver.specs.Traffic.{Traffic}
 use Rattle.stream_driver.specs.Types.{BufferedStream, Call, Entry, Read, Write, ReadAnswer, Moved, Blocked, Failed}
 use Rattle.stream_driver.specs.Types.{Ended, CallCounts, WriteAnswer, Wrote, WriteBlocked, WriteFailed}
-use Rattle.stream_driver.specs.Waits.{ComesShort, EachWaits, IsSound, StaysSound, Waits, WaitsSince, WhyBlocked}
+use Rattle.stream_driver.specs.Waits.{ComesShort, EachWaits, IsSound, StaysSound, SaysWhyBlocked, WaitsSince}
+use Rattle.stream_driver.specs.Waits.{WhyBlocked}
 use Rattle.stream_driver.specs.Waits.{WhyReadBlocked, WhyWriteBlocked}
 
 -- several calls, of which the last may have blocked
@@ -124,7 +125,7 @@ module _ {T : Type 0} (short : T → Type 0) where
     why_wrote old mid b WriteBlocked (inr (inr goes)) share inner = inr (ap (λ (i : T). (traffic i).last) inner ∙ goes.1.1)
 
     -- the last call is the one that was noted
-    pub waits_as : (b : BufferedStream T) (call : Call) → b.counts.last ≡ Some call → WhyBlocked short traffic call b → Waits short traffic b
+    pub waits_as : (b : BufferedStream T) (call : Call) → b.counts.last ≡ Some call → WhyBlocked short traffic call b → SaysWhyBlocked short traffic b
     waits_as b call last why = λ other is. subst (λ c. WhyBlocked short traffic c b) (some_same (sym last ∙ is)) why
 
     why_counted : (b : BufferedStream T) (counts : CallCounts) (answer : ReadAnswer) → WhyReadBlocked short traffic answer b
@@ -135,5 +136,5 @@ module _ {T : Type 0} (short : T → Type 0) where
     why_counted b counts Ended why = tt
 
     pub waits_counted : (b : BufferedStream T) (counts : CallCounts) (answer : ReadAnswer) → counts.last ≡ Some (Read answer)
-        → WhyReadBlocked short traffic answer b → Waits short traffic (record b { counts = counts })
+        → WhyReadBlocked short traffic answer b → SaysWhyBlocked short traffic (record b { counts = counts })
     waits_counted b counts answer last why = waits_as (record b { counts = counts }) (Read answer) last (why_counted b counts answer why)

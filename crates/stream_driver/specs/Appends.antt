@@ -20,14 +20,14 @@ pub record AppendsAtMost {D : Type 0} {g : Ghosts D} (count : ℕ) (old new : Hu
   pub few : records_of new ≤ records_of old + count
 
 -- how many of the entries are to be driven
-abbrev pub ready_of : EntryState → ℕ
-ready_of Ready = 1
-ready_of Idle = 0
-ready_of EntryGone = 0
+abbrev pub count_if_ready : EntryState → ℕ
+count_if_ready Ready = 1
+count_if_ready Idle = 0
+count_if_ready EntryGone = 0
 
 abbrev pub ready_in : {T : Type 0} → Option (Entry T) → ℕ
 ready_in None = 0
-ready_in (Some entry) = ready_of entry.state
+ready_in (Some entry) = count_if_ready entry.state
 
 abbrev pub ready_count : {T : Type 0} → List (Option (Entry T)) → ℕ
 ready_count [] = 0

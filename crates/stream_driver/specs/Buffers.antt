@@ -2,8 +2,8 @@
 use Rattle.std.specs.Prelude.{◌≡◌, ◌⊎◌, ◌+◌, ◌-◌, ◌<◌, ◌≤◌, ◌==◌, ◌++◌, ◌||◌, ◌≢◌, ◌↔◌, ℕ, Bool, true, false, List}
 use Rattle.std.specs.Prelude.{[], ◌∷◌, take, drop, length, min, nat_lt, vec_len}
 use Rattle.stream_driver.specs.Counts.{counted, counted_with}
-use Rattle.stream_driver.specs.Traffic.{AllMoved, DepartAt, EndsWith, Traffic, ReadsWithin, WritesWithin, bytes_read}
-use Rattle.stream_driver.specs.Traffic.{bytes_written, untouched}
+use Rattle.stream_driver.specs.Traffic.{AllMoved, DepartAt, CountsLast, Traffic, ReadsWithin, WritesWithin}
+use Rattle.stream_driver.specs.Traffic.{bytes_read, bytes_written, untouched}
 use Rattle.stream_driver.specs.Types.{Call, Read, Write, ReadAnswer, Moved, Blocked, Failed, Ended, WriteAnswer}
 use Rattle.stream_driver.specs.Types.{Wrote, WriteBlocked, WriteFailed, BufferedBytes, Flushed, All}
 use Rattle.stream_driver.specs.Types.{FlushedBlocked as FlushBlocked, FlushedFailed as FlushFailed, BufferedStream}
@@ -13,8 +13,8 @@ abbrev pub buffered_in : BufferedBytes → List ℕ
 buffered_in h = drop h.left h.bytes.items
 
 -- for how many more there is room
-abbrev pub room_in : BufferedBytes → ℕ
-room_in h = 16384 - vec_len h.bytes
+abbrev pub buffer_room : BufferedBytes → ℕ
+buffer_room h = 16384 - vec_len h.bytes
 
 -- nothing is buffered
 abbrev pub is_none : List ℕ → Bool
@@ -23,8 +23,8 @@ is_none (x ∷ xs) = false
 
 module _ {T : Type 0} where
   -- nothing is buffered, or the inner stream failed to take it
-  abbrev pub is_settled : BufferedStream T → Bool
-  is_settled b = b.has_failed || is_none (buffered_in b.buffered)
+  abbrev pub is_flushed_or_failed : BufferedStream T → Bool
+  is_flushed_or_failed b = b.has_failed || is_none (buffered_in b.buffered)
 
   -- one that was just made: nothing is buffered, no write of what is buffered failed, and no call was made
   pub record IsNew (inner : T) (b : BufferedStream T) : Type 0 where
@@ -155,7 +155,8 @@ module _ {T : Type 0} where
 
   -- once there was to be room for more: only where there was none has it changed
   abbrev pub StaysWithRoom : BufferedStream T → BufferedStream T → Type 0
-  StaysWithRoom old new = (new.has_failed ≡ old.has_failed) ⊎ ((room_in old.buffered ≡ 0) × (new.has_failed ≡ false))
+  StaysWithRoom old new = (new.has_failed ≡ old.has_failed)
+      ⊎ ((buffer_room old.buffered ≡ 0) × (new.has_failed ≡ false))
 
   abbrev pub RoomFails : BufferedStream T → Flushed → BufferedStream T → Type 0
   RoomFails old All new = StaysWithRoom old new × StaysFailed old new
@@ -182,11 +183,11 @@ module _ {T : Type 0} where
 
     -- the last call of the inner stream was this one, and each before it moved bytes
     abbrev pub BehindEnds : Call → BufferedStream T → BufferedStream T → Type 0
-    BehindEnds call old new = EndsWith call (traffic old.inner) (traffic new.inner)
+    BehindEnds call old new = CountsLast call (traffic old.inner) (traffic new.inner)
 
     -- there is room for more, or the inner stream blocked or failed
     abbrev pub WhyRoom : BufferedStream T → Flushed → BufferedStream T → Type 0
-    WhyRoom old All new = (0 < room_in new.buffered) × BehindMoved old new
+    WhyRoom old All new = (0 < buffer_room new.buffered) × BehindMoved old new
     WhyRoom old FlushBlocked new = BehindEnds (Write WriteBlocked) old new
     WhyRoom old FlushFailed new = BehindEnds (Write WriteFailed) old new
 
@@ -203,18 +204,18 @@ module _ {T : Type 0} where
         ⊎ ((Stops old new × (answer ≡ WriteFailed)) ⊎ (GoesOn old × WhyTookSome old answer new))
 
     -- the inner stream was read once nothing was buffered, in a drive that hadn't read all that is there
-    abbrev pub WasRead : BufferedStream T → ReadAnswer → BufferedStream T → Type 0
-    WasRead old answer new = (old.is_drained ≡ false) × (buffered_in new.buffered ≡ [])
+    abbrev pub InnerWasRead : BufferedStream T → ReadAnswer → BufferedStream T → Type 0
+    InnerWasRead old answer new = (old.is_drained ≡ false) × (buffered_in new.buffered ≡ [])
         × BehindEnds (Read answer) old new
 
     -- Why a read answers so while some share is left. The inner stream was read, and answered that; or it blocked or
     -- failed as what is buffered was written; or this drive had read all that is there, and it wasn't read.
     abbrev pub WhyGaveSome : BufferedStream T → ReadAnswer → BufferedStream T → Type 0
-    WhyGaveSome old (Moved n) new = WasRead old (Moved n) new
-    WhyGaveSome old Ended new = WasRead old Ended new
-    WhyGaveSome old Failed new = WasRead old Failed new ⊎ BehindEnds (Write WriteFailed) old new
+    WhyGaveSome old (Moved n) new = InnerWasRead old (Moved n) new
+    WhyGaveSome old Ended new = InnerWasRead old Ended new
+    WhyGaveSome old Failed new = InnerWasRead old Failed new ⊎ BehindEnds (Write WriteFailed) old new
     WhyGaveSome old Blocked new =
-        WasRead old Blocked new
+        InnerWasRead old Blocked new
         ⊎ (BehindEnds (Write WriteBlocked) old new
         ⊎ ((old.is_drained ≡ true) × (buffered_in new.buffered ≡ []) × BehindMoved old new))
 
@@ -252,18 +253,18 @@ module _ {T : Type 0} where
         × (new.has_failed ≡ true)
 
     -- why no more of what is buffered was written: nothing is left, or the inner stream blocked or failed
-    abbrev pub WhyFlushed : BufferedStream T → Flushed → BufferedStream T → Type 0
-    WhyFlushed old All new = (buffered_in new.buffered ≡ []) × BehindMoved old new
-    WhyFlushed old FlushBlocked new = BehindEnds (Write WriteBlocked) old new
-    WhyFlushed old FlushFailed new = BehindEnds (Write WriteFailed) old new
+    abbrev pub WhyBufferFlushed : BufferedStream T → Flushed → BufferedStream T → Type 0
+    WhyBufferFlushed old All new = (buffered_in new.buffered ≡ []) × BehindMoved old new
+    WhyBufferFlushed old FlushBlocked new = BehindEnds (Write WriteBlocked) old new
+    WhyBufferFlushed old FlushFailed new = BehindEnds (Write WriteFailed) old new
 
-  module _ (tells : Type 0) (traffic : T → Traffic) (moment : ℕ) where
+  module _ (reports : Type 0) (traffic : T → Traffic) (moment : ℕ) where
     -- no byte came or went, lost or twice
     pub record KeepsBytes (old new : BufferedStream T) : Type 0 where
-      pub received : tells → (traffic new.inner).received ≡ (traffic old.inner).received
-      pub sent : tells → (traffic new.inner).sent ++ buffered_in new.buffered ≡ (traffic old.inner).sent
+      pub received : reports → (traffic new.inner).received ≡ (traffic old.inner).received
+      pub sent : reports → (traffic new.inner).sent ++ buffered_in new.buffered ≡ (traffic old.inner).sent
           ++ buffered_in old.buffered
-      pub departed : tells → DepartAt moment (traffic_through traffic old) (traffic_through traffic new)
+      pub departed : reports → DepartAt moment (traffic_through traffic old) (traffic_through traffic new)
       pub counts : new.counts ≡ old.counts
       pub short : new.is_short ≡ old.is_short
       pub drained : new.is_drained ≡ old.is_drained
@@ -276,7 +277,7 @@ module _ {T : Type 0} where
 
     pub record Flushes (old : BufferedStream T) (answer : Flushed) (new : BufferedStream T) : Type 0 where
       pub kept : KeepsBytes old new
-      pub why : WhyFlushed traffic old answer new
+      pub why : WhyBufferFlushed traffic old answer new
       pub failed : FlushFails old answer new
 
     -- what is buffered is written, unless the inner stream failed to take it
@@ -287,10 +288,10 @@ module _ {T : Type 0} where
     pub record TakesSome (old : BufferedStream T) (from : List ℕ) (answer : WriteAnswer) (new : BufferedStream T) : Type
         0 where
       pub within : WritesWithin answer (length from)
-      pub received : tells → (traffic new.inner).received ≡ (traffic old.inner).received
-      pub sent : tells → (traffic new.inner).sent ++ buffered_in new.buffered
+      pub received : reports → (traffic new.inner).received ≡ (traffic old.inner).received
+      pub sent : reports → (traffic new.inner).sent ++ buffered_in new.buffered
           ≡ ((traffic old.inner).sent ++ buffered_in old.buffered) ++ take (bytes_written answer) from
-      pub departed : tells → DepartAt moment (traffic_through traffic old) (traffic_through traffic new)
+      pub departed : reports → DepartAt moment (traffic_through traffic old) (traffic_through traffic new)
       pub counts : new.counts ≡ old.counts
       pub failed : WriteFails old answer new
       pub short : new.is_short ≡ old.is_short
@@ -301,11 +302,11 @@ module _ {T : Type 0} where
     pub record GivesSome (old : BufferedStream T) (before : List ℕ) (answer : ReadAnswer) (new : BufferedStream T)
         (after : List ℕ) : Type 0 where
       pub within : ReadsWithin answer (length before)
-      pub received : tells → (traffic new.inner).received ≡ (traffic old.inner).received
+      pub received : reports → (traffic new.inner).received ≡ (traffic old.inner).received
           ++ take (bytes_read answer) after
-      pub sent : tells → (traffic new.inner).sent ++ buffered_in new.buffered ≡ (traffic old.inner).sent
+      pub sent : reports → (traffic new.inner).sent ++ buffered_in new.buffered ≡ (traffic old.inner).sent
           ++ buffered_in old.buffered
-      pub departed : tells → DepartAt moment (traffic_through traffic old) (traffic_through traffic new)
+      pub departed : reports → DepartAt moment (traffic_through traffic old) (traffic_through traffic new)
       pub counts : new.counts ≡ old.counts
       pub failed : ReadFails old answer new
       pub short : ReadsShort old (length before) answer new

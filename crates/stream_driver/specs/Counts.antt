@@ -1,6 +1,6 @@
 -- The counts of a stream's answers as its traffic.
 use Rattle.std.specs.Prelude.{◌≡◌, ℕ, List, []}
-use Rattle.stream_driver.specs.Traffic.{Departure, EndsWith, Traffic}
+use Rattle.stream_driver.specs.Traffic.{Departure, CountsLast, Traffic}
 use Rattle.stream_driver.specs.Types.{Call, CallCounts}
 
 -- counts and the last call, with the bytes that went each way, what has left, and the number of the connection
@@ -25,5 +25,5 @@ counted c = counted_with c [] [] [] 0
 abbrev pub Notes : Call → CallCounts → CallCounts → Type 0
 Notes call old new = (received sent later_received later_sent : List ℕ) (departed later_departed : List Departure)
     (connection later : ℕ) → later ≡ connection
-    → EndsWith call (counted_with old received sent departed connection)
+    → CountsLast call (counted_with old received sent departed connection)
     (counted_with new later_received later_sent later_departed later)

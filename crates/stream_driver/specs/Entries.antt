@@ -1,19 +1,19 @@
 -- What a turn over the table of connections does.
 use Rattle.std.specs.Prelude.{◌≡◌, ◌≢◌, ℕ, ◌&&◌, Bool, cond, true, false, List, [], ◌∷◌, Option, Some, None}
 use Rattle.std.specs.Prelude.{slice_index_or, take, drop, length}
-use Rattle.stream_driver.specs.Buffers.{Finishes, fresh, has_had_share, is_settled}
+use Rattle.stream_driver.specs.Buffers.{Finishes, fresh, has_had_share, is_flushed_or_failed}
 use Rattle.stream_driver.specs.Drives.{Drove}
-use Rattle.stream_driver.specs.Sends.{DrivesTelling, LeadsTelling}
+use Rattle.stream_driver.specs.Sends.{DrivesAnswering, LeadsAnswering}
 use Rattle.stream_driver.specs.Sessions.{Ghosts, Hub, IsPresent, Point}
 use Rattle.stream_driver.specs.Traffic.{Traffic}
 use Rattle.stream_driver.specs.Types.{Progress, Waiting, Again, Gone, EntryState, Idle, Ready, EntryGone, Entry}
 use Rattle.stream_driver.specs.Types.{BufferedStream}
 
 -- what an entry is after its drive
-abbrev pub state_after : Progress → EntryState
-state_after Waiting = Idle
-state_after Again = Ready
-state_after Gone = EntryGone
+abbrev pub entry_state_after : Progress → EntryState
+entry_state_after Waiting = Idle
+entry_state_after Again = Ready
+entry_state_after Gone = EntryGone
 
 -- each entry that isn't gone has a session that is present, and that no other entry has
 pub record HaveSessions {D : Type 0} {g : Ghosts D} {T : Type 0} (hub : Hub D g) (slots : List (Option (Entry T))) :
@@ -29,13 +29,13 @@ abbrev pub KeepSessions : {T : Type 0} → List (Option (Entry T)) → List (Opt
 KeepSessions {T} old new = (key : ℕ) (entry : Entry T) → slice_index_or new key None ≡ Some entry
     → (was : Entry T) × (slice_index_or old key None ≡ Some was) × (entry.session ≡ was.session)
 
-module _ {T : Type 0} (tells : Type 0) (traffic : T → Traffic) where
+module _ {T : Type 0} (reports : Type 0) (traffic : T → Traffic) where
   -- one drive left the entry so
   pub record DrivenOnce (earlier : Point) (old : Entry T) (later : Point) (new : Entry T) : Type 0 where
     pub answer : Progress
-    pub drove : Drove old.session tells earlier (traffic old.stream) answer later (traffic new.stream)
+    pub drove : Drove old.session reports earlier (traffic old.stream) answer later (traffic new.stream)
     pub session : new.session ≡ old.session
-    pub state : new.state ≡ state_after answer
+    pub state : new.state ≡ entry_state_after answer
 
   -- an entry that is ready was driven once, and another is unchanged
   abbrev pub DrivenIn : EntryState → Point → Entry T → Point → Entry T → Type 0
@@ -60,18 +60,19 @@ module _ {T : Type 0} (tells : Type 0) (traffic : T → Traffic) where
   -- a run leads from one hub to the other, and drove the entry
   abbrev pub LeadsEntry : {D : Type 0} {g : Ghosts D} → Hub D g → Entry T → Hub D g → Entry T → Type 0
   LeadsEntry hub old later new =
-      LeadsTelling old.session tells hub (traffic old.stream) later (traffic new.stream)
+      LeadsAnswering old.session reports hub (traffic old.stream) later (traffic new.stream)
       (λ h k. DrivenEntry h old k new)
 
   -- and drove the slots
   abbrev pub LeadsAll : {D : Type 0} {g : Ghosts D} → Hub D g → List (Option (Entry T)) → Hub D g
       → List (Option (Entry T)) → Type 0
-  LeadsAll hub slots later new = DrivesTelling traffic tells hub slots later new (λ h k. DrivenAll h slots k new)
+  LeadsAll hub slots later new = DrivesAnswering traffic reports hub slots later new (λ h k. DrivenAll h slots k new)
 
   -- the slots below a key were driven, and the others stand as they were
   pub record EntriesSoFar {D : Type 0} {g : Ghosts D} (key : ℕ) (hub : Hub D g) (slots : List (Option (Entry T)))
       (later : Hub D g) (new : List (Option (Entry T))) : Type 0 where
-    pub driven : DrivesTelling traffic tells hub slots later new (λ h k. DrivenAll h (take key slots) k (take key new))
+    pub driven : DrivesAnswering traffic reports hub slots later new
+        (λ h k. DrivenAll h (take key slots) k (take key new))
     pub rest : drop key new ≡ drop key slots
     pub len : length new ≡ length slots
     pub sessions : HaveSessions later new
@@ -93,13 +94,13 @@ state_at_end EntryGone had = EntryGone
 module _ {T : Type 0} where
   -- it is gone, and its stream buffers nothing, or the inner one failed to take it
   abbrev pub is_over : Entry (BufferedStream T) → Bool
-  is_over entry = is_gone entry.state && is_settled entry.stream
+  is_over entry = is_gone entry.state && is_flushed_or_failed entry.stream
 
-  module _ (tells : Type 0) (traffic : T → Traffic) (moment : ℕ) where
+  module _ (reports : Type 0) (traffic : T → Traffic) (moment : ℕ) where
     abbrev pub EndsIn : EntryState → BufferedStream T → BufferedStream T → Type 0
     EndsIn Idle old new = new ≡ fresh old
-    EndsIn Ready old new = Finishes tells traffic moment (fresh old) new
-    EndsIn EntryGone old new = Finishes tells traffic moment (fresh old) new
+    EndsIn Ready old new = Finishes reports traffic moment (fresh old) new
+    EndsIn EntryGone old new = Finishes reports traffic moment (fresh old) new
 
     -- The end of an entry's drive. It is ready exactly where it was, or where it waits as its stream has had its share.
     -- What its stream buffered was written as far as it goes, at this moment of the device, but for a stream that is

@@ -20,7 +20,7 @@ pub record IsAnswered (s : ℕ) (h : HubState) (events : List (HubEvent × Choic
 
 -- A departure in a run that begins at this state: the run passes a hub whose device stands at the moment of the
 -- departure, and by then the session had been answered the bytes.
-pub record IsToldBefore {D : Type 0} {g : Ghosts D} (s : ℕ) (h : HubState) (old new : Hub D g)
+pub record WasAnsweredBefore {D : Type 0} {g : Ghosts D} (s : ℕ) (h : HubState) (old new : Hub D g)
     (events : List (HubEvent × Choice)) (d : Departure) : Type 0 where
   pub before : List (HubEvent × Choice)
   pub since : List (HubEvent × Choice)
@@ -29,14 +29,14 @@ pub record IsToldBefore {D : Type 0} {g : Ghosts D} (s : ℕ) (h : HubState) (ol
   pub came : Ran old hub before
   pub goes_on : Ran hub new since
   pub moment_is : d.moment ≡ g.moment (device hub)
-  pub told : IsAnswered s h before d.bytes
+  pub was_answered : IsAnswered s h before d.bytes
 
 -- each departure since was answered so before
-pub record AreToldBefore {D : Type 0} {g : Ghosts D} (s : ℕ) (h : HubState) (old new : Hub D g)
+pub record WereAnsweredBefore {D : Type 0} {g : Ghosts D} (s : ℕ) (h : HubState) (old new : Hub D g)
     (events : List (HubEvent × Choice)) (before after : Traffic) : Type 0 where
   pub departures : List Departure
   pub departed_are : after.departed ≡ before.departed ++ departures
-  pub each : AllByRecursion (IsToldBefore s h old new events) departures
+  pub each : AllByRecursion (WasAnsweredBefore s h old new events) departures
 
 -- what was sent over the stream is what was reported as sent
 pub record HasSent (s : ℕ) (h : HubState) (t : Traffic) : Type 0 where
@@ -47,12 +47,12 @@ pub record HasSent (s : ℕ) (h : HubState) (t : Traffic) : Type 0 where
 -- A run leads from one hub to the other, and what left over the session's stream in it was answered before, in each
 -- state at which what was sent over the stream is what was reported as sent. All that was sent over it was answered, so
 -- what it still buffers may leave later.
-pub record LeadsTelling {D : Type 0} {g : Ghosts D} (s : ℕ) (tells : Type 0) (old : Hub D g) (before : Traffic)
+pub record LeadsAnswering {D : Type 0} {g : Ghosts D} (s : ℕ) (reports : Type 0) (old : Hub D g) (before : Traffic)
     (new : Hub D g) (after : Traffic) (P : Point → Point → Type 0) : Type 0 where
   pub leads : Leads old new P
-  pub telling : tells → (h : HubState) → StandsFor old h → HasSent s h before
-      → AreToldBefore s h old new leads.choices before after
-  pub answered : tells → (h : HubState) → StandsFor old h → HasSent s h before
+  pub answering : reports → (h : HubState) → StandsFor old h → HasSent s h before
+      → WereAnsweredBefore s h old new leads.choices before after
+  pub answered : reports → (h : HubState) → StandsFor old h → HasSent s h before
       → IsAnswered s h leads.choices after.sent
 
 module _ {T : Type 0} (traffic : T → Traffic) where
@@ -62,12 +62,12 @@ module _ {T : Type 0} (traffic : T → Traffic) where
       → HasSent entry.session h (traffic entry.stream)
 
   -- what left over the streams of the entries was answered before
-  abbrev pub AllTold : {D : Type 0} {g : Ghosts D} → HubState → (old new : Hub D g) → List (HubEvent × Choice)
+  abbrev pub AllAnsweredBefore : {D : Type 0} {g : Ghosts D} → HubState → (old new : Hub D g) → List (HubEvent × Choice)
       → (slots later : List (Option (Entry T))) → Type 0
-  AllTold h old new events slots later =
+  AllAnsweredBefore h old new events slots later =
       (key : ℕ) (was entry : Entry T) → slice_index_or slots key None ≡ Some was
       → slice_index_or later key None ≡ Some entry
-      → AreToldBefore was.session h old new events (traffic was.stream) (traffic entry.stream)
+      → WereAnsweredBefore was.session h old new events (traffic was.stream) (traffic entry.stream)
 
   -- over each of them nothing was sent since, or all that was sent was answered
   abbrev pub AllAnswered : HubState → List (HubEvent × Choice) → (slots later : List (Option (Entry T))) → Type 0
@@ -79,17 +79,18 @@ module _ {T : Type 0} (traffic : T → Traffic) where
 
   -- A run leads from one hub to the other, and what left over the streams of a table in it was answered before; what
   -- was sent over them was answered.
-  pub record DrivesTelling {D : Type 0} {g : Ghosts D} (tells : Type 0) (old : Hub D g)
+  pub record DrivesAnswering {D : Type 0} {g : Ghosts D} (reports : Type 0) (old : Hub D g)
       (slots : List (Option (Entry T))) (new : Hub D g) (later : List (Option (Entry T))) (P : Point → Point
       → Type 0) : Type 0 where
     pub leads : Leads old new P
-    pub telling : tells → (h : HubState) → StandsFor old h → HaveSent h slots
-        → AllTold h old new leads.choices slots later
-    pub answered : tells → (h : HubState) → StandsFor old h → HaveSent h slots → AllAnswered h leads.choices slots later
-    pub keeps : tells → (h : HubState) → StandsFor old h → HaveSent h slots → HaveSent (run h leads.choices) later
+    pub answering : reports → (h : HubState) → StandsFor old h → HaveSent h slots
+        → AllAnsweredBefore h old new leads.choices slots later
+    pub answered : reports → (h : HubState) → StandsFor old h → HaveSent h slots
+        → AllAnswered h leads.choices slots later
+    pub keeps : reports → (h : HubState) → StandsFor old h → HaveSent h slots → HaveSent (run h leads.choices) later
 
 -- the run does this over the stream, and the call answers so
-abbrev pub LeadsAs : {D A : Type 0} {g : Ghosts D} → ℕ → (tells : Type 0)
+abbrev pub LeadsAs : {D A : Type 0} {g : Ghosts D} → ℕ → (reports : Type 0)
     → (ℕ → Type 0 → Point → Traffic → A → Point → Traffic → Type 0) → A → Hub D g → Traffic → Hub D g → Traffic → Type 0
-LeadsAs s tells P answer old before new after =
-    LeadsTelling s tells old before new after (λ h k. P s tells h before answer k after)
+LeadsAs s reports P answer old before new after =
+    LeadsAnswering s reports old before new after (λ h k. P s reports h before answer k after)

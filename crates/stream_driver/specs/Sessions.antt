@@ -23,8 +23,8 @@ inbox_in (Some st) = st.now.inbox
 abbrev pub status_at : HubState → ℕ → Status
 status_at h s = status_in (stream_of h s)
 
-abbrev pub room_at : HubState → ℕ → ℕ
-room_at h s = room_in (stream_of h s)
+abbrev pub inbox_room : HubState → ℕ → ℕ
+inbox_room h s = room_in (stream_of h s)
 
 abbrev pub pending_at : HubState → ℕ → Bytes
 pending_at h s = pending_in (stream_of h s)
@@ -98,7 +98,7 @@ pub record GoesOn (first last : SessionStream) : Type 0 where
 
 -- A run of events of one session, which stays present; the others are unchanged. The device fails in none of the events
 -- where the count of its failures did not rise.
-pub record Runs (s : ℕ) (old new : Point) : Type 0 where
+pub record RunsOneSession (s : ℕ) (old new : Point) : Type 0 where
   pub events : List (HubEvent × Choice)
   pub own : AllByRecursion (λ e. session_of e.0 ≡ s) events
   pub possible : ArePossible old.hub events

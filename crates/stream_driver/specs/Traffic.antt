@@ -71,16 +71,16 @@ pub record KeepsTo {T : Type 0} (most : ℕ → T → Type 0) (ended : T → Boo
     pub stays : ended new ≡ ended old
 
 -- what the counts are after this answer; all else is the same
-abbrev pub after_read : ReadAnswer → Traffic → Traffic
-after_read (Moved n) t = t
-after_read Blocked t = record t { read_blocked = one_more t.read_blocked }
-after_read Failed t = record t { read_failed = one_more t.read_failed }
-after_read Ended t = record t { read_ended = one_more t.read_ended }
+abbrev pub counts_after_read : ReadAnswer → Traffic → Traffic
+counts_after_read (Moved n) t = t
+counts_after_read Blocked t = record t { read_blocked = one_more t.read_blocked }
+counts_after_read Failed t = record t { read_failed = one_more t.read_failed }
+counts_after_read Ended t = record t { read_ended = one_more t.read_ended }
 
-abbrev pub after_write : WriteAnswer → Traffic → Traffic
-after_write (Wrote n) t = t
-after_write WriteBlocked t = record t { write_blocked = one_more t.write_blocked }
-after_write WriteFailed t = record t { write_failed = one_more t.write_failed }
+abbrev pub counts_after_write : WriteAnswer → Traffic → Traffic
+counts_after_write (Wrote n) t = t
+counts_after_write WriteBlocked t = record t { write_blocked = one_more t.write_blocked }
+counts_after_write WriteFailed t = record t { write_failed = one_more t.write_failed }
 
 -- of the same connection, the same counts
 abbrev pub SameCounts : Traffic → Traffic → Type 0
@@ -90,24 +90,24 @@ SameCounts a b =
     × (a.connection ≡ b.connection)
 
 -- of the connection under this number: nothing has moved, and no call was made
-pub record IsUncalled (tells : Type 0) (connection : ℕ) (t : Traffic) : Type 0 where
-  pub received : tells → t.received ≡ []
-  pub sent : tells → t.sent ≡ []
-  pub departed : tells → t.departed ≡ []
+pub record IsUncalled (reports : Type 0) (connection : ℕ) (t : Traffic) : Type 0 where
+  pub received : reports → t.received ≡ []
+  pub sent : reports → t.sent ≡ []
+  pub departed : reports → t.departed ≡ []
   pub counts : SameCounts t (record untouched { connection = connection })
   pub last : t.last ≡ None
 
 abbrev pub after_call : Call → Traffic → Traffic
-after_call (Read answer) = after_read answer
-after_call (Write answer) = after_write answer
+after_call (Read answer) = counts_after_read answer
+after_call (Write answer) = counts_after_write answer
 
 -- each call between the two moved bytes, if there was one; and the last call was this one, and each before it moved
 -- bytes
 abbrev pub AllMoved : Traffic → Traffic → Type 0
 AllMoved before after = SameCounts after before
 
-abbrev pub EndsWith : Call → Traffic → Traffic → Type 0
-EndsWith call before after = SameCounts after (after_call call before) × (after.last ≡ Some call)
+abbrev pub CountsLast : Call → Traffic → Traffic → Type 0
+CountsLast call before after = SameCounts after (after_call call before) × (after.last ≡ Some call)
 
 -- what all begins with
 pub record IsBeginning (bytes all : List ℕ) : Type 0 where

@@ -82,8 +82,8 @@ module _ {T : Type 0} (came_short : T → Type 0) where
     WhyBlocked (Write answer) b = WhyWriteBlocked answer b
 
     -- if its last call blocked, this is why
-    abbrev pub Waits : BufferedStream T → Type 0
-    Waits b = (call : Call) → b.counts.last ≡ Some call → WhyBlocked call b
+    abbrev pub SaysWhyBlocked : BufferedStream T → Type 0
+    SaysWhyBlocked b = (call : Call) → b.counts.last ≡ Some call → WhyBlocked call b
 
     -- what a read of it did to its notes, and why it blocked
     pub record GivesSoundly (old : BufferedStream T) (len : ℕ) (answer : ReadAnswer) (new : BufferedStream T) : Type 0

@@ -65,7 +65,7 @@ pub struct BufferedStream<S: Stream> {
 
 impl<S: Stream> BufferedStream<S> {
     ghost use Rattle.std.specs.Prelude.{◌≡◌, ◌≢◌, ◌≤◌, ◌||◌, [], IfOk, length, true, false};
-    ghost use Rattle.stream_driver.specs.Buffers.{IsNew, fresh, has_had_share, buffered_in, is_settled};
+    ghost use Rattle.stream_driver.specs.Buffers.{IsNew, fresh, has_had_share, buffered_in, is_flushed_or_failed};
     ghost use Rattle.stream_driver.specs.Buffers.{Finishes, Flushes, KeepsBytes, RoomFails, WhyRoom, WritesBuffered};
     ghost use Rattle.stream_driver.specs.Buffers.{GivesSome, TakesSome, WhyGave, WhyGaveSome, WhyTook, WhyTookSome};
     ghost use Rattle.stream_driver.specs.Traffic.{bytes_written};
@@ -97,8 +97,8 @@ impl<S: Stream> BufferedStream<S> {
     }
 
     /// Does it buffer nothing, or has the inner stream failed to take it? Takes no memory.
-    pub fn is_settled(&self) -> bool
-        ensures { result ≡ is_settled self.now }
+    pub fn is_flushed_or_failed(&self) -> bool
+        ensures { result ≡ is_flushed_or_failed self.now }
     {
         self.has_failed || self.buffered.is_empty()
     }
@@ -159,7 +159,7 @@ impl<S: Stream> BufferedStream<S> {
     // One write of what is buffered.
     fn write_buffered<D: Sectors>(&mut self, device: &D) -> WriteAnswer
         requires { buffered_in self.old.buffered ≢ [] }
-        ensures wrote { WritesBuffered S.tells S.traffic (D.moment device.now) self.old result self.new }
+        ensures wrote { WritesBuffered S.reports S.traffic (D.moment device.now) self.old result self.new }
         ensures short { S.came_short self.old.inner → S.came_short self.new.inner }
     {
         let answer = self.inner.write(device, self.buffered.as_slice());
@@ -176,7 +176,7 @@ impl<S: Stream> BufferedStream<S> {
 
     /// Writes what is buffered, as far as the inner stream takes it. Takes no memory that a caller sees.
     pub fn flush<D: Sectors>(&mut self, device: &D) -> Flushed
-        ensures flushed { Flushes S.tells S.traffic (D.moment device.now) self.old result self.new }
+        ensures flushed { Flushes S.reports S.traffic (D.moment device.now) self.old result self.new }
         ensures some { result ≡ Flushed.Blocked → buffered_in self.new.buffered ≢ [] }
         ensures short { S.came_short self.old.inner → S.came_short self.new.inner }
     {
@@ -192,7 +192,7 @@ impl<S: Stream> BufferedStream<S> {
 
     /// Writes what is buffered, as far as the inner stream takes it, unless that has failed. Takes no memory that a caller sees.
     pub fn finish<D: Sectors>(&mut self, device: &D)
-        ensures { Finishes S.tells S.traffic (D.moment device.now) self.old self.new }
+        ensures { Finishes S.reports S.traffic (D.moment device.now) self.old self.new }
     {
         if !self.has_failed {
             let _ = self.flush(device);
@@ -201,7 +201,7 @@ impl<S: Stream> BufferedStream<S> {
 
     // Writes what is buffered where there is no room for more. `All` where there is some then.
     fn make_room<D: Sectors>(&mut self, device: &D) -> Flushed
-        ensures kept { KeepsBytes S.tells S.traffic (D.moment device.now) self.old self.new }
+        ensures kept { KeepsBytes S.reports S.traffic (D.moment device.now) self.old self.new }
         ensures why { WhyRoom S.traffic self.old result self.new }
         ensures failed { RoomFails self.old result self.new }
         ensures short { S.came_short self.old.inner → S.came_short self.new.inner }
@@ -215,7 +215,7 @@ impl<S: Stream> BufferedStream<S> {
     // Takes bytes from the front. Where nothing is buffered and there are at least `BUFFERED_MAX`, the inner stream takes them.
     fn take_some<D: Sectors>(&mut self, device: &D, from: &[u8]) -> WriteAnswer
         requires { from.now ≢ [] }
-        ensures takes { TakesSome S.tells S.traffic (D.moment device.now) self.old from.now result self.new }
+        ensures takes { TakesSome S.reports S.traffic (D.moment device.now) self.old from.now result self.new }
         ensures why { WhyTookSome S.traffic self.old result self.new }
         ensures short { S.came_short self.old.inner → S.came_short self.new.inner }
     {
@@ -233,7 +233,7 @@ impl<S: Stream> BufferedStream<S> {
     // Takes bytes from the front, no more than are left of the share, and none once what is buffered has failed to leave.
     fn take_in_share<D: Sectors>(&mut self, device: &D, from: &[u8]) -> WriteAnswer
         requires { from.now ≢ [] }
-        ensures takes { TakesSome S.tells S.traffic (D.moment device.now) self.old from.now result self.new }
+        ensures takes { TakesSome S.reports S.traffic (D.moment device.now) self.old from.now result self.new }
         ensures why { WhyTook S.traffic self.old result self.new }
         ensures share { bytes_written result ≤ self.old.share }
         ensures short { S.came_short self.old.inner → S.came_short self.new.inner }
@@ -251,7 +251,7 @@ impl<S: Stream> BufferedStream<S> {
     // Reads from the inner stream, once nothing is buffered.
     fn give_some<D: Sectors>(&mut self, device: &D, into: &mut [u8]) -> ReadAnswer
         requires { into.old ≢ [] }
-        ensures gives { GivesSome S.tells S.traffic (D.moment device.now) self.old into.old result self.new into.new }
+        ensures gives { GivesSome S.reports S.traffic (D.moment device.now) self.old into.old result self.new into.new }
         ensures why { WhyGaveSome S.traffic self.old result self.new }
         ensures sound { GivesSoundly S.came_short S.traffic self.old (length into.old) result self.new }
     {
@@ -273,7 +273,7 @@ impl<S: Stream> BufferedStream<S> {
     // Reads, while some of the share is left and what is buffered hasn't failed to leave.
     fn give_in_share<D: Sectors>(&mut self, device: &D, into: &mut [u8]) -> ReadAnswer
         requires { into.old ≢ [] }
-        ensures gives { GivesSome S.tells S.traffic (D.moment device.now) self.old into.old result self.new into.new }
+        ensures gives { GivesSome S.reports S.traffic (D.moment device.now) self.old into.old result self.new into.new }
         ensures why { WhyGave S.traffic self.old result self.new }
         ensures sound { GivesSoundly S.came_short S.traffic self.old (length into.old) result self.new }
     {
@@ -289,12 +289,12 @@ impl<S: Stream> BufferedStream<S> {
 
 impl<S: Stream> Stream for BufferedStream<S> {
     ghost use Rattle.std.specs.Prelude.{◌≡◌, ◌<◌, ◌++◌, length, take};
-    ghost use Rattle.stream_driver.specs.Traffic.{ReadsWithin, WritesWithin, bytes_read, bytes_written, EndsWith};
+    ghost use Rattle.stream_driver.specs.Traffic.{ReadsWithin, WritesWithin, bytes_read, bytes_written, CountsLast};
     ghost use Rattle.stream_driver.specs.Buffers.{AfterRead, AfterWrite, GivesMore, LeavesAt, TakesAtMost, TakesMore};
     ghost use Rattle.stream_driver.specs.Buffers.{share_ended, traffic_through};
-    ghost use Rattle.stream_driver.specs.Waits.{IsSound, ReadStays, Waits, WriteStays};
+    ghost use Rattle.stream_driver.specs.Waits.{IsSound, ReadStays, SaysWhyBlocked, WriteStays};
 
-    ghost tells = { S.tells };
+    ghost reports = { S.reports };
 
     ghost takes_at_most = { TakesAtMost };
 
@@ -306,19 +306,19 @@ impl<S: Stream> Stream for BufferedStream<S> {
 
     ghost is_sound = { IsSound S.came_short };
 
-    ghost waits = { Waits S.came_short S.traffic };
+    ghost waits = { SaysWhyBlocked S.came_short S.traffic };
 
     ghost traffic = { traffic_through S.traffic };
 
     fn read<D: Sectors>(&mut self, device: &D, into: &mut [u8]) -> ReadAnswer
         requires { 0 < length into.old }
         ensures within { ReadsWithin result (length into.old) }
-        ensures received { S.tells → GivesMore S.traffic self.old (take (bytes_read result) into.new) self.new }
-        ensures sent { S.tells → (traffic_through S.traffic self.new).sent ≡ (traffic_through S.traffic self.old).sent }
-        ensures departed { S.tells → LeavesAt (D.moment device.now) S.traffic self.old self.new }
-        ensures answered { EndsWith (Call.Read result) (traffic_through S.traffic self.old) (traffic_through S.traffic self.new) }
+        ensures received { S.reports → GivesMore S.traffic self.old (take (bytes_read result) into.new) self.new }
+        ensures sent { S.reports → (traffic_through S.traffic self.new).sent ≡ (traffic_through S.traffic self.old).sent }
+        ensures departed { S.reports → LeavesAt (D.moment device.now) S.traffic self.old self.new }
+        ensures answered { CountsLast (Call.Read result) (traffic_through S.traffic self.old) (traffic_through S.traffic self.new) }
         ensures buffer { AfterRead S.traffic self.old (length into.old) result self.new }
-        ensures stays { ReadStays (λ b. S.came_short b.inner) (IsSound S.came_short) (Waits S.came_short S.traffic) self.old
+        ensures stays { ReadStays (λ b. S.came_short b.inner) (IsSound S.came_short) (SaysWhyBlocked S.came_short S.traffic) self.old
             (length into.old) result self.new }
     {
         let answer = self.give_in_share(device, into);
@@ -329,12 +329,13 @@ impl<S: Stream> Stream for BufferedStream<S> {
     fn write<D: Sectors>(&mut self, device: &D, from: &[u8]) -> WriteAnswer
         requires { 0 < length from.now }
         ensures within { WritesWithin result (length from.now) }
-        ensures received { S.tells → (traffic_through S.traffic self.new).received ≡ (traffic_through S.traffic self.old).received }
-        ensures sent { S.tells → TakesMore S.traffic self.old (take (bytes_written result) from.now) self.new }
-        ensures departed { S.tells → LeavesAt (D.moment device.now) S.traffic self.old self.new }
-        ensures answered { EndsWith (Call.Write result) (traffic_through S.traffic self.old) (traffic_through S.traffic self.new) }
+        ensures received { S.reports → (traffic_through S.traffic self.new).received ≡ (traffic_through S.traffic self.old).received }
+        ensures sent { S.reports → TakesMore S.traffic self.old (take (bytes_written result) from.now) self.new }
+        ensures departed { S.reports → LeavesAt (D.moment device.now) S.traffic self.old self.new }
+        ensures answered { CountsLast (Call.Write result) (traffic_through S.traffic self.old) (traffic_through S.traffic self.new) }
         ensures buffer { AfterWrite S.traffic self.old result self.new }
-        ensures stays { WriteStays (λ b. S.came_short b.inner) (IsSound S.came_short) (Waits S.came_short S.traffic) self.old self.new }
+        ensures stays { WriteStays (λ b. S.came_short b.inner) (IsSound S.came_short) (SaysWhyBlocked S.came_short S.traffic)
+            self.old self.new }
     {
         let answer = self.take_in_share(device, from);
         if let WriteAnswer::Moved(n) = answer {

@@ -19,7 +19,7 @@ pub(crate) struct BufferedBytes {
 
 impl BufferedBytes {
     ghost use Rattle.std.specs.Prelude.{◌<◌, ◌++◌, [], length, take, drop, min, true, IfOk, ◌↔◌};
-    ghost use Rattle.stream_driver.specs.Buffers.{buffered_in, room_in};
+    ghost use Rattle.stream_driver.specs.Buffers.{buffered_in, buffer_room};
 
     /// An empty buffer. Takes the memory for `BUFFERED_MAX` bytes.
     pub(crate) fn new(alloc: Global) -> Result<BufferedBytes, AllocError>
@@ -47,14 +47,14 @@ impl BufferedBytes {
 
     /// For how many more is there room?
     pub(crate) fn room(&self) -> usize
-        ensures { result ≡ room_in self.now }
+        ensures { result ≡ buffer_room self.now }
     {
         BUFFERED_MAX - self.bytes.len()
     }
 
     /// Takes as many as there is room for, and says how many. Takes no memory.
     pub(crate) fn put(&mut self, from: &[u8]) -> usize
-        ensures count { result ≡ min (length from.now) (room_in self.old) }
+        ensures count { result ≡ min (length from.now) (buffer_room self.old) }
         ensures bytes { buffered_in self.new ≡ buffered_in self.old ++ take result from.now }
     {
         let n = from.len().min(self.room());

@@ -44,7 +44,7 @@ fn write_some<D: Sectors, S: Stream>(hub: &mut Hub<D>, s: u64, stream: &mut S) -
     requires present { status_of hub.old s ≢ Status.Absent }
     requires some { 0 < length (pending_of hub.old s) }
     ensures within { WritesWithin result (length (pending_of hub.old s)) }
-    ensures written { LeadsAs s S.tells WritesSome result hub.old (S.traffic stream.old) hub.new (S.traffic stream.new) }
+    ensures written { LeadsAs s S.reports WritesSome result hub.old (S.traffic stream.old) hub.new (S.traffic stream.new) }
     ensures spends { Stands hub.old → SpendsShare S.keeps_share S.takes_at_most S.has_ended_share s hub.old stream.old hub.new stream.new }
     ensures stays { StaysSound S.is_sound S.waits (result ≡ WriteAnswer.Blocked) stream.old stream.new }
 {
@@ -65,7 +65,7 @@ fn write_out<D: Sectors, S: Stream>(
 ) -> OutputState
     requires present { IsPresent hub.old s }
     requires pending { pending ≡ length (pending_of hub.old s) }
-    ensures written { LeadsAs s S.tells Flushes result hub.old (S.traffic stream.old) hub.new (S.traffic stream.new) }
+    ensures written { LeadsAs s S.reports Flushes result hub.old (S.traffic stream.old) hub.new (S.traffic stream.new) }
     ensures spends { SpendsShare S.keeps_share S.takes_at_most S.has_ended_share s hub.old stream.old hub.new stream.new }
     ensures stays { StaysSound S.is_sound S.waits (result ≡ OutputState.Blocked) stream.old stream.new }
 {
@@ -91,7 +91,7 @@ fn read_some<D: Sectors, S: Stream>(
 ) -> ReadAnswer
     requires { 0 < room }
     ensures within { ReadsWithin result room }
-    ensures read { LeadsAs s S.tells (ReadsInTurn room) result hub.old (S.traffic stream.old) hub.new (S.traffic stream.new) }
+    ensures read { LeadsAs s S.reports (ReadsInTurn room) result hub.old (S.traffic stream.old) hub.new (S.traffic stream.new) }
     ensures keeps { Stands hub.old → KeepsShare S.keeps_share S.takes_at_most S.has_ended_share s hub.old stream.old hub.new stream.new }
     ensures stays { StaysSound S.is_sound S.waits (result ≡ ReadAnswer.Blocked) stream.old stream.new }
 {
@@ -115,7 +115,7 @@ fn serve_one<D: Sectors, S: Stream>(
     requires stands { Stands hub.old }
     requires opened { status_of hub.old s ≡ Status.Open }
     requires nothing { pending_of hub.old s ≡ [] }
-    ensures served { LeadsAs s S.tells Exchanges result hub.old (S.traffic stream.old) hub.new (S.traffic stream.new) }
+    ensures served { LeadsAs s S.reports Exchanges result hub.old (S.traffic stream.old) hub.new (S.traffic stream.new) }
     ensures once { ServesOnce S.keeps_share S.takes_at_most S.has_ended_share s hub.old stream.old result hub.new stream.new }
     ensures stays { StaysSound S.is_sound S.waits (result ≡ Exchange.Blocked) stream.old stream.new }
 {
@@ -151,7 +151,7 @@ fn serve_in_share<D: Sectors, S: Stream>(
     requires stands { Stands hub.old }
     requires opened { status_of hub.old s ≡ Status.Open }
     requires nothing { pending_of hub.old s ≡ [] }
-    ensures served { LeadsAs s S.tells Exchanges result hub.old (S.traffic stream.old) hub.new (S.traffic stream.new) }
+    ensures served { LeadsAs s S.reports Exchanges result hub.old (S.traffic stream.old) hub.new (S.traffic stream.new) }
     ensures ended { records_of hub.new ≢ records_of hub.old → S.takes_at_most (length (pending_of hub.new s)) stream.new }
     ensures ends { S.keeps_share → records_of hub.new ≢ records_of hub.old → S.has_ended_share stream.new ≡ true }
     ensures once { ServesOnce S.keeps_share S.takes_at_most S.has_ended_share s hub.old stream.old result hub.new stream.new }
@@ -183,7 +183,7 @@ pub(crate) fn drive_over<D: Sectors, S: Stream>(
     buffer: &mut [u8; READ_MAX],
 ) -> Progress
     requires { IsPresent hub.old s }
-    ensures driven { LeadsAs s S.tells Drove result hub.old (S.traffic stream.old) hub.new (S.traffic stream.new) }
+    ensures driven { LeadsAs s S.reports Drove result hub.old (S.traffic stream.old) hub.new (S.traffic stream.new) }
     ensures appends { S.keeps_share → AppendsOnce S.has_ended_share hub.old stream.old hub.new stream.new }
     ensures stays { StaysSound S.is_sound S.waits (result ≡ Progress.Waiting) stream.old stream.new }
 {
@@ -241,7 +241,7 @@ pub(crate) fn drive_over<D: Sectors, S: Stream>(
 /// when the bytes left, and by then the session had been answered them.
 pub fn drive<D: Sectors, S: Stream>(hub: &mut Hub<D>, s: u64, stream: &mut S) -> Progress
     requires { IsPresent hub.old s }
-    ensures driven { LeadsAs s S.tells Drove result hub.old (S.traffic stream.old) hub.new (S.traffic stream.new) }
+    ensures driven { LeadsAs s S.reports Drove result hub.old (S.traffic stream.old) hub.new (S.traffic stream.new) }
     ensures appends { S.keeps_share → AppendsOnce S.has_ended_share hub.old stream.old hub.new stream.new }
     ensures stays { StaysSound S.is_sound S.waits (result ≡ Progress.Waiting) stream.old stream.new }
 {

@@ -1,6 +1,6 @@
 //! The table of connections: drives each that is ready once.
 ghost use Rattle.std.specs.Prelude.{◌≡◌, ◌≢◌};
-ghost use Rattle.stream_driver.specs.Appends.{AppendsAtMost, ready_count, ready_of};
+ghost use Rattle.stream_driver.specs.Appends.{AppendsAtMost, ready_count, count_if_ready};
 ghost use Rattle.stream_driver.specs.Sessions.{IsPresent};
 ghost use Rattle.stream_driver.specs.Buffers.{has_had_share};
 ghost use Rattle.stream_driver.specs.Entries.{LeadsAll, LeadsEntry, HaveSessions, KeepSessions, EndsDrive, is_over};
@@ -41,10 +41,10 @@ fn drive_entry<D: Sectors, S: Stream>(
     buffer: &mut [u8; READ_MAX],
 )
     requires { entry.old.state ≢ EntryState.Gone → IsPresent hub.old entry.old.session }
-    ensures driven { LeadsEntry S.tells S.traffic hub.old entry.old hub.new entry.new }
+    ensures driven { LeadsEntry S.reports S.traffic hub.old entry.old hub.new entry.new }
     ensures session { entry.new.session ≡ entry.old.session }
     ensures gone { entry.old.state ≡ EntryState.Gone → entry.new.state ≡ EntryState.Gone }
-    ensures appends { S.keeps_share → AppendsAtMost (ready_of entry.old.state) hub.old hub.new }
+    ensures appends { S.keeps_share → AppendsAtMost (count_if_ready entry.old.state) hub.old hub.new }
     ensures waits { WaitsSince S.is_sound S.waits entry.old entry.new }
 {
     hub.law_runs_follow();
@@ -68,7 +68,7 @@ fn drive_entry<D: Sectors, S: Stream>(
 /// It may grow what the requests grow, and the outputs of the sessions.
 pub fn drive_ready<D: Sectors, S: Stream>(hub: &mut Hub<D>, table: &mut Slab<Entry<S>>)
     requires { HaveSessions hub.old table.old.slots }
-    ensures driven { LeadsAll S.tells S.traffic hub.old table.old.slots hub.new table.new.slots }
+    ensures driven { LeadsAll S.reports S.traffic hub.old table.old.slots hub.new table.new.slots }
     ensures sessions { HaveSessions hub.new table.new.slots }
     ensures numbers { KeepSessions table.old.slots table.new.slots }
     ensures appends { S.keeps_share → AppendsAtMost (ready_count table.old.slots) hub.old hub.new }
@@ -98,7 +98,7 @@ fn ready_again<S: Stream>(entry: &mut Entry<BufferedStream<S>>)
 ///
 /// Takes no memory that a caller sees.
 pub fn end_drive<D: Sectors, S: Stream>(device: &D, entry: &mut Entry<BufferedStream<S>>) -> bool
-    ensures ends { EndsDrive S.tells S.traffic (D.moment device.now) entry.old entry.new }
+    ensures ends { EndsDrive S.reports S.traffic (D.moment device.now) entry.old entry.new }
     ensures over { result ≡ is_over entry.new }
 {
     ready_again(entry);
@@ -106,5 +106,5 @@ pub fn end_drive<D: Sectors, S: Stream>(device: &D, entry: &mut Entry<BufferedSt
     if entry.state != EntryState::Idle {
         entry.stream.finish(device);
     }
-    entry.state == EntryState::Gone && entry.stream.is_settled()
+    entry.state == EntryState::Gone && entry.stream.is_flushed_or_failed()
 }

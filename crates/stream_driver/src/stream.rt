@@ -7,18 +7,18 @@ use sector::Sectors;
 ///
 /// What it has moved and answered is known by five counts, of each answer but `Moved` of each call, by the last call with its answer, and
 /// by the bytes that went each way. A count is a u64: it rises with its answer, and once it stands at 2^64 - 1 it stays. The bytes are
-/// claimed under a premise of the type, `tells`: of a peer in memory it holds, and of a socket one may grant it.
+/// claimed under a premise of the type, `reports`: of a peer in memory it holds, and of a socket one may grant it.
 ///
 /// Each call is shown the device of the store. It can't be copied or changed by the call, so this is how the device stands as the call is
 /// made: what leaves for the peer in the call leaves at that moment of the device.
 pub trait Stream: Drop {
     ghost use Rattle.std.specs.Prelude.{◌≡◌, ◌<◌, ◌++◌, ℕ, Bool, true, length, take};
     ghost use Rattle.stream_driver.specs.Traffic.{Traffic, DepartAt, ReadsWithin, WritesWithin, bytes_read};
-    ghost use Rattle.stream_driver.specs.Traffic.{bytes_written, EndsWith, KeepsTo};
+    ghost use Rattle.stream_driver.specs.Traffic.{bytes_written, CountsLast, KeepsTo};
     ghost use Rattle.stream_driver.specs.Waits.{ReadStays, WriteStays};
 
     /// The bytes of `traffic` are those that the calls moved: said of each call where this holds.
-    ghost tells: { Type 0 };
+    ghost reports: { Type 0 };
 
     /// It takes no more than so many bytes until its next drive. A stream that keeps to a share of each turn says what this means for it.
     ghost takes_at_most: { ℕ → Self → Type 0 };
@@ -46,10 +46,10 @@ pub trait Stream: Drop {
     fn read<D: Sectors>(&mut self, device: &D, into: &mut [u8]) -> ReadAnswer
         requires { 0 < length into.old }
         ensures within { ReadsWithin result (length into.old) }
-        ensures received { tells → (traffic self.new).received ≡ (traffic self.old).received ++ take (bytes_read result) into.new }
-        ensures sent { tells → (traffic self.new).sent ≡ (traffic self.old).sent }
-        ensures departed { tells → DepartAt (D.moment device.now) (traffic self.old) (traffic self.new) }
-        ensures answered { EndsWith (Call.Read result) (traffic self.old) (traffic self.new) }
+        ensures received { reports → (traffic self.new).received ≡ (traffic self.old).received ++ take (bytes_read result) into.new }
+        ensures sent { reports → (traffic self.new).sent ≡ (traffic self.old).sent }
+        ensures departed { reports → DepartAt (D.moment device.now) (traffic self.old) (traffic self.new) }
+        ensures answered { CountsLast (Call.Read result) (traffic self.old) (traffic self.new) }
         ensures share { keeps_share → KeepsTo takes_at_most has_ended_share self.old 0 self.new }
         ensures stays { ReadStays came_short is_sound waits self.old (length into.old) result self.new };
 
@@ -57,10 +57,10 @@ pub trait Stream: Drop {
     fn write<D: Sectors>(&mut self, device: &D, from: &[u8]) -> WriteAnswer
         requires { 0 < length from.now }
         ensures within { WritesWithin result (length from.now) }
-        ensures received { tells → (traffic self.new).received ≡ (traffic self.old).received }
-        ensures sent { tells → (traffic self.new).sent ≡ (traffic self.old).sent ++ take (bytes_written result) from.now }
-        ensures departed { tells → DepartAt (D.moment device.now) (traffic self.old) (traffic self.new) }
-        ensures answered { EndsWith (Call.Write result) (traffic self.old) (traffic self.new) }
+        ensures received { reports → (traffic self.new).received ≡ (traffic self.old).received }
+        ensures sent { reports → (traffic self.new).sent ≡ (traffic self.old).sent ++ take (bytes_written result) from.now }
+        ensures departed { reports → DepartAt (D.moment device.now) (traffic self.old) (traffic self.new) }
+        ensures answered { CountsLast (Call.Write result) (traffic self.old) (traffic self.new) }
         ensures share { keeps_share → KeepsTo takes_at_most has_ended_share self.old (bytes_written result) self.new }
         ensures stays { WriteStays came_short is_sound waits self.old self.new };
 

@@ -17,13 +17,13 @@ abbrev Stopped : SystemServer → Bool → Type 0
 Stopped server stopped = HasStopped server.events stopped
 
 module _ {E : Type 0} (writes : E → List ℕ → Result (Unit {0}) Error → E → Type 0) {first : SystemServer} {err : E} where
-  taken : {count : ℕ} {last : SystemServer} {told : Bool} {later : E} → TakesTurns Turned Stopped writes first err count last told later
+  taken : {count : ℕ} {last : SystemServer} {reported : Bool} {later : E} → TakesTurns Turned Stopped writes first err count last reported later
       → TurnsTo first.events last.events
   taken NoneTaken = NoTurn
-  taken (More count before after told stopped now done so_far later since turned stops tells) =
+  taken (More count before after reported stopped now done so_far later since turned stops reports) =
       OneMore before.events after.events (taken since) turned.1
 
-  pub turns_ended : {result : Result (Unit {0}) Fault} {last : SystemServer} {told : E} → EndsTurns Turned Stopped writes first err result last told
+  pub turns_ended : {result : Result (Unit {0}) Fault} {last : SystemServer} {reported : E} → EndsTurns Turned Stopped writes first err result last reported
       → TurnsTo first.events last.events
-  turns_ended (Failed count before last told error fault later since failed reports) = PollFailed before.events last.events (taken since) failed.2
-  turns_ended (Counted done last told later since) = taken since
+  turns_ended (Failed count before last reported error fault later since failed reports) = PollFailed before.events last.events (taken since) failed.2
+  turns_ended (Counted done last reported later since) = taken since

@@ -7,7 +7,7 @@ use Rattle.sessions.specs.SessionStreams.{HubState}
 use Rattle.sessions.specs.StandsFor.{StandsFor}
 use Rattle.sessions.specs.declared.hub.Hub.{Hub}
 use Rattle.event_loop.specs.Loops.{ListensFor, hub_of}
-use Rattle.event_loop.specs.Sockets.{SocketsTell, traffic_of}
+use Rattle.event_loop.specs.Sockets.{SocketsReport, traffic_of}
 use Rattle.event_loop.specs.Turns.{IsTurn, IsUntouched, Waits}
 use Rattle.event_loop.specs.declared.server.EventLoop.{EventLoop}
 
@@ -15,7 +15,8 @@ use Rattle.event_loop.specs.declared.server.EventLoop.{EventLoop}
 -- nothing else was done; else it drove and accepted.
 abbrev pub TurnedSo : {D : Type 0} {g : Ghosts D} → EventLoop D g → Result (Unit {0}) Error → EventLoop D g → Type 0
 TurnedSo old result new =
-    Waits None old result new × OnOk result (IsTurn SocketsTell traffic_of old new) × OnErr result (IsUntouched old new)
+    Waits None old result new × OnOk result (IsTurn SocketsReport traffic_of old new)
+    × OnErr result (IsUntouched old new)
 
 -- it serves this hub, and listens at this address
 pub record ServesAt {D : Type 0} {g : Ghosts D} (events : EventLoop D g) (address : SocketAddr) (hub : Hub D g)

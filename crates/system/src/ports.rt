@@ -23,7 +23,7 @@ impl<'a, R> SystemPorts<'a, R> {
 impl<R: Net> Ports<Hub<FileSectors>> for SystemPorts<'_, R> {
     ghost use Rattle.std.specs.Prelude.{IfOk};
     ghost use Rattle.system.specs.SystemTurns.{ServesAt};
-    ghost use Rattle.sessions.specs.Lives.{IsOpened};
+    ghost use Rattle.sessions.specs.Restarts.{IsOpened};
 
     ghost takes = { λ hub. IsOpened hub };
 
@@ -57,14 +57,14 @@ pub struct SystemServer {
 }
 
 impl SystemServer {
-    ghost use Rattle.event_loop.specs.Sockets.{SocketsTell};
+    ghost use Rattle.event_loop.specs.Sockets.{SocketsReport};
     ghost use Rattle.system.specs.OneRun.{ServesInOneRun};
 
     /// Does nothing, and takes no memory. Its contract is the law of all connections that a server ever has, under the premise that
-    /// sockets tell the bytes that they move: however its turns end, which `serve` takes and reports to `err`, they are in one run from
+    /// sockets report the bytes that they move: however its turns end, which `serve` takes and reports to `err`, they are in one run from
     /// the opening, in which all that ever left is kept (`EventLoop::law_all_have_one_run`).
     pub fn law_serves_in_one_run<E: Lines>(&self, err: &E)
-        ensures run { SocketsTell → ServesInOneRun E.writes self.now err.now }
+        ensures run { SocketsReport → ServesInOneRun E.writes self.now err.now }
     {
         self.events.law_all_have_one_run();
     }
@@ -72,14 +72,14 @@ impl SystemServer {
 
 impl Turns for SystemServer {
     ghost use Rattle.std.specs.Prelude.{IfOk};
-    ghost use Rattle.event_loop.specs.Loops.{IsAt};
+    ghost use Rattle.event_loop.specs.Loops.{HasAddress};
     ghost use Rattle.system.specs.SystemTurns.{HasStopped, TurnedSo};
 
     ghost turns = { λ old result new. TurnedSo old.events result new.events };
 
     ghost stops = { λ server stopped. HasStopped server.events stopped };
 
-    ghost is_at = { λ server result. IfOk result (λ address. IsAt server.events address) };
+    ghost is_at = { λ server result. IfOk result (λ address. HasAddress server.events address) };
 
     fn next_turn(&mut self) -> io::Result<()> {
         self.events.turn(None)

@@ -1,8 +1,8 @@
 //! The program's commands: their texts and statuses.
 use command_line::{Asked, Refusal, parse};
 use commands::{
-    BAD_LINE, DONE, Ending, FAULT, Fault, Opener, REFUSED, Told, Turns, check_device,
-    format_device, keep_standard, report, serve_turns, tell,
+    BAD_LINE, DONE, Ending, FAULT, Fault, Opener, REFUSED, Reported, Turns, check_device, finish,
+    format_device, keep_standard, report, serve_turns,
 };
 use model::VALUE_MAX;
 use scripts::{ScriptFault, play};
@@ -259,12 +259,14 @@ fn texts_of_faults(rt: HostRuntime) -> Result<(), Fail> {
     ];
     for (fault, status, text) in faults {
         let mut err = Vec::new(rt.alloc());
-        let told = report(fault, &mut err);
+        let reported = report(fault, &mut err);
         assert!(rt;
-            told == (Told {
-                status,
-                is_written: true
-            }) && err.as_slice() == text
+            reported
+                == (Reported {
+                    status,
+                    is_written: true
+                })
+                && err.as_slice() == text
         );
     }
     Ok(())
@@ -509,13 +511,13 @@ fn outputs_that_fail(rt: HostRuntime) -> Result<(), Fail> {
         );
         assert!(rt; status == FAULT && err.as_slice() == b"ssikvd: file fault\n".as_slice());
     }
-    let told = [
+    let reported = [
         (REFUSED, COMPACT, b"".as_slice()),
         (FAULT, CHECK_NONE, b""),
         (BAD_LINE, PLAY, b"x PING"),
         (FAULT, PLAY, b"1 PING"),
     ];
-    for (expected, words, input) in told {
+    for (expected, words, input) in reported {
         let status = run(&rt, rt.alloc(), words, input, &mut Broken, &mut Broken);
         assert!(rt; status == expected);
     }
@@ -576,31 +578,34 @@ fn one_write_a_line(rt: HostRuntime) -> Result<(), Fail> {
 fn endings(rt: HostRuntime) -> Result<(), Fail> {
     let long = Fault::Damaged(u64::MAX);
     let mut err = Vec::new(rt.alloc());
-    let told = tell(&Ending::Failed(long), &mut Broken, &mut err);
+    let reported = finish(&Ending::Failed(long), &mut Broken, &mut err);
     assert!(rt;
-        told == (Told {
-            status: FAULT,
-            is_written: true
-        })
+        reported
+            == (Reported {
+                status: FAULT,
+                is_written: true
+            })
     );
     assert!(rt; err.as_slice() == b"ssikvd: damaged record 18446744073709551615\n".as_slice());
-    let told = tell(
+    let reported = finish(
         &Ending::Failed(Fault::BadLine(u64::MAX)),
         &mut Broken,
         &mut Broken,
     );
     assert!(rt;
-        told == (Told {
-            status: BAD_LINE,
-            is_written: false
-        })
+        reported
+            == (Reported {
+                status: BAD_LINE,
+                is_written: false
+            })
     );
-    let told = tell(&Ending::Done, &mut Broken, &mut Broken);
+    let reported = finish(&Ending::Done, &mut Broken, &mut Broken);
     assert!(rt;
-        told == (Told {
-            status: DONE,
-            is_written: true
-        })
+        reported
+            == (Reported {
+                status: DONE,
+                is_written: true
+            })
     );
     Ok(())
 }
@@ -670,7 +675,7 @@ impl Turns for Turning {
 
 /// That the store has stopped is reported once, whether it stops at the first turn or later, or not at all where the poll fails before.
 #[test]
-fn a_stop_is_told_once(rt: HostRuntime) -> Result<(), Fail> {
+fn a_stop_is_reported_once(rt: HostRuntime) -> Result<(), Fail> {
     let line = b"ssikvd: store stopped\n".as_slice();
     let cases = [
         (1, 9, line),
@@ -694,7 +699,7 @@ fn a_stop_is_told_once(rt: HostRuntime) -> Result<(), Fail> {
 }
 
 #[test]
-fn a_stop_that_cannot_be_told_ends_nothing(rt: HostRuntime) -> Result<(), Fail> {
+fn a_stop_that_cannot_be_reported_ends_nothing(rt: HostRuntime) -> Result<(), Fail> {
     let mut server = stopping_server(2, 5, ErrorKind::Other);
     let mut err = Counting { writes: 0 };
     assert!(rt; serve_turns(&mut server, &mut err) == Err(Fault::Poll) && err.writes == 1);

@@ -31,16 +31,16 @@ fn ends<R: Files<File = File> + Net + Clock + AllocGlobal>(
     err: &[u8],
 ) -> bool {
     let mut printed = Vec::new(rt.alloc());
-    let mut told = Vec::new(rt.alloc());
+    let mut reported = Vec::new(rt.alloc());
     let ended = run(
         rt,
         rt.alloc(),
         words,
         b"".as_slice(),
         &mut printed,
-        &mut told,
+        &mut reported,
     );
-    ended == status && printed.as_slice() == out && told.as_slice() == err
+    ended == status && printed.as_slice() == out && reported.as_slice() == err
 }
 
 /// A transaction of a client, which puts a to 1, through a loop.

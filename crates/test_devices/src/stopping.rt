@@ -33,7 +33,7 @@ impl Stopping {
         runs
     }
 
-    fn told(&mut self, outcome: Result<(), DeviceFault>) -> Result<(), DeviceFault>
+    fn reported(&mut self, outcome: Result<(), DeviceFault>) -> Result<(), DeviceFault>
         ensures device { self.new.device ≡ self.old.device }
         ensures counted { IsCounted result self.old.failures self.new.failures }
     {
@@ -72,25 +72,25 @@ impl Sectors for Stopping {
 
     fn read(&mut self, at: u64, into: &mut Sector) -> Result<(), DeviceFault> {
         if !self.is_running() {
-            return self.told(Err(DeviceFault));
+            return self.reported(Err(DeviceFault));
         }
         let outcome = self.device.read(at, into);
-        self.told(outcome)
+        self.reported(outcome)
     }
 
     fn write(&mut self, at: u64, from: &Sector) -> Result<(), DeviceFault> {
         if !self.is_running() {
-            return self.told(Err(DeviceFault));
+            return self.reported(Err(DeviceFault));
         }
         let outcome = self.device.write(at, from);
-        self.told(outcome)
+        self.reported(outcome)
     }
 
     fn sync(&mut self) -> Result<(), DeviceFault> {
         if !self.is_running() {
-            return self.told(Err(DeviceFault));
+            return self.reported(Err(DeviceFault));
         }
         let outcome = self.device.sync();
-        self.told(outcome)
+        self.reported(outcome)
     }
 }

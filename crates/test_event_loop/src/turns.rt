@@ -1,5 +1,5 @@
 //! A turn over a table of connections, compared with drives of each connection alone.
-ghost use Rattle.event_loop.specs.Numbers.{AreBelow};
+ghost use Rattle.event_loop.specs.Numbers.{SessionsAreBelow};
 ghost use Rattle.stream_driver.specs.Entries.{HaveSessions};
 ghost use Rattle.stream_driver.specs.Sessions.{Stands};
 
@@ -71,7 +71,7 @@ struct Crowd {
     table: Slab<Entry<Script>>,
     ghost stands: { Stands hub },
     ghost sessions: { HaveSessions hub table.slots },
-    ghost numbers: { AreBelow next table.slots },
+    ghost numbers: { SessionsAreBelow next table.slots },
 }
 
 impl Crowd {

@@ -1,7 +1,7 @@
 //! Hubs over devices in memory.
 ghost use Rattle.std.specs.Prelude.{IfOk};
 ghost use Rattle.stream_driver.specs.Sessions.{Stands};
-ghost use Rattle.sessions.specs.Lives.{IsOpened};
+ghost use Rattle.sessions.specs.Restarts.{IsOpened};
 
 use commit_log::{LogFault, format};
 use model::Memory;

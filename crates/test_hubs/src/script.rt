@@ -73,7 +73,7 @@ impl Stream for Script {
     ghost use Rattle.std.specs.Prelude.{take, false, []};
     ghost use Rattle.stream_driver.specs.Counts.{counted_with};
 
-    ghost tells = { Unit {0} };
+    ghost reports = { Unit {0} };
 
     ghost takes_at_most = { λ most s. Unit {0} };
 

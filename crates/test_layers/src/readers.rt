@@ -132,7 +132,7 @@ fn worked_last_readers(rt: HostRuntime) {
 
 /// Of 300 commits that read a key each the steps of the last one are left once the others are forgotten, and those that a merge had moved.
 #[test]
-fn mixed_runs_of_readers_are_swept(rt: HostRuntime) {
+fn partial_runs_of_readers_are_swept(rt: HostRuntime) {
     for at_once in [true, false] {
         let mut commits = Commits::new(rt.alloc());
         for n in 0..300u64 {

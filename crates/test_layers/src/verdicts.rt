@@ -273,7 +273,7 @@ fn forget_step<R: Abort>(rt: &R, committed: &mut Committed, oldest: u64) -> bool
 /// Of 40 transactions that wrote 64 keys each the keys of the last are left, and those that a merge had moved, once the others are
 /// forgotten: at once, or in steps, of which a look at all keys takes some.
 #[test]
-fn mixed_runs_are_swept(rt: HostRuntime) {
+fn partial_runs_are_swept(rt: HostRuntime) {
     for at_once in [true, false] {
         let mut committed = Committed::new(rt.alloc());
         for n in 0..40u8 {

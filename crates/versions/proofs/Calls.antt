@@ -21,8 +21,8 @@ use Rattle.versions.proofs.Stores.{kept-put, rising_one, visible-base, newest-ba
 use Rattle.versions.proofs.UnderPins.{added-put, added-refl, added-trans, followed-write}
 use Rattle.versions.proofs.Visibles.{value-visible}
 use Rattle.versions.specs.Chains.{IsRisingChain, ChainValue, Chains, ChainsValue, find_chain, seen_in, visible}
-use Rattle.versions.specs.Chains.{IsKept, IsRoomier, HasPlace, HasRoom, added, stamped, fresh_chain, IsReady}
-use Rattle.versions.specs.Chains.{base_chains}
+use Rattle.versions.specs.Chains.{IsKept, AreRoomier, HasPlace, ChainHasRoom, added, stamped, fresh_chain}
+use Rattle.versions.specs.Chains.{CanAddVersion, base_chains}
 use Rattle.versions.specs.Groups.{GroupValue, Listed}
 use Rattle.versions.specs.Listings.{is_seen_from, AreSeenFrom, IsFollowed, is_in, is_listed, IsListed, unpinned}
 use Rattle.versions.specs.Listings.{followed}
@@ -38,10 +38,10 @@ seen_found n k es o h found = ap (seen_in n) found ∙ sym (value-visible n k es
 
 -- room for one more of the writes, of n in all
 pub preparing : (n : ℕ) (ws : List KeyWrite) (i : ℕ) (w : KeyWrite) (k : Bytes) (es fs : Chains) (ps qs : List (Page ChainValue)) → i < length ws
-    → w ≡ get_or ws i w → k ≡ w.0 → IsRoomier es fs → ((q : Bytes) → room_at q ps ≤ room_at q qs) → AllByRecursion (IsPlaced n es ps) (take i ws)
-    → HasRoom (find_chain k fs) → HasPlace n (room_at k qs) (find_chain k fs) → AllByRecursion (IsPlaced n fs qs) (take (i + 1) ws)
+    → w ≡ get_or ws i w → k ≡ w.0 → AreRoomier es fs → ((q : Bytes) → room_at q ps ≤ room_at q qs) → AllByRecursion (IsPlaced n es ps) (take i ws)
+    → ChainHasRoom (find_chain k fs) → HasPlace n (room_at k qs) (find_chain k fs) → AllByRecursion (IsPlaced n fs qs) (take (i + 1) ws)
 preparing n ws i w k es fs ps qs lt is key more rooms p room place =
-    let own = subst (λ (q : Bytes). HasRoom (find_chain q fs) × HasPlace n (room_at q qs) (find_chain q fs)) key (room, place) in
+    let own = subst (λ (q : Bytes). ChainHasRoom (find_chain q fs) × HasPlace n (room_at q qs) (find_chain q fs)) key (room, place) in
     let next = take_more ws i w lt ∙ ap (λ y. take i ws ++ y ∷ []) (sym is) in
     subst (AllByRecursion (IsPlaced n fs qs)) (sym next)
     (all-append (IsPlaced n fs qs) (take i ws) (w
@@ -52,12 +52,14 @@ all_at P xs i x lt is h = subst P (sym is) (all-get P xs i x lt h)
 
 -- where the writes were prepared before, there is room in each chain, and where its key would stand
 pub placed-at : (n : ℕ) (ws : List KeyWrite) (i : ℕ) (w : KeyWrite) (k : Bytes) (es fs : Chains) (ps qs : List (Page ChainValue)) → i < length ws
-    → w ≡ get_or ws i w → k ≡ w.0 → IsRoomier es fs → ((q : Bytes) → room_at q ps ≤ room_at q qs)
-    → AllByRecursion (λ w. HasRoom (find_chain w.0 es)) ws → HavePlaces n es ps ws → HasRoom (find_chain k fs) × HasPlace n (room_at k qs) (find_chain k fs)
+    → w ≡ get_or ws i w → k ≡ w.0 → AreRoomier es fs → ((q : Bytes) → room_at q ps ≤ room_at q qs)
+    → AllByRecursion (λ w. ChainHasRoom (find_chain w.0 es)) ws → HavePlaces n es ps ws
+    → ChainHasRoom (find_chain k fs) × HasPlace n (room_at k qs) (find_chain k fs)
 placed-at n ws i w k es fs ps qs lt is key more rooms h g =
     let before : IsPlaced n es ps w =
-    (all_at (λ w. HasRoom (find_chain w.0 es)) ws i w lt is h, all_at (λ w. HasPlace n (room_at w.0 ps) (find_chain w.0 es)) ws i w lt is g) in
-    subst (λ (q : Bytes). HasRoom (find_chain q fs) × HasPlace n (room_at q qs) (find_chain q fs)) (sym key) (placed-roomier n es fs ps qs more rooms w before)
+    (all_at (λ w. ChainHasRoom (find_chain w.0 es)) ws i w lt is h, all_at (λ w. HasPlace n (room_at w.0 ps) (find_chain w.0 es)) ws i w lt is g) in
+    subst (λ (q : Bytes). ChainHasRoom (find_chain q fs) × HasPlace n (room_at q qs) (find_chain q fs)) (sym key)
+    (placed-roomier n es fs ps qs more rooms w before)
 
 -- ---- an install
 
@@ -68,7 +70,7 @@ number_in k es = option_map (λ (c : ChainValue). c.newest.number) (find_chain k
 pub record Installing (n : ℕ) (from es : Chains) (ps : List (Page ChainValue)) (ls : List Listed) (places : ℕ) (all ws : List KeyWrite) : Type 0 where
   pub in_order : IsKept es n
   pub rising : T (is_sorted (slice_cmp nat_cmp) ws)
-  pub ready : AllByRecursion (λ w. IsReady n (find_chain w.0 es)) ws
+  pub ready : AllByRecursion (λ w. CanAddVersion n (find_chain w.0 es)) ws
   pub free : HavePlaces (length ws) es ps ws
   pub room : length ws ≤ places
   pub maps : (m : ℕ) → written_map n m ws (visible m es) ≡ written_map n m all (visible m from)
@@ -91,7 +93,7 @@ installing-step n from es fs ps qs ls us room room' all ws vs w own next g is mo
       in_order = subst (λ (l : Chains). IsKept l n) (sym is)
           (kept-put w.0 c es n h.in_order (rising_one n n es w.0 w.1 own h.in_order h.ready.0 (omega arith)));
       rising = p.1;
-      ready = subst (λ (l : Chains). AllByRecursion (λ w. IsReady n (find_chain w.0 l)) ws) (sym is) (ready-apart n w.0 c es ws p.0 h.ready.1);
+      ready = subst (λ (l : Chains). AllByRecursion (λ w. CanAddVersion n (find_chain w.0 l)) ws) (sym is) (ready-apart n w.0 c es ws p.0 h.ready.1);
       free = subst (λ (l : Chains). HavePlaces (length ws) l qs ws) (sym is) (places-apart (length ws) w.0 c es ps qs ws p.0 more h.free.1);
       room = (let s = h.room in omega arith);
       maps = λ m. ap (λ (l : Chains). written_map n m ws (visible m l)) is ∙ maps-step n m w ws own es h.in_order.sorted ∙ h.maps m;
@@ -112,7 +114,7 @@ installing-step n from es fs ps qs ls us room room' all ws vs w own next g is mo
 -- before the first of the writes
 pub installing-begun : (n last : ℕ) (es : Chains) (ps : List (Page ChainValue)) (ls : List Listed) (room : ℕ) (ws us : List KeyWrite) → IsKept es last
     → last < n → T (is_sorted (slice_cmp nat_cmp) ws)
-    → AllByRecursion (λ w. HasRoom (find_chain w.0 es)) ws → HavePlaces (length ws) es ps ws → length ws ≤ room → ls ≡ [] → us ≡ ws
+    → AllByRecursion (λ w. ChainHasRoom (find_chain w.0 es)) ws → HavePlaces (length ws) es ps ws → length ws ≤ room → ls ≡ [] → us ≡ ws
     → Installing n es es ps ls room us us
 installing-begun n last es ps ls room ws us kept lt rising rooms fits list none is = subst (λ l. Installing n es es ps ls room l l) (sym is) (record {
   in_order = record { sorted = kept.sorted; rising = all-each (λ e. IsRisingChain last e.1) _ es (λ e g. (g.0, omega (arith, g.1))) kept.rising };

@@ -7,8 +7,9 @@ use Rattle.std.specs.List.{AllByRecursion, list_any}
 use Rattle.std.specs.Prelude.{IfSome, nat_le, nat_lt, if◌then◌else◌, ◌==◌, is_none, max, is_some}
 use Rattle.model.proofs.Elements.{all-append, all-each}
 use Rattle.model.specs.Map.{Bytes}
-use Rattle.versions.specs.Chains.{IsReady, Stamped, ChainValue, last_at, version_at, value_of, seen, seen_in, added}
-use Rattle.versions.specs.Chains.{first_number, is_between, seen_by, reclaimed, IsRisingTo, IsRisingChain, hides}
+use Rattle.versions.specs.Chains.{CanAddVersion, Stamped, ChainValue, last_at, version_at, value_of, seen, seen_in}
+use Rattle.versions.specs.Chains.{added, number_of_first, is_between, seen_by, reclaimed, IsRisingTo, IsRisingChain}
+use Rattle.versions.specs.Chains.{hides}
 use Rattle.versions.specs.Meaning.{is_among, IsSeen, IsTightChain}
 
 none_is : (v : Option Bytes) → is_some v ≡ false → v ≡ None
@@ -130,7 +131,7 @@ rising-push [] v n h lt = (tt, lt, tt)
 rising-push (u ∷ vs) v n h lt =
     (all-append (λ w. u.number < w.number) vs (v ∷ []) h.0 (h.1, tt), omega (arith, h.1), rising-push vs v n h.2 lt)
 
-pub rising-added : (o : Option ChainValue) (v : Stamped) (room last : ℕ) → IfSome o (λ c. IsRisingChain last c) → IsReady v.number o → v.number ≤ last
+pub rising-added : (o : Option ChainValue) (v : Stamped) (room last : ℕ) → IfSome o (λ c. IsRisingChain last c) → CanAddVersion v.number o → v.number ≤ last
     → IsRisingChain last (added o v room)
 rising-added None v room last h r le = (tt, le)
 rising-added (Some c) v room last h r le = (rising-push c.older c.newest v.number h.0 r.0, le)
@@ -142,7 +143,7 @@ abbrev pub pick : ℕ → Option Stamped → List Stamped → Stamped → Option
 pick b d vs w = if nat_le w.number b then Some w else last_at b d vs
 
 -- once the first is at most b, what came before doesn't matter
-pick_past : (b : ℕ) (d e : Option Stamped) (vs : List Stamped) (w : Stamped) → first_number vs w.number ≤ b → pick b d vs w ≡ pick b e vs w
+pick_past : (b : ℕ) (d e : Option Stamped) (vs : List Stamped) (w : Stamped) → number_of_first vs w.number ≤ b → pick b d vs w ≡ pick b e vs w
 pick_past b d e vs w h = grind (arith, nat_tests)
 
 not_between : (bs : List ℕ) (low high b : ℕ) → is_between bs low high ≡ false → is_among bs b ≡ true → low ≤ b → high ≤ b
@@ -160,7 +161,7 @@ pick-seen_by bs w b t d (v ∷ vs) =
       pick-seen_by bs w b t (if nat_le v.number b then Some v else d) vs,
       pick-seen_by bs w b t d vs,
       pick_past b d (Some v) vs w,
-      not_between bs v.number (first_number vs w.number) b,
+      not_between bs v.number (number_of_first vs w.number) b,
     )
 
 pub version_at-reclaimed : (bs : List ℕ) (c : ChainValue) (b : ℕ) → is_among bs b ≡ true → version_at b (reclaimed bs c) ≡ version_at b c
@@ -175,7 +176,7 @@ pub stays : (b : ℕ) (v : Stamped) (vs : List Stamped) → AllByRecursion (λ u
 stays b v [] h = refl
 stays b v (u ∷ vs) h = let later = h.0 in grind (arith, nat_tests, stays b v vs h.1)
 
-pub above_first : (b n : ℕ) (vs : List Stamped) → IsRisingTo vs n → b < first_number vs n → AllByRecursion (λ u. b < u.number) vs × (b < n)
+pub above_first : (b n : ℕ) (vs : List Stamped) → IsRisingTo vs n → b < number_of_first vs n → AllByRecursion (λ u. b < u.number) vs × (b < n)
 above_first b n [] h lt = (tt, lt)
 above_first b n (v ∷ vs) h lt = ((lt, all-each _ _ vs (λ u g. omega (arith, g, lt)) h.0), omega (arith, h.1))
 
@@ -197,8 +198,8 @@ seen_kept bs w [] h = tt
 seen_kept bs w (v ∷ vs) h =
     let rest = all-each (IsKeptBy bs w vs) (IsKeptBy bs w (v ∷ vs)) (seen_by bs w.number vs)
     (λ u g. (g.0, g.1, λ d. g.2 (if nat_le v.number g.0 then Some v else d))) (seen_kept bs w vs h.2) in
-    cond_both (is_between bs v.number (first_number vs w.number)) _ _ (AllByRecursion (IsKeptBy bs w (v ∷ vs))) (λ e.
-    let s = some_between bs v.number (first_number vs w.number) e in
+    cond_both (is_between bs v.number (number_of_first vs w.number)) _ _ (AllByRecursion (IsKeptBy bs w (v ∷ vs))) (λ e.
+    let s = some_between bs v.number (number_of_first vs w.number) e in
     let a = above_first s.0 w.number vs h.2 s.3 in
     let low = s.2 in
     let high = a.1 in
@@ -211,13 +212,13 @@ tight-reclaimed bs c h = all-each (IsKeptBy bs c.newest c.older) (IsSeen bs (rec
 all-seen_by : (P : Stamped → Type 0) (bs : List ℕ) (n : ℕ) (vs : List Stamped) → AllByRecursion P vs → AllByRecursion P (seen_by bs n vs)
 all-seen_by P bs n [] h = tt
 all-seen_by P bs n (v ∷ vs) h =
-    cond_both (is_between bs v.number (first_number vs n)) _ _ (AllByRecursion P) (λ t. (h.0, all-seen_by P bs n vs h.1)) (λ f. all-seen_by P bs n vs h.1)
+    cond_both (is_between bs v.number (number_of_first vs n)) _ _ (AllByRecursion P) (λ t. (h.0, all-seen_by P bs n vs h.1)) (λ f. all-seen_by P bs n vs h.1)
 
 pub rising-seen_by : (bs : List ℕ) (n : ℕ) (vs : List Stamped) → IsRisingTo vs n → IsRisingTo (seen_by bs n vs) n
 rising-seen_by bs n [] h = tt
 rising-seen_by bs n (v ∷ vs) h =
     let rest = rising-seen_by bs n vs h.2 in
-    cond_both (is_between bs v.number (first_number vs n)) _ _ (λ l. IsRisingTo l n) (λ t. (all-seen_by (λ u. v.number < u.number) bs n vs h.0, h.1, rest))
+    cond_both (is_between bs v.number (number_of_first vs n)) _ _ (λ l. IsRisingTo l n) (λ t. (all-seen_by (λ u. v.number < u.number) bs n vs h.0, h.1, rest))
     (λ f. rest)
 
 -- ---- the loop of a reclaim
@@ -234,15 +235,15 @@ between-wider bs low high low' high' l h =
     any-weaker (λ b. nat_le low b && nat_lt b high) (λ b. nat_le low' b && nat_lt b high') bs (λ b t. grind (arith, nat_tests, t, l, h))
 
 -- what is left begins no lower
-pub first_rises : (bs : List ℕ) (n : ℕ) (vs : List Stamped) → IsRisingTo vs n → first_number vs n ≤ first_number (seen_by bs n vs) n
+pub first_rises : (bs : List ℕ) (n : ℕ) (vs : List Stamped) → IsRisingTo vs n → number_of_first vs n ≤ number_of_first (seen_by bs n vs) n
 first_rises bs n [] h = omega arith
 first_rises bs n (v ∷ vs) h = grind (arith, first_rises bs n vs h.2)
 
 seen_twice : (bs : List ℕ) (n : ℕ) (vs : List Stamped) → IsRisingTo vs n → seen_by bs n (seen_by bs n vs) ≡ seen_by bs n vs
 seen_twice bs n [] h = refl
 seen_twice bs n (v ∷ vs) h =
-    let high = first_number vs n in
-    let wider = between-wider bs v.number high v.number (first_number (seen_by bs n vs) n) (omega arith) (first_rises bs n vs h.2) in
+    let high = number_of_first vs n in
+    let wider = between-wider bs v.number high v.number (number_of_first (seen_by bs n vs) n) (omega arith) (first_rises bs n vs h.2) in
     grind (arith, nat_tests, seen_twice bs n vs h.2)
 
 pub reclaimed_twice : (bs : List ℕ) (c : ChainValue) → IsRisingTo c.older c.newest.number → reclaimed bs (reclaimed bs c) ≡ reclaimed bs c

@@ -18,17 +18,17 @@ use Rattle.model.proofs.Elements.{any-set}
 use Rattle.model.proofs.Lookups.{same_key, same_key_itself}
 use Rattle.model.specs.Map.{Bytes}
 use Rattle.versions.proofs.ChainLaws.{any-weaker, between-wider}
-use Rattle.versions.proofs.Listings.{needed-chain, reclaimed-needed, part-at, part-trans, all-settled-part, left-part}
-use Rattle.versions.proofs.Listings.{listed-part}
+use Rattle.versions.proofs.Listings.{needed-chain, reclaimed-needed, part-at, part-trans, all-collected-part}
+use Rattle.versions.proofs.Listings.{left-part, listed-part}
 use Rattle.versions.proofs.Stores.{rising_found}
 use Rattle.versions.proofs.UnderPins.{IsUnder}
 use Rattle.versions.proofs.Pins.{lists-set, pin-among}
-use Rattle.versions.specs.Chains.{Stamped, ChainValue, Chains, ChainsValue, find_chain, first_number, is_between}
+use Rattle.versions.specs.Chains.{Stamped, ChainValue, Chains, ChainsValue, find_chain, number_of_first, is_between}
 use Rattle.versions.specs.Chains.{reclaimed, IsKept, IsReclaimedAt}
 use Rattle.versions.specs.Groups.{GroupValue, Listed}
 use Rattle.versions.specs.Listings.{AreOfBoth, is_seen_from, is_seen_by, AreSeenFrom, is_of, is_in, is_listed}
 use Rattle.versions.specs.Listings.{AreListed, IsListedChain, IsListed, AreFound, has_version, AreNeeded}
-use Rattle.versions.specs.Listings.{IsNeededChain, IsAllReclaimed, IsSettled, IsPartReclaimed, AreKept, AreAmong}
+use Rattle.versions.specs.Listings.{IsNeededChain, IsAllReclaimed, IsCollected, IsPartReclaimed, AreKept, AreAmong}
 use Rattle.versions.specs.Listings.{versions_in, pin_for, pins, lists_in}
 use Rattle.versions.specs.Meaning.{is_among, garbage_for, garbage_in, lists_a_step}
 use Rattle.versions.specs.Reclaiming.{AreLookedAt, DropsFromGroup, IsLookedAfter, KeepsListed, ReclaimsChains}
@@ -82,8 +82,8 @@ among-between bs n v t s = any-weaker (λ b. b == n) (λ b. nat_le v.number b &&
 next-between : (bs : List ℕ) (o : Option ℕ) (v : Listed) → IfSome o (λ n. is_among bs n ≡ true) → is_seen_by o v ≡ true → is_between bs v.number v.next ≡ true
 next-between bs o v a s = grind (arith, λ (n : ℕ). among-between bs n v)
 
-pub all-between : (bs : List ℕ) (es : Chains) (n : ℕ) (vs : List Listed) → is_among bs n ≡ true → AreSeenFrom n vs → AllByRecursion (IsSettled bs es) vs
-all-between bs es n vs t h = all-each (λ v. is_seen_from n v ≡ true) (IsSettled bs es) vs (λ v s. inl (among-between bs n v t s)) h
+pub all-between : (bs : List ℕ) (es : Chains) (n : ℕ) (vs : List Listed) → is_among bs n ≡ true → AreSeenFrom n vs → AllByRecursion (IsCollected bs es) vs
+all-between bs es n vs t h = all-each (λ v. is_seen_from n v ≡ true) (IsCollected bs es) vs (λ v s. inl (among-between bs n v t s)) h
 
 -- ---- the loop over a group's versions
 
@@ -92,7 +92,7 @@ pub record Dropping (bs : List ℕ) (old now : Chains) (os vs : List Listed) (le
   pub in_range : left ≤ length vs
   pub part : IsPartReclaimed bs old now
   pub kept : (last : ℕ) → IsKept old last → IsKept now last
-  pub settled : AllByRecursion (IsSettled bs now) (drop left vs)
+  pub collected : AllByRecursion (IsCollected bs now) (drop left vs)
   pub left_out : AreKept os vs now
   pub seen : (n : ℕ) → AreSeenFrom n os → AreSeenFrom n vs
   pub each : (active : ℕ → Bool) (v : ChainsValue) (w : ℕ) → AllByRecursion (IsUnderPin active v w) os → AllByRecursion (IsUnderPin active v w) vs
@@ -103,9 +103,9 @@ pub dropping-seen : (bs : List ℕ) (old now : Chains) (os vs : List Listed) (m 
     → Dropping bs old now os vs left → Dropping bs old now os vs m
 dropping-seen bs old now os vs m left v o next at a s d =
     let in_range : m ≤ length vs = omega arith in
-    let rest = subst (λ n. AllByRecursion (IsSettled bs now) (drop n vs)) {x = left} {y = suc m} (omega arith) d.settled in
-    let settled = all-more (IsSettled bs now) vs m v (omega arith) at (inl (next-between bs o v a s)) rest in
-    assumption (in_range, settled)
+    let rest = subst (λ n. AllByRecursion (IsCollected bs now) (drop n vs)) {x = left} {y = suc m} (omega arith) d.collected in
+    let collected = all-more (IsCollected bs now) vs m v (omega arith) at (inl (next-between bs o v a s)) rest in
+    assumption (in_range, collected)
 
 module _ (bs : List ℕ) (old now new : Chains) (os vs : List Listed) (m left last : ℕ) (v : Listed) (next : left ≡ m + 1) (at : v
     ≡ get_or vs m v) (ordered : IsKept old last) (r : IsReclaimedAt bs v.key now new) (d : Dropping bs old now os vs left) where
@@ -115,9 +115,9 @@ module _ (bs : List ℕ) (old now new : Chains) (os vs : List Listed) (m left la
   within : m < length vs
   within = omega arith
 
-  rest : AllByRecursion (IsSettled bs new) (drop (suc m) vs)
-  rest = all-settled-part bs now new step (drop (suc m) vs)
-      (subst (λ n. AllByRecursion (IsSettled bs now) (drop n vs)) {x = left} {y = suc m} (omega arith) d.settled)
+  rest : AllByRecursion (IsCollected bs new) (drop (suc m) vs)
+  rest = all-collected-part bs now new step (drop (suc m) vs)
+      (subst (λ n. AllByRecursion (IsCollected bs now) (drop n vs)) {x = left} {y = suc m} (omega arith) d.collected)
 
   needed : IsNeededChain bs (find_chain v.key new)
   needed = subst (IsNeededChain bs)
@@ -130,8 +130,8 @@ module _ (bs : List ℕ) (old now new : Chains) (os vs : List Listed) (m left la
       let in_range : m ≤ length vs = omega (arith, within) in
       let part = part-trans bs old now new last ordered d.part step in
       let kept = λ (n : ℕ) (h : IsKept old n). r.kept n (d.kept n h) in
-      let settled = all-more (IsSettled bs new) vs m v within at (inr (there, needed)) rest in
-      assumption (in_range, part, kept, settled, left-part bs now new os vs step d.left_out)
+      let collected = all-more (IsCollected bs new) vs m v within at (inr (there, needed)) rest in
+      assumption (in_range, part, kept, collected, left-part bs now new os vs step d.left_out)
 
   -- the version is gone
   pub dropping-leaves : (us : List Listed) → us ≡ swap_remove vs m v → has_version v.number (find_chain v.key new) ≡ false → Dropping bs old new os us m
@@ -139,7 +139,7 @@ module _ (bs : List ℕ) (old now new : Chains) (os vs : List Listed) (m left la
     in_range = grind (arith, common_steps, within, ap length is);
     part = part-trans bs old now new last ordered d.part step;
     kept = λ n h. r.kept n (d.kept n h);
-    settled = subst (λ l. AllByRecursion (IsSettled bs new) (drop m l)) (sym is) (rest-swap_remove (IsSettled bs new) vs m v within rest);
+    collected = subst (λ l. AllByRecursion (IsCollected bs new) (drop m l)) (sym is) (rest-swap_remove (IsCollected bs new) vs m v within rest);
     left_out = λ k n high t. (
         let still = left-part bs now new os vs step d.left_out k n high t in
         let split = list_any-IsPermutation (is_of k n high) vs (v ∷ swap_remove vs m v) (IsPermutation-swap_remove vs m v within at) in
@@ -154,8 +154,8 @@ module _ (bs : List ℕ) (old now new : Chains) (os vs : List Listed) (m left la
 -- what was looked at stays so where chains are reclaimed
 looked-part : (bs : List ℕ) (now new : Chains) → IsPartReclaimed bs now new → (g : GroupValue) → IsLookedAfter bs now g → IsLookedAfter bs new g
 looked-part bs now new p g h = record {
-  settled = λ none. all-settled-part bs now new p g.versions (h.settled none);
-  mixed = all-settled-part bs now new p g.mixed h.mixed;
+  collected = λ none. all-collected-part bs now new p g.versions (h.collected none);
+  unclassified = all-collected-part bs now new p g.unclassified h.unclassified;
   truly = h.truly;
 }
 
@@ -171,8 +171,8 @@ stays-under bs more active v u g h is stays stands under =
     let w = pin_for bs g.pin in
     let left = stays more v g.pin under.0 under.1 in
     let step = λ (xs : List Listed). all-each (IsUnderPin more v g.pin) (IsUnderPin active u w) xs (stands g.pin) in
-    subst (λ n. AllByRecursion (IsUnderPin active u n) h.versions × AllByRecursion (IsUnderPin active u n) h.mixed) (sym is)
-    (step h.versions left.0, step h.mixed left.1)
+    subst (λ n. AllByRecursion (IsUnderPin active u n) h.versions × AllByRecursion (IsUnderPin active u n) h.unclassified) (sym is)
+    (step h.versions left.0, step h.unclassified left.1)
 
 -- what is listed with another group in a group's place
 listed-set : (gs : List GroupValue) (i : ℕ) (g h : GroupValue) (k : Bytes) (n high : ℕ) → i < length gs → g ≡ get_or gs i g
@@ -214,8 +214,8 @@ pub record Settling (bs : List ℕ) (old now : Chains) (olds gs : List GroupValu
   pub before : (more : ℕ → Bool) (v : ChainsValue) → AreUnderPins more v olds → AreUnderPins more v (take left gs)
 
 -- no group was looked at
-pub settling-none : (bs : List ℕ) (es : Chains) (gs : List GroupValue) → IsListed es gs → Settling bs es es gs gs (length gs) lists_a_step
-settling-none bs es gs listed =
+pub collecting-none : (bs : List ℕ) (es : Chains) (gs : List GroupValue) → IsListed es gs → Settling bs es es gs gs (length gs) lists_a_step
+collecting-none bs es gs listed =
     let none = drop_all (length gs) gs (omega arith) in
     record {
       in_range = omega arith;
@@ -233,12 +233,12 @@ settling-none bs es gs listed =
     }
 
 -- the group before them was looked at
-pub settling-settled : (bs : List ℕ) (old now new : Chains) (olds gs : List GroupValue) (i left last most more : ℕ) (g h : GroupValue) → left ≡ i + 1
+pub collecting-collected : (bs : List ℕ) (old now new : Chains) (olds gs : List GroupValue) (i left last most more : ℕ) (g h : GroupValue) → left ≡ i + 1
     → g ≡ get_or gs i g → IsKept old last → more ≡ most - garbage_for bs g → garbage_for bs h ≡ garbage_for bs g - most
     → ReclaimsChains bs now new → DropsFromGroup new (pin_for bs g.pin) g h → IsLookedAfter bs new h
     → Settling bs old now olds gs left most
     → Settling bs old new olds (set gs i h) i more
-settling-settled bs old now new olds gs i left last most more g h next at ordered spare garbage chains group looked t =
+collecting-collected bs old now new olds gs i left last most more g h next at ordered spare garbage chains group looked t =
     let p = chains.part in
     let active : IsActive bs h = ap (is_among (0 ∷ bs)) group.pin ∙ pin-among bs g.pin in
     let counted = group.lists in
@@ -267,7 +267,7 @@ settling-settled bs old now new olds gs i left last most more g h next at ordere
 
 -- ---- the end of the loop
 
-listed-needed : (bs : List ℕ) (es : Chains) (k : Bytes) (n high : ℕ) (vs : List Listed) → AllByRecursion (IsSettled bs es) vs → is_in vs k n high ≡ true
+listed-needed : (bs : List ℕ) (es : Chains) (k : Bytes) (n high : ℕ) (vs : List Listed) → AllByRecursion (IsCollected bs es) vs → is_in vs k n high ≡ true
     → (is_between bs n high ≡ true) ⊎ IsNeededChain bs (find_chain k es)
 listed-needed bs es k n high [] h t = absurd (both_ways _ refl t)
 listed-needed bs es k n high (v ∷ vs) h t =
@@ -275,65 +275,66 @@ listed-needed bs es k n high (v ∷ vs) h t =
     grind (arith, nat_tests, listed-needed bs es k n high vs h.1, between-wider bs v.number v.next n high, same_key k v.key)
 
 group-needed : (bs : List ℕ) (es : Chains) (k : Bytes) (n high : ℕ) (gs : List GroupValue)
-    → AllByRecursion (λ g. AllByRecursion (IsSettled bs es) g.versions) gs → is_listed gs k n high ≡ true
+    → AllByRecursion (λ g. AllByRecursion (IsCollected bs es) g.versions) gs → is_listed gs k n high ≡ true
     → (is_between bs n high ≡ true) ⊎ IsNeededChain bs (find_chain k es)
 group-needed bs es k n high [] h t = absurd (both_ways _ refl t)
 group-needed bs es k n high (g ∷ gs) h t = grind (arith, listed-needed bs es k n high g.versions h.0, group-needed bs es k n high gs h.1)
 
 -- all versions of the chain are needed, or one of them says so of the chain
 each-needed : (bs : List ℕ) (es : Chains) (k : Bytes) (next : ℕ) (gs : List GroupValue) (us : List Stamped)
-    → AllByRecursion (λ g. AllByRecursion (IsSettled bs es) g.versions) gs → AreListed gs k next us → AreNeeded bs next us ⊎ IsNeededChain bs (find_chain k es)
+    → AllByRecursion (λ g. AllByRecursion (IsCollected bs es) g.versions) gs → AreListed gs k next us
+    → AreNeeded bs next us ⊎ IsNeededChain bs (find_chain k es)
 each-needed bs es k next gs [] h l = inl tt
-each-needed bs es k next gs (u ∷ us) h l = grind (arith, group-needed bs es k u.number (first_number us next) gs h l.0, each-needed bs es k next gs us h l.1)
+each-needed bs es k next gs (u ∷ us) h l = grind (arith, group-needed bs es k u.number (number_of_first us next) gs h l.0, each-needed bs es k next gs us h l.1)
 
 chain-needed : (bs : List ℕ) (es : Chains) (k : Bytes) (gs : List GroupValue) (o : Option ChainValue) → find_chain k es ≡ o
-    → AllByRecursion (λ g. AllByRecursion (IsSettled bs es) g.versions) gs → IsListedChain gs k o → IsNeededChain bs o
+    → AllByRecursion (λ g. AllByRecursion (IsCollected bs es) g.versions) gs → IsListedChain gs k o → IsNeededChain bs o
 chain-needed bs es k gs None e h l = tt
 chain-needed bs es k gs (Some c) e h l = grind (arith, each-needed bs es k c.newest.number gs c.older h l)
 
-all-settled : (bs : List ℕ) (es : Chains) (gs : List GroupValue) → garbage_in bs gs ≡ 0 → AllByRecursion (IsLookedAfter bs es) gs
-    → AllByRecursion (λ g. AllByRecursion (IsSettled bs es) g.versions) gs
-all-settled bs es [] none h = tt
-all-settled bs es (g ∷ gs) none h = (h.0.settled (omega (arith, none)), all-settled bs es gs (omega (arith, none)) h.1)
+all-collected : (bs : List ℕ) (es : Chains) (gs : List GroupValue) → garbage_in bs gs ≡ 0 → AllByRecursion (IsLookedAfter bs es) gs
+    → AllByRecursion (λ g. AllByRecursion (IsCollected bs es) g.versions) gs
+all-collected bs es [] none h = tt
+all-collected bs es (g ∷ gs) none h = (h.0.collected (omega (arith, none)), all-collected bs es gs (omega (arith, none)) h.1)
 
 -- so many lists are no longer garbage
-settling-garbage : (bs : List ℕ) (old now : Chains) (olds gs : List GroupValue) (most : ℕ) → Settling bs old now olds gs 0 most
+collecting-garbage : (bs : List ℕ) (old now : Chains) (olds gs : List GroupValue) (most : ℕ) → Settling bs old now olds gs 0 most
     → garbage_in bs gs ≡ garbage_in bs olds - lists_a_step
-settling-garbage bs old now olds gs most s =
+collecting-garbage bs old now olds gs most s =
     let none : 0 < most → garbage_in bs gs ≡ 0 = s.none_behind in
     grind (arith, s.looked_at, s.few)
 
 -- each pin is one of the numbers or 0
-settling-active : (bs : List ℕ) (old now : Chains) (olds gs : List GroupValue) (most : ℕ) → Settling bs old now olds gs 0 most
+collecting-active : (bs : List ℕ) (old now : Chains) (olds gs : List GroupValue) (most : ℕ) → Settling bs old now olds gs 0 most
     → AreAmong (0 ∷ bs) (pins gs)
-settling-active bs old now olds gs most s = all-map (λ n. is_among (0 ∷ bs) n ≡ true) (λ g. g.pin) gs s.active
+collecting-active bs old now olds gs most s = all-map (λ n. is_among (0 ∷ bs) n ≡ true) (λ g. g.pin) gs s.active
 
 -- where none is garbage, all chains were reclaimed
-settling-ended : (bs : List ℕ) (old now : Chains) (olds gs : List GroupValue) (most : ℕ) → Settling bs old now olds gs 0 most → garbage_in bs gs ≡ 0
+collecting-ended : (bs : List ℕ) (old now : Chains) (olds gs : List GroupValue) (most : ℕ) → Settling bs old now olds gs 0 most → garbage_in bs gs ≡ 0
     → IsAllReclaimed bs old now
-settling-ended bs old now olds gs most s none k =
-    let settled = all-settled bs now gs none s.looked_after in
-    let same = reclaimed-needed bs (find_chain k now) (chain-needed bs now k gs (find_chain k now) refl settled (s.listed k)) in
+collecting-ended bs old now olds gs most s none k =
+    let collected = all-collected bs now gs none s.looked_after in
+    let same = reclaimed-needed bs (find_chain k now) (chain-needed bs now k gs (find_chain k now) refl collected (s.listed k)) in
     grind (arith, s.part k)
 
 -- a step was made
-pub settling-step : (bs : List ℕ) (old now : Chains) (olds gs : List GroupValue) (most : ℕ) → Settling bs old now olds gs 0 most
+pub collecting-step : (bs : List ℕ) (old now : Chains) (olds gs : List GroupValue) (most : ℕ) → Settling bs old now olds gs 0 most
     → ReclaimsStep bs old now olds gs
-settling-step bs old now olds gs most s = record {
-  garbage = settling-garbage bs old now olds gs most s;
+collecting-step bs old now olds gs most s = record {
+  garbage = collecting-garbage bs old now olds gs most s;
   chains = record { part = s.part; kept = s.kept };
-  all = settling-ended bs old now olds gs most s;
+  all = collecting-ended bs old now olds gs most s;
 }
 
 -- and all groups were looked at
-pub settling-all : (bs : List ℕ) (old now : Chains) (olds gs : List GroupValue) (most : ℕ) → Settling bs old now olds gs 0 most
+pub collecting-all : (bs : List ℕ) (old now : Chains) (olds gs : List GroupValue) (most : ℕ) → Settling bs old now olds gs 0 most
     → AreLookedAt bs now olds gs
-settling-all bs old now olds gs most s = record {
+collecting-all bs old now olds gs most s = record {
   listed = s.listed;
   lists = s.lists;
-  active = settling-active bs old now olds gs most s;
+  active = collecting-active bs old now olds gs most s;
   truly = all-each (IsLookedAfter bs now) _ gs (λ g h. h.truly) s.looked_after;
-  mixed = all-each (IsLookedAfter bs now) _ gs (λ g h. h.mixed) s.looked_after;
+  unclassified = all-each (IsLookedAfter bs now) _ gs (λ g h. h.unclassified) s.looked_after;
   each = s.each;
 }
 
@@ -350,7 +351,7 @@ keeps-itself gs = record {
   garbage = λ bs. refl;
   active = λ bs h. h;
   truly = λ bs h. h;
-  mixed = λ bs es h. h;
+  unclassified = λ bs es h. h;
   each = λ active v h. h;
 }
 
@@ -360,7 +361,7 @@ keeps-on gs hs js one two = record {
   garbage = λ bs. two.garbage bs ∙ one.garbage bs;
   active = λ bs h. two.active bs (one.active bs h);
   truly = λ bs h. two.truly bs (one.truly bs h);
-  mixed = λ bs es h. two.mixed bs es (one.mixed bs es h);
+  unclassified = λ bs es h. two.unclassified bs es (one.unclassified bs es h);
   each = λ active v h. two.each active v (one.each active v h);
 }
 
@@ -392,7 +393,7 @@ garbage-joined bs gs hs i m a g j lt second less first short both =
     let left = ap (garbage_in bs) less in
     grind (arith, common_steps, garbage-set bs hs m a j short first, garbage-sum bs)
 
--- ---- what is mixed
+-- ---- what is unclassified
 
 list_all-lists : {Z : Type 0} (p : Listed → Bool) (xs : List (Vec Listed Z)) → list_all p (versions_in xs) ≡ list_all (λ x. list_all p x.items) xs
 list_all-lists p [] = refl
@@ -403,7 +404,7 @@ pub unseen : {Z : Type 0} (bs : List ℕ) (w : ℕ) (xs : List (Vec Listed Z)) �
     → (is_among bs w && list_all (is_seen_from w) (versions_in xs)) ≡ false
 unseen bs w xs f = and_right (is_among bs w) _ (list_all-lists (is_seen_from w) xs ∙ f)
 
--- they are the only mixed ones
+-- they are the only unclassified ones
 pub unseen-put : (bs : List ℕ) (w : ℕ) (ms us vs : List Listed) → vs ≡ ms ++ us → ms ≡ [] → (is_among bs w && list_all (is_seen_from w) us) ≡ false
     → (is_among bs w && list_all (is_seen_from w) vs) ≡ false
 unseen-put bs w ms us vs is none f = let same = is ∙ ap (λ l. l ++ us) none in grind arith
@@ -419,6 +420,6 @@ all-joined P gs hs i m a g j lt at less within other joins h =
 pub under-joined : (active : ℕ → Bool) (v : ChainsValue) (a g j : GroupValue) → a.pin ≡ g.pin → j.pin ≡ a.pin
     → GroupsJoinUnder a g j → IsUnder active v a → IsUnder active v g → IsUnder active v j
 under-joined active v a g j one own each ha hg =
-    let at = λ (x : GroupValue) (n : ℕ). AreUnder active v n x.versions × AreUnder active v n x.mixed in
+    let at = λ (x : GroupValue) (n : ℕ). AreUnder active v n x.versions × AreUnder active v n x.unclassified in
     let other = subst (at g) (sym one) hg in
     subst (at j) (sym own) (each active v a.pin ha.0 ha.1 other.0 other.1)

@@ -9,9 +9,9 @@ use Rattle.model.specs.Dependency.{writes_key}
 use Rattle.model.specs.History.{Record, map_at}
 use Rattle.model.specs.Map.{Bytes, KeyMap, KeyWrite, IsMap, after_writes, value_at}
 use Rattle.versions.proofs.UnderPins.{groups-under, under-roomier, under-roomy}
-use Rattle.versions.specs.Chains.{ChainsValue, IsRoomier}
+use Rattle.versions.specs.Chains.{ChainsValue, AreRoomier}
 use Rattle.versions.specs.Meaning.{is_among, IsSameMeaning, IsInstalled, IsSeenSame}
-use Rattle.versions.specs.StandsFor.{StandsFor, StandWhereAmong, UnmixedWhereActive, last_writer_from}
+use Rattle.versions.specs.StandsFor.{StandsFor, StandWhereAmong, ClassifiedWhereActive, last_writer_from}
 use Rattle.versions.specs.Pins.{AreUnderPins}
 
 pub map_at-push : (base : KeyMap) (rs : List Record) (r : Record) (n : ℕ)
@@ -36,7 +36,7 @@ module _ (v : ChainsValue) (active : ℕ → Bool) (base : KeyMap) (history : Li
   }
 
   module _ (new : ChainsValue) where
-    pub stands-same : IsSameMeaning v new → IsRoomier v.chains new.chains → new.groups ≡ v.groups → StandsFor v active base history
+    pub stands-same : IsSameMeaning v new → AreRoomier v.chains new.chains → new.groups ≡ v.groups → StandsFor v active base history
         ↔ StandsFor new active base history
     stands-same h more same = (
       λ s. record {
@@ -92,8 +92,8 @@ stands-on bs old mid new g h = λ active base history s.
     subst (λ (f : ℕ → Bool). StandsFor new f base history) (λ i n. active_twice bs active n i)
     (h (λ n. active n && is_among bs n) base history (g active base history s))
 
-pub unmixed-on : (bs : List ℕ) (old mid new : ChainsValue) → StandWhereAmong bs old mid → UnmixedWhereActive bs mid new → UnmixedWhereActive bs old new
-unmixed-on bs old mid new g h = λ active base history s all.
+pub classified-on : (bs : List ℕ) (old mid new : ChainsValue) → StandWhereAmong bs old mid → ClassifiedWhereActive bs mid new → ClassifiedWhereActive bs old new
+classified-on bs old mid new g h = λ active base history s all.
     h (λ n. active n && is_among bs n) base history (g active base history s) (λ n t. ap (λ b. b && is_among bs n) (all n t) ∙ t)
 
 pub stands-itself : (bs : List ℕ) (v : ChainsValue) → StandWhereAmong bs v v

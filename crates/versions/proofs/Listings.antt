@@ -15,12 +15,12 @@ use Rattle.model.specs.Map.{Bytes, KeyMap, is_same_key}
 use Rattle.versions.proofs.ChainLaws.{any-weaker, between-wider, first_rises}
 use Rattle.versions.proofs.Stores.{RoomierFound, find-roomier, twice, rising_found}
 use Rattle.versions.proofs.Visibles.{find_chain-put}
-use Rattle.versions.specs.Chains.{Stamped, ChainValue, Chains, find_chain, added, stamped, first_number, is_between}
-use Rattle.versions.specs.Chains.{seen_by, reclaimed, base_chains, IsKept, IsRisingTo, IsRisingChain, IsReclaimedAt}
-use Rattle.versions.specs.Chains.{IsRoomier}
+use Rattle.versions.specs.Chains.{Stamped, ChainValue, Chains, find_chain, added, stamped, number_of_first}
+use Rattle.versions.specs.Chains.{is_between, seen_by, reclaimed, base_chains, IsKept, IsRisingTo, IsRisingChain}
+use Rattle.versions.specs.Chains.{IsReclaimedAt, AreRoomier}
 use Rattle.versions.specs.Groups.{GroupValue, Listed}
 use Rattle.versions.specs.Listings.{is_of, is_in, is_listed, AreListed, IsListedChain, IsListed, AreFound}
-use Rattle.versions.specs.Listings.{unpinned, followed, has_version, AreNeeded, IsNeededChain, IsSettled}
+use Rattle.versions.specs.Listings.{unpinned, followed, has_version, AreNeeded, IsNeededChain, IsCollected}
 use Rattle.versions.specs.Listings.{IsPartReclaimed, AreKept}
 
 -- ---- more groups
@@ -51,7 +51,7 @@ listed-base (p ∷ ps) gs k = cond_both (is_same_key k p.0) _ _ (IsListedChain g
 chain-roomier : (gs : List GroupValue) (k : Bytes) (o p : Option ChainValue) → RoomierFound o p → IsListedChain gs k o → IsListedChain gs k p
 chain-roomier gs k o p r h = grind arith
 
-pub listed-roomier : (es fs : Chains) (gs : List GroupValue) → IsRoomier es fs → IsListed es gs → IsListed fs gs
+pub listed-roomier : (es fs : Chains) (gs : List GroupValue) → AreRoomier es fs → IsListed es gs → IsListed fs gs
 listed-roomier es fs gs more h k = chain-roomier gs k (find_chain k es) (find_chain k fs) (find-roomier k es fs more) (h k)
 
 -- ---- a version more
@@ -112,16 +112,16 @@ listed-seen : (gs : List GroupValue) (k : Bytes) (bs : List ℕ) (n : ℕ) (vs :
 listed-seen gs k bs n [] r h = tt
 listed-seen gs k bs n (v ∷ vs) r h =
     let rest = listed-seen gs k bs n vs r.2 h.1 in
-    cond_both (is_between bs v.number (first_number vs n)) _ _ (AreListed gs k n)
-    (λ t. (listed-later gs k v.number (first_number vs n) (first_number (seen_by bs n vs) n) (first_rises bs n vs r.2) h.0, rest)) (λ f. rest)
+    cond_both (is_between bs v.number (number_of_first vs n)) _ _ (AreListed gs k n)
+    (λ t. (listed-later gs k v.number (number_of_first vs n) (number_of_first (seen_by bs n vs) n) (first_rises bs n vs r.2) h.0, rest)) (λ f. rest)
 
 -- the versions that are kept are needed
 needed-seen : (bs : List ℕ) (n : ℕ) (vs : List Stamped) → IsRisingTo vs n → AreNeeded bs n (seen_by bs n vs)
 needed-seen bs n [] r = tt
 needed-seen bs n (v ∷ vs) r =
     let rest = needed-seen bs n vs r.2 in
-    cond_both (is_between bs v.number (first_number vs n)) _ _ (AreNeeded bs n)
-    (λ t. (between-wider bs v.number (first_number vs n) v.number (first_number (seen_by bs n vs) n) (omega arith) (first_rises bs n vs r.2) t, rest))
+    cond_both (is_between bs v.number (number_of_first vs n)) _ _ (AreNeeded bs n)
+    (λ t. (between-wider bs v.number (number_of_first vs n) v.number (number_of_first (seen_by bs n vs) n) (omega arith) (first_rises bs n vs r.2) t, rest))
     (λ f. rest)
 
 pub needed-chain : (bs : List ℕ) (o : Option ChainValue) (last : ℕ) → IfSome o (λ c. IsRisingChain last c) → IsNeededChain bs (option_map (reclaimed bs) o)
@@ -161,13 +161,13 @@ needed-part : (bs : List ℕ) (k : Bytes) (now new : Chains) → IsPartReclaimed
     → find_chain k now ≡ find_chain k new
 needed-part bs k now new p h = let same = reclaimed-needed bs (find_chain k now) h in grind (arith, p k)
 
-pub settled-part : (bs : List ℕ) (now new : Chains) → IsPartReclaimed bs now new → (v : Listed) → IsSettled bs now v → IsSettled bs new v
-settled-part bs now new p v (inl t) = inl t
-settled-part bs now new p v (inr n) = inr (subst (λ o. IsTrue (has_version v.number o) × IsNeededChain bs o) (needed-part bs v.key now new p n.1) n)
+pub collected-part : (bs : List ℕ) (now new : Chains) → IsPartReclaimed bs now new → (v : Listed) → IsCollected bs now v → IsCollected bs new v
+collected-part bs now new p v (inl t) = inl t
+collected-part bs now new p v (inr n) = inr (subst (λ o. IsTrue (has_version v.number o) × IsNeededChain bs o) (needed-part bs v.key now new p n.1) n)
 
-pub all-settled-part : (bs : List ℕ) (now new : Chains) → IsPartReclaimed bs now new → (vs : List Listed) → AllByRecursion (IsSettled bs now) vs
-    → AllByRecursion (IsSettled bs new) vs
-all-settled-part bs now new p vs h = all-each (IsSettled bs now) (IsSettled bs new) vs (settled-part bs now new p) h
+pub all-collected-part : (bs : List ℕ) (now new : Chains) → IsPartReclaimed bs now new → (vs : List Listed) → AllByRecursion (IsCollected bs now) vs
+    → AllByRecursion (IsCollected bs new) vs
+all-collected-part bs now new p vs h = all-each (IsCollected bs now) (IsCollected bs new) vs (collected-part bs now new p) h
 
 pub left-part : (bs : List ℕ) (now new : Chains) (os us : List Listed) → IsPartReclaimed bs now new → AreKept os us now → AreKept os us new
 left-part bs now new os us p h k n high t = grind (arith, h k n high t, p k, has_reclaimed bs n (find_chain k now))

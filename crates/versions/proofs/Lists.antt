@@ -11,10 +11,10 @@ use Rattle.std.specs.Prelude.{◌==◌}
 use Rattle.std.specs.Vec.{vec_len}
 use Rattle.std.specs.declared.vec.Vec.{Vec}
 use Rattle.model.proofs.Elements.{all-append, all-back, all-front, all-pass}
-use Rattle.versions.proofs.Listings.{part-trans, all-settled-part, left-part}
+use Rattle.versions.proofs.Listings.{part-trans, all-collected-part, left-part}
 use Rattle.versions.specs.Chains.{Chains, ChainsValue, IsKept}
 use Rattle.versions.specs.Groups.{Listed}
-use Rattle.versions.specs.Listings.{is_seen_from, AreSeenFrom, is_of, IsSettled, IsPartReclaimed, AreKept}
+use Rattle.versions.specs.Listings.{is_seen_from, AreSeenFrom, is_of, IsCollected, IsPartReclaimed, AreKept}
 use Rattle.versions.specs.Listings.{versions_in}
 use Rattle.versions.specs.Reclaiming.{DropsUnseen, ReclaimsChains}
 use Rattle.versions.specs.Pins.{IsUnderPin}
@@ -47,10 +47,10 @@ in-seen n (x ∷ xs) t =
 -- ---- the loop
 
 -- the versions of `done` were looked at, and those of `rest` are left
-pub record Settled (bs : List ℕ) (old now : Chains) (os done rest : List Listed) : Type 0 where
+pub record Collected (bs : List ℕ) (old now : Chains) (os done rest : List Listed) : Type 0 where
   pub part : IsPartReclaimed bs old now
   pub kept : (last : ℕ) → IsKept old last → IsKept now last
-  pub settled : AllByRecursion (IsSettled bs now) done
+  pub collected : AllByRecursion (IsCollected bs now) done
   pub left_out : AreKept os (done ++ rest) now
   pub seen : (n : ℕ) → AreSeenFrom n os → AreSeenFrom n (done ++ rest)
   pub each : (active : ℕ → Bool) (v : ChainsValue) (w : ℕ) → AllByRecursion (IsUnderPin active v w) os → AllByRecursion (IsUnderPin active v w) (done ++ rest)
@@ -69,21 +69,21 @@ in-parts n xs front rest first others =
     sym (ap versions_in (take-append-drop n xs)) ∙ in-append (take n xs) (drop n xs) ∙ λ i. versions_in (sym first i) ++ versions_in (sym others i)
 
 -- the first of the lists was looked at, and what is left of it was put behind the others
-pub settled-list : {Z : Type 0} (bs : List ℕ) (old now new : Chains) (os : List Listed) (ls hs lists first left rest : List (Vec Listed Z)) (last : ℕ)
+pub collected-list : {Z : Type 0} (bs : List ℕ) (old now new : Chains) (os : List Listed) (ls hs lists first left rest : List (Vec Listed Z)) (last : ℕ)
     → IsKept old last → first ≡ take 1 lists → rest ≡ drop 1 lists
     → versions_in hs ≡ versions_in ls ++ versions_in left → ReclaimsChains bs now new
     → DropsUnseen bs new (versions_in first) (versions_in left)
-    → Settled bs old now os (versions_in ls) (versions_in lists) → Settled bs old new os (versions_in hs) (versions_in rest)
-settled-list bs old now new os ls hs lists first left rest last ordered one others is p drops s =
+    → Collected bs old now os (versions_in ls) (versions_in lists) → Collected bs old new os (versions_in hs) (versions_in rest)
+collected-list bs old now new os ls hs lists first left rest last ordered one others is p drops s =
     let done = versions_in ls in
     let us = versions_in first in
     let vs = versions_in left in
     let more = versions_in rest in
-    let before = subst (Settled bs old now os done) (in-parts 1 lists first rest one others) s in
-    subst (λ l. Settled bs old new os l more) (sym is) (record {
+    let before = subst (Collected bs old now os done) (in-parts 1 lists first rest one others) s in
+    subst (λ l. Collected bs old new os l more) (sym is) (record {
       part = part-trans bs old now new last ordered before.part p.part;
       kept = λ n h. p.kept n (before.kept n h);
-      settled = all-append (IsSettled bs new) done vs (all-settled-part bs now new p.part done before.settled) drops.settled;
+      collected = all-append (IsCollected bs new) done vs (all-collected-part bs now new p.part done before.collected) drops.collected;
       left_out = λ k n high t. grind (
         arith,
         left-part bs now new os (done ++ (us ++ more)) p.part before.left_out k n high t,

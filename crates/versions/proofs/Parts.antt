@@ -1,4 +1,4 @@
--- The lists of one group: those that the pin sees, the garbage, and the mixed.
+-- The lists of one group: those that the pin sees, the garbage, and the unclassified.
 use Rattle.std.proofs.Common.{◌≡◌, ℕ, true, List, ◌++◌, length, sym, ap, subst, arith}
 use Rattle.std.proofs.lemmas.List.{nil_from_length}
 use Rattle.std.proofs.lemmas.List.Folds.{list_any-append}
@@ -10,7 +10,7 @@ use Rattle.versions.proofs.Groups.{all-between}
 use Rattle.versions.proofs.Listings.{left-part}
 use Rattle.versions.specs.Chains.{Chains}
 use Rattle.versions.specs.Groups.{Listed, GroupValue}
-use Rattle.versions.specs.Listings.{AreIn, AreKept, AreSeenFrom, IsSettled, IsTakenIn, IsPartReclaimed, is_of}
+use Rattle.versions.specs.Listings.{AreIn, AreKept, AreSeenFrom, IsCollected, IsTakenIn, IsPartReclaimed, is_of}
 use Rattle.versions.specs.Listings.{versions_in}
 use Rattle.versions.specs.Meaning.{is_among, garbage_for}
 
@@ -26,7 +26,7 @@ kept-garbage us ds ms ts xs rs new es is looked rest these k n high t =
     let split = ap (list_any p) is in
     grind (arith, list_any-append p, looked k n high, rest k n high, these k n high)
 
--- more are seen, or mixed
+-- more are seen, or unclassified
 pub all-seen_more : (P : Listed → Type 0) (us vs xs ws : List Listed) → ws ≡ us ++ xs → AllByRecursion P (us ++ vs) → AllByRecursion P xs
     → AllByRecursion P (ws ++ vs)
 all-seen_more P us vs xs ws is h g =
@@ -59,11 +59,11 @@ garbage-taken bs g t = grind arith
 pub no-versions : {Z : Type 0} (P : Listed → Type 0) (xs : List (Vec Listed Z)) → length xs ≡ 0 → AllByRecursion P (versions_in xs)
 no-versions P xs none = subst (λ l. AllByRecursion P (versions_in l)) (sym (nil_from_length xs none)) tt
 
--- where no list is garbage, each version is settled
-pub parts-settled : {Z : Type 0} (bs : List ℕ) (es : Chains) (n : ℕ) (ls ds ms : List (Vec Listed Z)) → (is_among bs n ≡ true) ⊎ (length ls ≡ 0)
-    → AreSeenFrom n (versions_in ls) → length ds ≡ 0 → AllByRecursion (IsSettled bs es) (versions_in ms)
-    → AllByRecursion (IsSettled bs es) (versions_in ls ++ (versions_in ds ++ versions_in ms))
-parts-settled bs es n ls ds ms active seen none mixed =
-    all-append (IsSettled bs es) (versions_in ls) (versions_in ds ++ versions_in ms)
-    (grind (arith, λ (t : is_among bs n ≡ true). all-between bs es n (versions_in ls) t seen, no-versions (IsSettled bs es) ls))
-    (all-append (IsSettled bs es) (versions_in ds) (versions_in ms) (no-versions (IsSettled bs es) ds none) mixed)
+-- where no list is garbage, each version is collected
+pub parts-collected : {Z : Type 0} (bs : List ℕ) (es : Chains) (n : ℕ) (ls ds ms : List (Vec Listed Z)) → (is_among bs n ≡ true) ⊎ (length ls ≡ 0)
+    → AreSeenFrom n (versions_in ls) → length ds ≡ 0 → AllByRecursion (IsCollected bs es) (versions_in ms)
+    → AllByRecursion (IsCollected bs es) (versions_in ls ++ (versions_in ds ++ versions_in ms))
+parts-collected bs es n ls ds ms active seen none unclassified =
+    all-append (IsCollected bs es) (versions_in ls) (versions_in ds ++ versions_in ms)
+    (grind (arith, λ (t : is_among bs n ≡ true). all-between bs es n (versions_in ls) t seen, no-versions (IsCollected bs es) ls))
+    (all-append (IsCollected bs es) (versions_in ds) (versions_in ms) (no-versions (IsCollected bs es) ds none) unclassified)

@@ -25,8 +25,9 @@ use Rattle.versions.proofs.ChainLaws.{tight-reclaimed, rising-seen_by, reclaimed
 use Rattle.versions.proofs.Visibles.{IsMap-visible, value-visible, visible-put, visible-put_same, find_chain-put}
 use Rattle.versions.proofs.Visibles.{sorted-put}
 use Rattle.versions.specs.Chains.{Stamped, ChainValue, Chains, ChainsValue, find_chain, seen, seen_in, value_of}
-use Rattle.versions.specs.Chains.{visible, with_value, added, stamped, IsReady, HasPlace, HasRoom, reclaimed}
-use Rattle.versions.specs.Chains.{IsReclaimedAt, base_chains, IsKept, IsRisingChain, IsRoomier, IsRoomierChain}
+use Rattle.versions.specs.Chains.{visible, with_pair, added, stamped, CanAddVersion, HasPlace, ChainHasRoom}
+use Rattle.versions.specs.Chains.{reclaimed, IsReclaimedAt, base_chains, IsKept, IsRisingChain, AreRoomier}
+use Rattle.versions.specs.Chains.{IsRoomierChain}
 use Rattle.versions.specs.Listings.{IsPartReclaimed}
 use Rattle.versions.specs.Meaning.{kept_in, is_written_by, is_among}
 use Rattle.versions.specs.Meaning.{garbage_of, lists_a_step, IsSameMeaning, IsReclaimed}
@@ -77,11 +78,11 @@ newest-base k (p ∷ ps) = grind (arith, newest-base k ps)
 
 -- ---- more room
 
-pub roomier-refl : (es : Chains) → IsRoomier es es
+pub roomier-refl : (es : Chains) → AreRoomier es es
 roomier-refl [] = tt
 roomier-refl (e ∷ es) = (refl, record { older = refl; newest = refl; room = omega arith }, roomier-refl es)
 
-pub roomier-trans : (es fs gs : Chains) → IsRoomier es fs → IsRoomier fs gs → IsRoomier es gs
+pub roomier-trans : (es fs gs : Chains) → AreRoomier es fs → AreRoomier fs gs → AreRoomier es gs
 roomier-trans [] [] gs h g = g
 roomier-trans (e ∷ es) (f ∷ fs) (x ∷ gs) h g =
     let a = h.1 in let b = g.1 in
@@ -99,7 +100,7 @@ find-put_itself k c es = grind (arith, find_chain-put k k c es, same_key_itself 
 
 -- the key's chain with more room in its place
 pub roomier-put : (k : Bytes) (c d : ChainValue) (es : Chains) → IsSorted es → find_chain k es ≡ Some c → IsRoomierChain c d
-    → IsRoomier es (put (slice_cmp nat_cmp) k d es)
+    → AreRoomier es (put (slice_cmp nat_cmp) k d es)
 roomier-put k c d [] h e r = cc
 roomier-put k c d (f ∷ es) h e r =
     let p = parts (below_all (slice_cmp nat_cmp) f.0 es) (is_sorted (slice_cmp nat_cmp) es) h in
@@ -117,9 +118,9 @@ roomier-put k c d (f ∷ es) h e r =
 same_version : (n : ℕ) (c d : ChainValue) → IsRoomierChain c d → seen n d ≡ seen n c
 same_version n c d r = λ i. value_of (if nat_le (r.newest i).number n then Some (r.newest i) else Rattle.versions.specs.Chains.last_at n None (r.older i))
 
-pub visible-roomier : (n : ℕ) (es fs : Chains) → IsRoomier es fs → visible n fs ≡ visible n es
+pub visible-roomier : (n : ℕ) (es fs : Chains) → AreRoomier es fs → visible n fs ≡ visible n es
 visible-roomier n [] [] h = refl
-visible-roomier n (e ∷ es) (f ∷ fs) h = λ i. with_value (h.0 i) (same_version n e.1 f.1 h.1 i) (visible-roomier n es fs h.2 i)
+visible-roomier n (e ∷ es) (f ∷ fs) h = λ i. with_pair (h.0 i) (same_version n e.1 f.1 h.1 i) (visible-roomier n es fs h.2 i)
 visible-roomier n _ _ h = absurd h
 
 -- the chain that is found, with no less room
@@ -128,12 +129,12 @@ RoomierFound None None = Unit {0}
 RoomierFound (Some c) (Some d) = IsRoomierChain c d
 RoomierFound _ _ = ⊥
 
-pub find-roomier : (k : Bytes) (es fs : Chains) → IsRoomier es fs → RoomierFound (find_chain k es) (find_chain k fs)
+pub find-roomier : (k : Bytes) (es fs : Chains) → AreRoomier es fs → RoomierFound (find_chain k es) (find_chain k fs)
 find-roomier k [] [] h = tt
 find-roomier k (e ∷ es) (f ∷ fs) h = let same = h.0 in let own = h.1 in grind (arith, find-roomier k es fs h.2)
 find-roomier k _ _ h = absurd h
 
-pub same-roomier : (old new : ChainsValue) → IsRoomier old.chains new.chains → new.last ≡ old.last → IsSameMeaning old new
+pub same-roomier : (old new : ChainsValue) → AreRoomier old.chains new.chains → new.last ≡ old.last → IsSameMeaning old new
 same-roomier old new h e = record {
   maps = λ n. visible-roomier n old.chains new.chains h;
   newest = λ k. grind (arith, find-roomier k old.chains new.chains h);
@@ -141,34 +142,34 @@ same-roomier old new h e = record {
   last = e;
 }
 
-below_roomier : (k : Bytes) (es fs : Chains) → IsRoomier es fs → IsBelowAll k es → IsBelowAll k fs
+below_roomier : (k : Bytes) (es fs : Chains) → AreRoomier es fs → IsBelowAll k es → IsBelowAll k fs
 below_roomier k [] [] h g = tt
 below_roomier k (e ∷ es) (f ∷ fs) h g = let p =
     parts _ _ g in both _ _ (subst (λ (q : Bytes). T (is_lt (key_cmp k q))) (sym h.0) p.0) (below_roomier k es fs h.2 p.1)
 below_roomier k _ _ h g = absurd h
 
-sorted_roomier : (es fs : Chains) → IsRoomier es fs → IsSorted es → IsSorted fs
+sorted_roomier : (es fs : Chains) → AreRoomier es fs → IsSorted es → IsSorted fs
 sorted_roomier [] [] h g = tt
 sorted_roomier (e ∷ es) (f ∷ fs) h g =
     grind (arith, h.0, below_roomier e.0 es fs h.2, sorted_roomier es fs h.2)
 sorted_roomier _ _ h g = absurd h
 
-rising_roomier : (last : ℕ) (es fs : Chains) → IsRoomier es fs → AllByRecursion (λ e. IsRisingChain last e.1) es
+rising_roomier : (last : ℕ) (es fs : Chains) → AreRoomier es fs → AllByRecursion (λ e. IsRisingChain last e.1) es
     → AllByRecursion (λ e. IsRisingChain last e.1) fs
 rising_roomier last [] [] h g = tt
 rising_roomier last (e ∷ es) (f ∷ fs) h g =
     (grind (arith, h.1.older, h.1.newest, g.0), rising_roomier last es fs h.2 g.1)
 rising_roomier last _ _ h g = absurd h
 
-pub kept-roomier : (es fs : Chains) (last : ℕ) → IsRoomier es fs → IsKept es last → IsKept fs last
+pub kept-roomier : (es fs : Chains) (last : ℕ) → AreRoomier es fs → IsKept es last → IsKept fs last
 kept-roomier es fs last h g = record { sorted = sorted_roomier es fs h g.sorted; rising = rising_roomier last es fs h g.rising }
 
 -- the write's key has a chain with room, or a place for one
 abbrev pub IsPlaced : ℕ → Chains → List (Page ChainValue) → KeyWrite → Type 0
-IsPlaced n es ps w = HasRoom (find_chain w.0 es) × HasPlace n (room_at w.0 ps) (find_chain w.0 es)
+IsPlaced n es ps w = ChainHasRoom (find_chain w.0 es) × HasPlace n (room_at w.0 ps) (find_chain w.0 es)
 
 -- what was made for the write is still there
-pub placed-roomier : (n : ℕ) (es fs : Chains) (ps qs : List (Page ChainValue)) → IsRoomier es fs → ((q : Bytes) → room_at q ps ≤ room_at q qs) → (w : KeyWrite)
+pub placed-roomier : (n : ℕ) (es fs : Chains) (ps qs : List (Page ChainValue)) → AreRoomier es fs → ((q : Bytes) → room_at q ps ≤ room_at q qs) → (w : KeyWrite)
     → IsPlaced n es ps w → IsPlaced n fs qs w
 placed-roomier n es fs ps qs h more w p = grind (arith, more w.0, find-roomier w.0 es fs h)
 
@@ -181,12 +182,12 @@ HavePlaces n es ps ws = AllByRecursion (λ w. HasPlace n (room_at w.0 ps) (find_
 
 -- ---- an install
 
-pub ready-prepared : (n last : ℕ) (es : Chains) (ws : List KeyWrite) → IsKept es last → last < n → AllByRecursion (λ w. HasRoom (find_chain w.0 es)) ws
-    → AllByRecursion (λ w. IsReady n (find_chain w.0 es)) ws
+pub ready-prepared : (n last : ℕ) (es : Chains) (ws : List KeyWrite) → IsKept es last → last < n → AllByRecursion (λ w. ChainHasRoom (find_chain w.0 es)) ws
+    → AllByRecursion (λ w. CanAddVersion n (find_chain w.0 es)) ws
 ready-prepared n last es ws h lt r =
-    all-each _ (λ w. IsReady n (find_chain w.0 es)) ws (λ w q. grind (arith, rising_found w.0 es last h)) r
+    all-each _ (λ w. CanAddVersion n (find_chain w.0 es)) ws (λ w q. grind (arith, rising_found w.0 es last h)) r
 
-pub rising_one : (n last : ℕ) (es : Chains) (k : Bytes) (v : Option Bytes) (room : ℕ) → IsKept es last → IsReady n (find_chain k es) → n ≤ last
+pub rising_one : (n last : ℕ) (es : Chains) (k : Bytes) (v : Option Bytes) (room : ℕ) → IsKept es last → CanAddVersion n (find_chain k es) → n ≤ last
     → IsRisingChain last (added (find_chain k es) (stamped n v) room)
 rising_one n last es k v room h r le = rising-added (find_chain k es) (stamped n v) room last (rising_found k es last h) r le
 
@@ -195,9 +196,9 @@ find_apart : (k : Bytes) (c : ChainValue) (es : Chains) (q : Bytes) → T (is_lt
 find_apart k c es q h = find_chain-put q k c es ∙ ap (λ b. cond b (Some c) (find_chain q es)) (same_key_comm q k ∙ ap is_eq (less _ h))
 
 pub ready-apart : (n : ℕ) (k : Bytes) (c : ChainValue) (es : Chains) (ws : List KeyWrite) → T (below_all (slice_cmp nat_cmp) k ws)
-    → AllByRecursion (λ w. IsReady n (find_chain w.0 es)) ws → AllByRecursion (λ w. IsReady n (find_chain w.0 (put (slice_cmp nat_cmp) k c es))) ws
+    → AllByRecursion (λ w. CanAddVersion n (find_chain w.0 es)) ws → AllByRecursion (λ w. CanAddVersion n (find_chain w.0 (put (slice_cmp nat_cmp) k c es))) ws
 ready-apart n k c es [] h r = tt
-ready-apart n k c es (w ∷ ws) h r = let p = parts _ _ h in (subst (IsReady n) (sym (find_apart k c es w.0 p.0)) r.0, ready-apart n k c es ws p.1 r.1)
+ready-apart n k c es (w ∷ ws) h r = let p = parts _ _ h in (subst (CanAddVersion n) (sym (find_apart k c es w.0 p.0)) r.0, ready-apart n k c es ws p.1 r.1)
 
 -- a new chain takes one place
 pub places-apart : (n : ℕ) (k : Bytes) (c : ChainValue) (es : Chains) (ps qs : List (Page ChainValue)) (ws : List KeyWrite)

@@ -15,18 +15,19 @@ use Rattle.versions.proofs.ChainLaws.{above_first, last_at-push, some_between, s
 use Rattle.versions.proofs.Stores.{RoomierFound, all-find, find-put_itself, find-roomier, number_added}
 use Rattle.versions.proofs.Visibles.{find_chain-put}
 use Rattle.versions.specs.Chains.{Stamped, ChainValue, Chains, ChainsValue, added, find_chain, last_at, reclaimed}
-use Rattle.versions.specs.Chains.{stamped, IsKept, IsReady, IsRisingChain, IsRisingTo, IsRoomier, IsRoomierChain}
+use Rattle.versions.specs.Chains.{stamped, IsKept, CanAddVersion, IsRisingChain, IsRisingTo, AreRoomier}
+use Rattle.versions.specs.Chains.{IsRoomierChain}
 use Rattle.versions.specs.Groups.{GroupValue, Listed}
 use Rattle.versions.specs.Listings.{followed, has_version, is_seen_from, pin_for, pins, AreAmong}
-use Rattle.versions.specs.Listings.{AreMixedSettled, AreNeeded, IsFollowed, IsNeededChain, IsPartReclaimed, IsSettled}
-use Rattle.versions.specs.Listings.{IsTrulyMixed, IsUnmixed}
+use Rattle.versions.specs.Listings.{AreUnclassifiedCollected, AreNeeded, IsFollowed, IsNeededChain, IsPartReclaimed}
+use Rattle.versions.specs.Listings.{IsCollected, IsTrulyUnclassified, IsClassified}
 use Rattle.versions.specs.Meaning.{is_among}
-use Rattle.versions.specs.Pins.{number_at, number_seen, AreUnderPins, IsAddedTo, IsUnderChain}
+use Rattle.versions.specs.Pins.{seen_number, number_seen, AreUnderPins, IsAddedTo, IsUnderChain}
 use Rattle.versions.specs.Pins.{IsUnderPin}
 
 -- the group's versions are under its pin
 abbrev pub IsUnder : (ℕ → Bool) → ChainsValue → GroupValue → Type 0
-IsUnder active v g = AllByRecursion (IsUnderPin active v g.pin) g.versions × AllByRecursion (IsUnderPin active v g.pin) g.mixed
+IsUnder active v g = AllByRecursion (IsUnderPin active v g.pin) g.versions × AllByRecursion (IsUnderPin active v g.pin) g.unclassified
 
 -- ---- each of the groups' versions
 
@@ -34,7 +35,7 @@ pub groups-under : (more active : ℕ → Bool) (v u : ChainsValue) (gs : List G
     → ((w : ℕ) (x : Listed) → IsUnderPin more v w x → IsUnderPin active u w x) → AreUnderPins more v gs → AreUnderPins active u gs
 groups-under more active v u gs f h =
     let each = λ (w : ℕ) (xs : List Listed). all-each (IsUnderPin more v w) (IsUnderPin active u w) xs (f w) in
-    all-each (IsUnder more v) (IsUnder active u) gs (λ g q. (each g.pin g.versions q.0, each g.pin g.mixed q.1)) h
+    all-each (IsUnder more v) (IsUnder active u) gs (λ g q. (each g.pin g.versions q.0, each g.pin g.unclassified q.1)) h
 
 -- ---- other numbers are active
 
@@ -42,17 +43,17 @@ groups-under more active v u gs f h =
 
 -- the active numbers see of the chain what they saw
 under-chain : (more active : ℕ → Bool) (last last' w w' n : ℕ) (c d : ChainValue) → d.newest ≡ c.newest → last ≤ last'
-    → ((b : ℕ) → IsTrue (active b) → IsTrue (more b) × (number_at b d ≡ number_at b c) × (b ≤ w → b ≤ w'))
+    → ((b : ℕ) → IsTrue (active b) → IsTrue (more b) × (seen_number b d ≡ seen_number b c) × (b ≤ w → b ≤ w'))
     → IsUnderChain more last w n c → IsUnderChain active last' w' n d
 under-chain more active last last' w w' n c d same le each u = grind (arith, u.behind, u.installed, u.sees, each)
 
-number_roomier : (b : ℕ) (c d : ChainValue) → IsRoomierChain c d → number_at b d ≡ number_at b c
+number_roomier : (b : ℕ) (c d : ChainValue) → IsRoomierChain c d → seen_number b d ≡ seen_number b c
 number_roomier b c d r = λ i. option_map (λ (v : Stamped). v.number) (if nat_le (r.newest i).number b then Some (r.newest i) else last_at b None (r.older i))
 
 roomier_before : (o p : Option ChainValue) (d : ChainValue) → RoomierFound o p → p ≡ Some d → (c : ChainValue) × (o ≡ Some c) × IsRoomierChain c d
 roomier_before o p d r e = grind arith
 
-pub under-roomier : (active : ℕ → Bool) (v u : ChainsValue) → IsRoomier v.chains u.chains → u.last ≡ v.last → (w : ℕ) (x : Listed) → IsUnderPin active v w x
+pub under-roomier : (active : ℕ → Bool) (v u : ChainsValue) → AreRoomier v.chains u.chains → u.last ≡ v.last → (w : ℕ) (x : Listed) → IsUnderPin active v w x
     → IsUnderPin active u w x
 under-roomier active v u more last w x h =
     let installed = subst (λ n. x.next ≤ n) (sym last) h.installed in
@@ -68,7 +69,7 @@ roomier_behind : (o p : Option ChainValue) (c : ChainValue) → RoomierFound o p
 roomier_behind o p c r e = grind arith
 
 -- and so it was before there was more room
-pub under-roomy : (active : ℕ → Bool) (v u : ChainsValue) → IsRoomier v.chains u.chains → u.last ≡ v.last → (w : ℕ) (x : Listed) → IsUnderPin active u w x
+pub under-roomy : (active : ℕ → Bool) (v u : ChainsValue) → AreRoomier v.chains u.chains → u.last ≡ v.last → (w : ℕ) (x : Listed) → IsUnderPin active u w x
     → IsUnderPin active v w x
 under-roomy active v u more last w x h =
     let installed = subst (λ n. x.next ≤ n) last h.installed in
@@ -106,7 +107,7 @@ pin_most : (bs : List ℕ) (w b : ℕ) → is_among bs b ≡ true → b ≤ w �
 pin_most bs w b t le = let most = greatest_most w b bs 0 t in grind (arith, nat_tests)
 
 reclaimed_before : (bs : List ℕ) (o p : Option ChainValue) (d : ChainValue) → (p ≡ o) ⊎ (p ≡ option_map (reclaimed bs) o) → p ≡ Some d
-    → (c : ChainValue) × (o ≡ Some c) × (d.newest ≡ c.newest) × ((b : ℕ) → is_among bs b ≡ true → number_at b d ≡ number_at b c)
+    → (c : ChainValue) × (o ≡ Some c) × (d.newest ≡ c.newest) × ((b : ℕ) → is_among bs b ≡ true → seen_number b d ≡ seen_number b c)
 reclaimed_before bs o p d part is = grind (arith, version_at-reclaimed bs)
 
 pub under-reclaimed : (active : ℕ → Bool) (bs : List ℕ) (v u : ChainsValue) → IsPartReclaimed bs v.chains u.chains → u.last ≡ v.last
@@ -121,7 +122,7 @@ under-reclaimed active bs v u part last w x h = record {
       (λ b t. (let q = and_parts (active b) (is_among bs b) t in (q.0, r.3 b q.1, pin_most bs w b q.1))) (h.chain r.0 r.1));
 }
 
--- ---- no list stays mixed
+-- ---- no list stays unclassified
 
 -- an older version of a chain in which all are needed is what some of the numbers sees
 needed_seen : (bs : List ℕ) (next m : ℕ) (vs : List Stamped) → IsRisingTo vs next → AreNeeded bs next vs → list_any (λ v. v.number == m) vs ≡ true
@@ -135,49 +136,49 @@ needed_seen bs next m (v ∷ vs) rising needed t = elim (or_cases (v.number == m
   | inr e ↦ let r = needed_seen bs next m vs rising.2 needed.1 e in (r.0, r.1, r.2, r.3, λ d. r.4 (if nat_le v.number r.0 then Some v else d))
 ]
 
--- a settled version is seen from some of the numbers up to its pin
-settled_seen : (bs : List ℕ) (active : ℕ → Bool) (u : ChainsValue) (last w : ℕ) (x : Listed) → ((n : ℕ) → is_among bs n ≡ true → IsTrue (active n))
-    → IsKept u.chains last → IsUnderPin active u w x → IsSettled bs u.chains x
+-- a collected version is seen from some of the numbers up to its pin
+collected_seen : (bs : List ℕ) (active : ℕ → Bool) (u : ChainsValue) (last w : ℕ) (x : Listed) → ((n : ℕ) → is_among bs n ≡ true → IsTrue (active n))
+    → IsKept u.chains last → IsUnderPin active u w x → IsCollected bs u.chains x
     → (b : ℕ) × (is_among bs b ≡ true) × (x.number ≤ b) × (b ≤ w)
-settled_seen bs active u last w x all kept h (inl t) = let s = some_between bs x.number x.next t in (s.0, s.1, s.2, h.between s.0 (all s.0 s.1) s.2 s.3)
-settled_seen bs active u last w x all kept h (inr s) = by (find_chain x.key u.chains) refl s.0 s.1
+collected_seen bs active u last w x all kept h (inl t) = let s = some_between bs x.number x.next t in (s.0, s.1, s.2, h.between s.0 (all s.0 s.1) s.2 s.3)
+collected_seen bs active u last w x all kept h (inr s) = by (find_chain x.key u.chains) refl s.0 s.1
   where
     by : (o : Option ChainValue) → find_chain x.key u.chains ≡ o → has_version x.number o ≡ true → IsNeededChain bs o
         → (b : ℕ) × (is_among bs b ≡ true) × (x.number ≤ b) × (b ≤ w)
     by None e has needed = absurd (both_ways _ refl has)
     by (Some c) e has needed =
         let r = needed_seen bs c.newest.number x.number c.older (all-find (IsRisingChain last) x.key c u.chains kept.rising e).0 needed has in
-        let sees : number_at r.0 c ≡ Some x.number = grind (arith, nat_tests, r.3, r.4 None) in
+        let sees : seen_number r.0 c ≡ Some x.number = grind (arith, nat_tests, r.3, r.4 None) in
         (r.0, r.1, r.2, (h.chain c e).sees r.0 (all r.0 r.1) r.3 sees)
 
 module _ (bs : List ℕ) (active : ℕ → Bool) (u : ChainsValue) (last : ℕ) (all : (n : ℕ) → is_among bs n ≡ true
     → IsTrue (active n)) (kept : IsKept u.chains last) where
-  all_seen : (w : ℕ) (xs : List Listed) → AllByRecursion (IsUnderPin active u w) xs → AllByRecursion (IsSettled bs u.chains) xs
+  all_seen : (w : ℕ) (xs : List Listed) → AllByRecursion (IsUnderPin active u w) xs → AllByRecursion (IsCollected bs u.chains) xs
       → list_all (is_seen_from w) xs ≡ true
   all_seen w [] h s = refl
   all_seen w (x ∷ xs) h s =
-      let r = settled_seen bs active u last w x all kept h.0 s.0 in
+      let r = collected_seen bs active u last w x all kept h.0 s.0 in
       grind (arith, nat_tests, r.2, r.3, h.0.before, all_seen w xs h.1 s.1)
 
-  -- a pin with a settled version under it is one of the numbers
-  seen_among : (w : ℕ) (x : Listed) → is_among (0 ∷ bs) w ≡ true → IsUnderPin active u w x → IsSettled bs u.chains x → is_among bs w ≡ true
+  -- a pin with a collected version under it is one of the numbers
+  seen_among : (w : ℕ) (x : Listed) → is_among (0 ∷ bs) w ≡ true → IsUnderPin active u w x → IsCollected bs u.chains x → is_among bs w ≡ true
   seen_among w x t h s =
-      let r = settled_seen bs active u last w x all kept h s in
+      let r = collected_seen bs active u last w x all kept h s in
       grind (arith, nat_tests, r.1, r.3)
 
-  unmixed_list : (w : ℕ) (xs : List Listed) → is_among (0 ∷ bs) w ≡ true → AllByRecursion (IsUnderPin active u w) xs
-      → AllByRecursion (IsSettled bs u.chains) xs → (is_among bs w && list_all (is_seen_from w) xs) ≡ false → xs ≡ []
-  unmixed_list w [] t h s f = refl
-  unmixed_list w (x ∷ xs) t h s f =
+  classified_list : (w : ℕ) (xs : List Listed) → is_among (0 ∷ bs) w ≡ true → AllByRecursion (IsUnderPin active u w) xs
+      → AllByRecursion (IsCollected bs u.chains) xs → (is_among bs w && list_all (is_seen_from w) xs) ≡ false → xs ≡ []
+  classified_list w [] t h s f = refl
+  classified_list w (x ∷ xs) t h s f =
       absurd (both_ways _ f (ap (λ b. b && list_all (is_seen_from w) (x ∷ xs)) (seen_among w x t h.0 s.0) ∙ all_seen w (x ∷ xs) h s))
 
-  -- where each mixed version is settled, there is none
-  pub groups-unmixed : (gs : List GroupValue) → AreAmong (0 ∷ bs) (pins gs) → AreUnderPins active u gs → AreMixedSettled bs u.chains gs
-      → AllByRecursion (IsTrulyMixed bs) gs → AllByRecursion IsUnmixed gs
-  groups-unmixed [] t h s m = tt
-  groups-unmixed (g ∷ gs) t h s m =
-      let none : g.mixed ≡ [] = elim m.0.1 [ inl none ↦ none | inr f ↦ unmixed_list g.pin g.mixed t.0 h.0.1 s.0 f ] in
-      ((none, omega (arith, m.0.0, ap length none)), groups-unmixed gs t.1 h.1 s.1 m.1)
+  -- where each unclassified version is collected, there is none
+  pub groups-classified : (gs : List GroupValue) → AreAmong (0 ∷ bs) (pins gs) → AreUnderPins active u gs → AreUnclassifiedCollected bs u.chains gs
+      → AllByRecursion (IsTrulyUnclassified bs) gs → AllByRecursion IsClassified gs
+  groups-classified [] t h s m = tt
+  groups-classified (g ∷ gs) t h s m =
+      let none : g.unclassified ≡ [] = elim m.0.1 [ inl none ↦ none | inr f ↦ classified_list g.pin g.unclassified t.0 h.0.1 s.0 f ] in
+      ((none, omega (arith, m.0.0, ap length none)), groups-classified gs t.1 h.1 s.1 m.1)
 
 -- ---- an install
 
@@ -188,7 +189,7 @@ pub added-trans : (n : ℕ) (o p q : Option ChainValue) → IsAddedTo n o p → 
 added-trans n o p q a b = grind (arith, a.below, b.below)
 
 -- a version of number n more is not seen below n
-seen_added : (n : ℕ) (o : Option ChainValue) (value : Option Bytes) (room b : ℕ) → b < n → number_at b (added o (stamped n value) room) ≡ number_seen b o
+seen_added : (n : ℕ) (o : Option ChainValue) (value : Option Bytes) (room b : ℕ) → b < n → seen_number b (added o (stamped n value) room) ≡ number_seen b o
 seen_added n None value room b lt = grind (arith, nat_tests)
 seen_added n (Some c) value room b lt = grind (arith, nat_tests, last_at-push b None c.older c.newest)
 
@@ -205,14 +206,14 @@ followed_later : (n : ℕ) (k : Bytes) (value : Option Bytes) (room : ℕ) (es :
 followed_later n k value room es x h =
     grind (arith, number_added, h.number, h.next, h.newest, find_chain-put x.key k (added (find_chain k es) (stamped n value) room) es)
 
-followed_own : (n : ℕ) (k : Bytes) (value : Option Bytes) (room : ℕ) (es : Chains) (o : Option ChainValue) → IsReady n o
+followed_own : (n : ℕ) (k : Bytes) (value : Option Bytes) (room : ℕ) (es : Chains) (o : Option ChainValue) → CanAddVersion n o
     → AllByRecursion (IsFollowed n (put (slice_cmp nat_cmp) k (added (find_chain k es) (stamped n value) room) es)) (followed o k n)
 followed_own n k value room es None ready = tt
 followed_own n k value room es (Some c) ready =
     let own = added (find_chain k es) (stamped n value) room in
     (record { number = ready.0; next = refl; newest = λ d found. grind (arith, number_added, find-put_itself k own es) }, tt)
 
-pub followed-write : (n : ℕ) (k : Bytes) (value : Option Bytes) (room : ℕ) (es : Chains) (ls : List Listed) → IsReady n (find_chain k es)
+pub followed-write : (n : ℕ) (k : Bytes) (value : Option Bytes) (room : ℕ) (es : Chains) (ls : List Listed) → CanAddVersion n (find_chain k es)
     → AllByRecursion (IsFollowed n es) ls
     → AllByRecursion (IsFollowed n (put (slice_cmp nat_cmp) k (added (find_chain k es) (stamped n value) room) es)) (ls ++ followed (find_chain k es) k n)
 followed-write n k value room es ls ready h =
@@ -255,18 +256,18 @@ under-followed active u n some last x h = grind (arith, h.next, h.number, h.newe
 
 -- one group more
 groups-last : (active : ℕ → Bool) (u : ChainsValue) (gs : List GroupValue) (g : GroupValue) → AreUnderPins active u gs
-    → AllByRecursion (IsUnderPin active u g.pin) g.versions → g.mixed ≡ [] → AreUnderPins active u (gs ++ g ∷ [])
+    → AllByRecursion (IsUnderPin active u g.pin) g.versions → g.unclassified ≡ [] → AreUnderPins active u (gs ++ g ∷ [])
 groups-last active u gs g h own none =
     all-append (IsUnder active u) gs (g ∷ []) h ((own, subst (AllByRecursion (IsUnderPin active u g.pin)) (sym none) tt), tt)
 
 pub groups-installed : (active : ℕ → Bool) (v u : ChainsValue) (n : ℕ) (g : GroupValue) (ls : List Listed) → v.last < n → u.last ≡ n
     → ((k : Bytes) → IsAddedTo n (find_chain k v.chains) (find_chain k u.chains)) → u.groups ≡ v.groups ++ g ∷ []
-    → g.pin ≡ n - 1 → g.mixed ≡ [] → g.versions ≡ ls → AllByRecursion (IsFollowed n u.chains) ls → AreUnderPins active v v.groups
+    → g.pin ≡ n - 1 → g.unclassified ≡ [] → g.versions ≡ ls → AllByRecursion (IsFollowed n u.chains) ls → AreUnderPins active v v.groups
     → AreUnderPins active u u.groups
-groups-installed active v u n g ls lt last chains groups pin mixed versions each h =
+groups-installed active v u n g ls lt last chains groups pin unclassified versions each h =
     let own : AllByRecursion (IsUnderPin active u (n - 1)) ls =
     all-each (IsFollowed n u.chains) (IsUnderPin active u (n - 1)) ls (under-followed active u n (omega arith) last) each in
     subst (AreUnderPins active u) (sym groups)
     (groups-last active u v.groups g (groups-under active active v u v.groups (under-installed active v u n lt last chains) h)
     (subst (λ (p : ℕ × List Listed). AllByRecursion (IsUnderPin active u p.0) p.1) {x = (n - 1, ls)} {y = (g.pin, g.versions)}
-    (λ i. (sym pin i, sym versions i)) own) mixed)
+    (λ i. (sym pin i, sym versions i)) own) unclassified)

@@ -60,9 +60,9 @@ seen_in n (Some c) = seen n c
 abbrev pub find_chain : Bytes → Chains → Option ChainValue
 find_chain k es = find (slice_cmp nat_cmp) k es
 
-abbrev pub with_value : Bytes → Option Bytes → KeyMap → KeyMap
-with_value k None ps = ps
-with_value k (Some v) ps = (k, v) ∷ ps
+abbrev pub with_pair : Bytes → Option Bytes → KeyMap → KeyMap
+with_pair k None ps = ps
+with_pair k (Some v) ps = (k, v) ∷ ps
 
 -- n sees nothing of a chain
 abbrev pub hides : ℕ → ChainValue → Bool
@@ -90,7 +90,7 @@ is_blank c = length c.older == 0 && is_none c.newest.value
 -- the pairs that n sees
 abbrev pub visible : ℕ → Chains → KeyMap
 visible n [] = []
-visible n (e ∷ es) = with_value e.0 (seen n e.1) (visible n es)
+visible n (e ∷ es) = with_pair e.0 (seen n e.1) (visible n es)
 
 -- ---- a version more
 
@@ -109,13 +109,13 @@ added None v room = fresh_chain v room
 added (Some c) v room = longer_chain c v room
 
 -- a version with number n can be added to the chain without memory
-abbrev pub IsReady : ℕ → Option ChainValue → Type 0
-IsReady n None = ⊤
-IsReady n (Some c) = (c.newest.number < n) × (0 < c.room)
+abbrev pub CanAddVersion : ℕ → Option ChainValue → Type 0
+CanAddVersion n None = ⊤
+CanAddVersion n (Some c) = (c.newest.number < n) × (0 < c.room)
 
-abbrev pub HasRoom : Option ChainValue → Type 0
-HasRoom None = ⊤
-HasRoom (Some c) = 0 < c.room
+abbrev pub ChainHasRoom : Option ChainValue → Type 0
+ChainHasRoom None = ⊤
+ChainHasRoom (Some c) = 0 < c.room
 
 -- so many new chains fit without memory where the key would stand, if it has none
 abbrev pub HasPlace : ℕ → ℕ → Option ChainValue → Type 0
@@ -128,7 +128,7 @@ HasPlaceAt n k ps chains = HasPlace n (room_at k ps) (find_chain k chains)
 
 -- where the key's chain has room, or so many new chains fit, that holds
 abbrev pub WhereRoom : ℕ → Bytes → List (Page ChainValue) → Chains → Type 0 → Type 0
-WhereRoom n k ps chains P = HasRoom (find_chain k chains) → HasPlaceAt n k ps chains → P
+WhereRoom n k ps chains P = ChainHasRoom (find_chain k chains) → HasPlaceAt n k ps chains → P
 
 -- the key's chain has the version more, or the key has a chain of it alone; the chain may have any room
 abbrev pub IsAddedAt : Bytes → Stamped → Chains → Chains → Type 0
@@ -136,16 +136,16 @@ IsAddedAt k v old new = (room : ℕ) × (new ≡ put (slice_cmp nat_cmp) k (adde
 
 -- the writes can be installed without memory
 pub record IsPrepared (v : ChainsValue) (ws : List KeyWrite) : Type 0 where
-  pub chains : AllByRecursion (λ w. HasRoom (find_chain w.0 v.chains)) ws
+  pub chains : AllByRecursion (λ w. ChainHasRoom (find_chain w.0 v.chains)) ws
   pub places : AllByRecursion (λ w. HasPlaceAt (length ws) w.0 v.pages v.chains) ws
   pub listed : length ws ≤ v.listed_spare
   pub groups : 1 ≤ v.groups_spare
 
 -- ---- what a reclaim leaves
 
-abbrev pub first_number : List Stamped → ℕ → ℕ
-first_number [] n = n
-first_number (v ∷ vs) n = v.number
+abbrev pub number_of_first : List Stamped → ℕ → ℕ
+number_of_first [] n = n
+number_of_first (v ∷ vs) n = v.number
 
 -- some of the numbers is at least low and below high
 abbrev pub is_between : List ℕ → ℕ → ℕ → Bool
@@ -155,7 +155,7 @@ is_between bs low high = list_any (λ b. nat_le low b && nat_lt b high) bs
 abbrev pub seen_by : List ℕ → ℕ → List Stamped → List Stamped
 seen_by bs next [] = []
 seen_by bs next (v ∷ vs) =
-    if is_between bs v.number (first_number vs next) then v ∷ seen_by bs next vs else seen_by bs next vs
+    if is_between bs v.number (number_of_first vs next) then v ∷ seen_by bs next vs else seen_by bs next vs
 
 -- without the older versions that none of the numbers sees
 abbrev pub thinned : List ℕ → ChainValue → ChainValue
@@ -212,7 +212,7 @@ pub record IsRoomierChain (c d : ChainValue) : Type 0 where
   pub room : c.room ≤ d.room
 
 -- the same chains, with no less room
-abbrev pub IsRoomier : Chains → Chains → Type 0
-IsRoomier [] [] = ⊤
-IsRoomier (e ∷ es) (f ∷ fs) = (f.0 ≡ e.0) × IsRoomierChain e.1 f.1 × IsRoomier es fs
-IsRoomier _ _ = ⊥
+abbrev pub AreRoomier : Chains → Chains → Type 0
+AreRoomier [] [] = ⊤
+AreRoomier (e ∷ es) (f ∷ fs) = (f.0 ≡ e.0) × IsRoomierChain e.1 f.1 × AreRoomier es fs
+AreRoomier _ _ = ⊥

@@ -8,12 +8,12 @@ pub record Listed : Type 0 where
   pub number : ℕ
   pub next : ℕ
 
--- A group: its pin, its superseded versions, and those of them that stand in mixed lists. And how many of its lists the
--- pin sees whole, how many are garbage, and how many there are in all.
+-- A group: its pin, its superseded versions, and those of them that stand in unclassified lists. And how many of its
+-- lists the pin sees whole, how many are garbage, and how many there are in all.
 pub record GroupValue : Type 0 where
   pub pin : ℕ
   pub versions : List Listed
-  pub mixed : List Listed
+  pub unclassified : List Listed
   pub seen : ℕ
   pub garbage : ℕ
   pub lists : ℕ

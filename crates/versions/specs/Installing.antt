@@ -5,7 +5,8 @@ use Rattle.std.specs.Vec.{vec_len, vec_capacity}
 use Rattle.std.specs.declared.vec.Vec.{Vec}
 use Rattle.model.specs.Map.{Bytes, KeyWrite}
 use Rattle.sorted_pages.specs.Pages.{Page, room_at}
-use Rattle.versions.specs.Chains.{ChainValue, Chains, ChainsValue, HasPlaceAt, HasRoom, IsKept, IsRoomier, find_chain}
+use Rattle.versions.specs.Chains.{ChainValue, Chains, ChainsValue, HasPlaceAt, ChainHasRoom, IsKept, AreRoomier}
+use Rattle.versions.specs.Chains.{find_chain}
 use Rattle.versions.specs.Groups.{Listed}
 use Rattle.versions.specs.Listings.{AreSeenFrom, IsFollowed, StayListed}
 use Rattle.versions.specs.Meaning.{AreInstalled}
@@ -13,7 +14,7 @@ use Rattle.versions.specs.Pins.{IsAddedTo}
 
 -- nothing has changed but the room in chains and pages, and there is no less of it
 pub record HasMoreRoom (old new : ChainsValue) : Type 0 where
-  pub chains : IsRoomier old.chains new.chains
+  pub chains : AreRoomier old.chains new.chains
   pub rooms : (q : Bytes) → room_at q old.pages ≤ room_at q new.pages
   pub listed_spare : new.listed_spare ≡ old.listed_spare
   pub groups_spare : new.groups_spare ≡ old.groups_spare
@@ -22,7 +23,7 @@ pub record HasMoreRoom (old new : ChainsValue) : Type 0 where
 
 -- each of the writes can be added without memory, in the chain of its key or where that would stand
 pub record HaveRoom (pages : List (Page ChainValue)) (chains : Chains) (ws : List KeyWrite) : Type 0 where
-  pub rooms : AllByRecursion (λ w. HasRoom (find_chain w.0 chains)) ws
+  pub rooms : AllByRecursion (λ w. ChainHasRoom (find_chain w.0 chains)) ws
   pub places : AllByRecursion (λ w. HasPlaceAt (length ws) w.0 pages chains) ws
 
 -- the list has these versions more, and room for at most one less

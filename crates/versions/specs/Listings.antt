@@ -6,7 +6,7 @@ use Rattle.std.specs.Prelude.{⊤, if◌then◌else◌}
 use Rattle.std.specs.Vec.{vec_len, vec_capacity}
 use Rattle.std.specs.declared.vec.Vec.{Vec}
 use Rattle.model.specs.Map.{Bytes, is_same_key}
-use Rattle.versions.specs.Chains.{Stamped, ChainValue, Chains, find_chain, first_number, is_between, reclaimed}
+use Rattle.versions.specs.Chains.{Stamped, ChainValue, Chains, find_chain, number_of_first, is_between, reclaimed}
 use Rattle.versions.specs.Groups.{GroupValue, Listed}
 use Rattle.versions.specs.Meaning.{is_among}
 
@@ -20,8 +20,8 @@ spare_in [] = 0
 spare_in (v ∷ vs) = vec_capacity v - vec_len v
 
 -- there are no more lists than versions in them
-abbrev pub AreFilled : {Z : Type 0} → List (Vec Listed Z) → Type 0
-AreFilled vs = length vs ≤ length (versions_in vs)
+abbrev pub ListsAreFilled : {Z : Type 0} → List (Vec Listed Z) → Type 0
+ListsAreFilled vs = length vs ≤ length (versions_in vs)
 
 -- the number sees the version
 abbrev pub is_seen_from : ℕ → Listed → Bool
@@ -48,7 +48,7 @@ is_listed gs k n high = list_any (λ g. is_in g.versions k n high) gs
 
 abbrev pub AreListed : List GroupValue → Bytes → ℕ → List Stamped → Type 0
 AreListed gs k next [] = ⊤
-AreListed gs k next (v ∷ vs) = IsTrue (is_listed gs k v.number (first_number vs next)) × AreListed gs k next vs
+AreListed gs k next (v ∷ vs) = IsTrue (is_listed gs k v.number (number_of_first vs next)) × AreListed gs k next vs
 
 abbrev pub IsListedChain : List GroupValue → Bytes → Option ChainValue → Type 0
 IsListedChain gs k None = ⊤
@@ -105,14 +105,15 @@ AreAmong bs ns = AllByRecursion (λ n. IsTrue (is_among bs n)) ns
 abbrev pub IsTakenIn : List ℕ → GroupValue → Type 0
 IsTakenIn bs g = IsTrue (is_among bs g.pin) ⊎ (g.seen ≡ 0)
 
--- the pin is one of the numbers, and sees each version of the mixed lists
-abbrev pub sees_mixed : List ℕ → GroupValue → Bool
-sees_mixed bs g = is_among bs g.pin && list_all (is_seen_from g.pin) g.mixed
+-- the pin is one of the numbers, and sees each version of the unclassified lists
+abbrev pub sees_unclassified : List ℕ → GroupValue → Bool
+sees_unclassified bs g = is_among bs g.pin && list_all (is_seen_from g.pin) g.unclassified
 
--- there are no more mixed lists than versions in them; and there is no such version, or the pin is none of the numbers
--- or doesn't see all of them
-abbrev pub IsTrulyMixed : List ℕ → GroupValue → Type 0
-IsTrulyMixed bs g = (g.lists ≤ g.seen + g.garbage + length g.mixed) × ((g.mixed ≡ []) ⊎ (sees_mixed bs g ≡ false))
+-- there are no more unclassified lists than versions in them; and there is no such version, or the pin is none of the
+-- numbers or doesn't see all of them
+abbrev pub IsTrulyUnclassified : List ℕ → GroupValue → Type 0
+IsTrulyUnclassified bs g = (g.lists ≤ g.seen + g.garbage + length g.unclassified)
+    × ((g.unclassified ≡ []) ⊎ (sees_unclassified bs g ≡ false))
 
 -- each of the versions is among the others
 abbrev pub AreIn : List Listed → List Listed → Type 0
@@ -126,7 +127,7 @@ AreOfBoth us ws vs = (k : Bytes) (n high : ℕ) → is_in vs k n high ≡ (is_in
 
 -- a group of these versions, whatever its pin
 abbrev pub unpinned : List Listed → GroupValue
-unpinned vs = record { pin = 0; versions = vs; mixed = []; seen = 0; garbage = 0; lists = 0 }
+unpinned vs = record { pin = 0; versions = vs; unclassified = []; seen = 0; garbage = 0; lists = 0 }
 
 -- where the old chains were listed, the new ones are, with these versions more
 abbrev pub StayListed : Chains → Chains → List Listed → Type 0
@@ -153,15 +154,15 @@ has_version n (Some c) = list_any (λ v. v.number == n) c.older
 -- each of the versions is seen from some of the numbers
 abbrev pub AreNeeded : List ℕ → ℕ → List Stamped → Type 0
 AreNeeded bs next [] = ⊤
-AreNeeded bs next (v ∷ vs) = IsTrue (is_between bs v.number (first_number vs next)) × AreNeeded bs next vs
+AreNeeded bs next (v ∷ vs) = IsTrue (is_between bs v.number (number_of_first vs next)) × AreNeeded bs next vs
 
 abbrev pub IsNeededChain : List ℕ → Option ChainValue → Type 0
 IsNeededChain bs None = ⊤
 IsNeededChain bs (Some c) = AreNeeded bs c.newest.number c.older
 
 -- some of the numbers sees the listed version, or its chain has it and holds none that they don't see
-abbrev pub IsSettled : List ℕ → Chains → Listed → Type 0
-IsSettled bs chains v = IsTrue (is_between bs v.number v.next)
+abbrev pub IsCollected : List ℕ → Chains → Listed → Type 0
+IsCollected bs chains v = IsTrue (is_between bs v.number v.next)
     ⊎ (IsTrue (has_version v.number (find_chain v.key chains)) × IsNeededChain bs (find_chain v.key chains))
 
 -- each chain is as it was, or was reclaimed
@@ -173,21 +174,21 @@ IsPartReclaimed bs old new = (k : Bytes)
 abbrev pub IsAllReclaimed : List ℕ → Chains → Chains → Type 0
 IsAllReclaimed bs old new = (k : Bytes) → find_chain k new ≡ option_map (reclaimed bs) (find_chain k old)
 
--- where the old versions and some more are settled, the new ones are
-abbrev pub StaySettled : List ℕ → List Listed → List Listed → List Listed → Type 0
-StaySettled bs old more new =
-    (chains : Chains) → AllByRecursion (IsSettled bs chains) old → AllByRecursion (IsSettled bs chains) more
-    → AllByRecursion (IsSettled bs chains) new
+-- where the old versions and some more are collected, the new ones are
+abbrev pub StayCollected : List ℕ → List Listed → List Listed → List Listed → Type 0
+StayCollected bs old more new =
+    (chains : Chains) → AllByRecursion (IsCollected bs chains) old → AllByRecursion (IsCollected bs chains) more
+    → AllByRecursion (IsCollected bs chains) new
 
 -- a version that is no longer listed is no longer in its chain
 abbrev pub AreKept : List Listed → List Listed → Chains → Type 0
 AreKept old new chains = (k : Bytes) (n high : ℕ) → IsTrue (is_in old k n high)
     → IsTrue (is_in new k n high || not (has_version n (find_chain k chains)))
 
--- each version of the mixed lists is settled
-abbrev pub AreMixedSettled : List ℕ → Chains → List GroupValue → Type 0
-AreMixedSettled bs chains gs = AllByRecursion (λ g. AllByRecursion (IsSettled bs chains) g.mixed) gs
+-- each version of the unclassified lists is collected
+abbrev pub AreUnclassifiedCollected : List ℕ → Chains → List GroupValue → Type 0
+AreUnclassifiedCollected bs chains gs = AllByRecursion (λ g. AllByRecursion (IsCollected bs chains) g.unclassified) gs
 
--- no list is mixed
-abbrev pub IsUnmixed : GroupValue → Type 0
-IsUnmixed g = (g.mixed ≡ []) × (g.lists ≤ g.seen + g.garbage)
+-- no list is unclassified
+abbrev pub IsClassified : GroupValue → Type 0
+IsClassified g = (g.unclassified ≡ []) × (g.lists ≤ g.seen + g.garbage)

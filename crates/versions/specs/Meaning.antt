@@ -20,8 +20,8 @@ kept_in None = 0
 kept_in (Some c) = length c.older + 1
 
 -- how many versions of the key are kept
-abbrev pub kept_of : ChainsValue → Bytes → ℕ
-kept_of v k = kept_in (find_chain k v.chains)
+abbrev pub versions_kept : ChainsValue → Bytes → ℕ
+versions_kept v k = kept_in (find_chain k v.chains)
 
 abbrev pub is_among : List ℕ → ℕ → Bool
 is_among bs n = list_any (λ b. b == n) bs
@@ -46,7 +46,7 @@ groups_of v = length v.groups
 pub record IsSameMeaning (old new : ChainsValue) : Type 0 where
   pub maps : (n : ℕ) → map_seen new n ≡ map_seen old n
   pub newest : (k : Bytes) → newest_of new k ≡ newest_of old k
-  pub kept : (k : Bytes) → kept_of new k ≡ kept_of old k
+  pub kept : (k : Bytes) → versions_kept new k ≡ versions_kept old k
   pub last : new.last ≡ old.last
 
 -- how many of the writes are of the key
@@ -69,7 +69,7 @@ pub record AreInstalled (old new : Chains) (n : ℕ) (ws : List KeyWrite) : Type
 pub record IsInstalled (old new : ChainsValue) (n : ℕ) (ws : List KeyWrite) : Type 0 where
   pub maps : (m : ℕ) → map_seen new m ≡ (if nat_le n m then after_writes (map_seen old m) ws else map_seen old m)
   pub newest : (k : Bytes) → newest_of new k ≡ (if is_written_by ws k then Some n else newest_of old k)
-  pub kept : (k : Bytes) → kept_of new k ≡ kept_of old k + writes_of ws k
+  pub kept : (k : Bytes) → versions_kept new k ≡ versions_kept old k + writes_of ws k
   pub last : new.last ≡ n
 
 -- each version of a chain is its newest or is the one that some of the numbers sees
@@ -103,7 +103,7 @@ pub record IsSeenSame (old new : ChainsValue) (bs : List ℕ) : Type 0 where
 -- numbers sees.
 pub record IsReclaimed (old new : ChainsValue) (bs : List ℕ) : Type 0 where
   pub seen : IsSeenSame old new bs
-  pub kept : (k : Bytes) → kept_of new k ≡ needed_of bs old k
+  pub kept : (k : Bytes) → versions_kept new k ≡ needed_of bs old k
   pub tight : IsTight bs new
 
 -- A step of that: so many lists are no longer garbage. Each key has all its versions still or those alone that are
@@ -111,5 +111,5 @@ pub record IsReclaimed (old new : ChainsValue) (bs : List ℕ) : Type 0 where
 pub record IsReclaimedInPart (old new : ChainsValue) (bs : List ℕ) : Type 0 where
   pub seen : IsSeenSame old new bs
   pub garbage : garbage_of bs new ≡ garbage_of bs old - lists_a_step
-  pub kept : (k : Bytes) → (kept_of new k ≡ kept_of old k) ⊎ (kept_of new k ≡ needed_of bs old k)
+  pub kept : (k : Bytes) → (versions_kept new k ≡ versions_kept old k) ⊎ (versions_kept new k ≡ needed_of bs old k)
   pub all : garbage_of bs new ≡ 0 → IsReclaimed old new bs

@@ -6,14 +6,14 @@ use Rattle.versions.specs.Groups.{GroupValue, Listed}
 use Rattle.versions.specs.Listings.{pin_for}
 
 -- the number of the version that n sees of a chain
-abbrev pub number_at : ℕ → ChainValue → Option ℕ
-number_at n c = option_map (λ v. v.number) (version_at n c)
+abbrev pub seen_number : ℕ → ChainValue → Option ℕ
+seen_number n c = option_map (λ v. v.number) (version_at n c)
 
 -- The chain goes on behind its version of number n, and no active number above w sees that version.
 pub record IsUnderChain (active : ℕ → Bool) (last w n : ℕ) (c : ChainValue) : Type 0 where
   pub behind : n < c.newest.number
   pub installed : c.newest.number ≤ last
-  pub sees : (b : ℕ) → IsTrue (active b) → b < c.newest.number → number_at b c ≡ Some n → b ≤ w
+  pub sees : (b : ℕ) → IsTrue (active b) → b < c.newest.number → seen_number b c ≡ Some n → b ≤ w
 
 -- No active number above the pin sees the listed version, neither as it is listed nor in the chain of its key.
 pub record IsUnderPin (active : ℕ → Bool) (v : ChainsValue) (w : ℕ) (x : Listed) : Type 0 where
@@ -27,10 +27,10 @@ pub record IsUnderPin (active : ℕ → Bool) (v : ChainsValue) (w : ℕ) (x : L
 abbrev pub AreUnder : (ℕ → Bool) → ChainsValue → ℕ → List Listed → Type 0
 AreUnder active v w xs = AllByRecursion (IsUnderPin active v w) xs
 
--- so it is of each version of the groups, and of their mixed lists
+-- so it is of each version of the groups, and of their unclassified lists
 abbrev pub AreUnderPins : (ℕ → Bool) → ChainsValue → List GroupValue → Type 0
 AreUnderPins active v gs =
-    AllByRecursion (λ g. AreUnder active v g.pin g.versions × AreUnder active v g.pin g.mixed) gs
+    AllByRecursion (λ g. AreUnder active v g.pin g.versions × AreUnder active v g.pin g.unclassified) gs
 
 -- under whichever pin the old versions stand, the new ones do
 abbrev pub StayUnder : List Listed → List Listed → Type 0
@@ -39,22 +39,22 @@ StayUnder old new = (active : ℕ → Bool) (v : ChainsValue) (w : ℕ) → AreU
 -- so do those of a group
 abbrev pub GroupStaysUnder : GroupValue → GroupValue → Type 0
 GroupStaysUnder g h =
-    (active : ℕ → Bool) (v : ChainsValue) (w : ℕ) → AreUnder active v w g.versions → AreUnder active v w g.mixed
-    → AreUnder active v w h.versions × AreUnder active v w h.mixed
+    (active : ℕ → Bool) (v : ChainsValue) (w : ℕ) → AreUnder active v w g.versions → AreUnder active v w g.unclassified
+    → AreUnder active v w h.versions × AreUnder active v w h.unclassified
 
 -- with more versions
 abbrev pub GroupTakesUnder : GroupValue → List Listed → GroupValue → Type 0
 GroupTakesUnder g more h =
-    (active : ℕ → Bool) (v : ChainsValue) (w : ℕ) → AreUnder active v w g.versions → AreUnder active v w g.mixed
+    (active : ℕ → Bool) (v : ChainsValue) (w : ℕ) → AreUnder active v w g.versions → AreUnder active v w g.unclassified
     → AreUnder active v w more
-    → AreUnder active v w h.versions × AreUnder active v w h.mixed
+    → AreUnder active v w h.versions × AreUnder active v w h.unclassified
 
 -- with those of another group
 abbrev pub GroupsJoinUnder : GroupValue → GroupValue → GroupValue → Type 0
 GroupsJoinUnder g other h =
-    (active : ℕ → Bool) (v : ChainsValue) (w : ℕ) → AreUnder active v w g.versions → AreUnder active v w g.mixed
-    → AreUnder active v w other.versions → AreUnder active v w other.mixed
-    → AreUnder active v w h.versions × AreUnder active v w h.mixed
+    (active : ℕ → Bool) (v : ChainsValue) (w : ℕ) → AreUnder active v w g.versions → AreUnder active v w g.unclassified
+    → AreUnder active v w other.versions → AreUnder active v w other.unclassified
+    → AreUnder active v w h.versions × AreUnder active v w h.unclassified
 
 -- each group of these stands under its pin where each of those does
 abbrev pub GroupsStayUnder : List GroupValue → List GroupValue → Type 0
@@ -71,7 +71,7 @@ MoveUnderPins bs gs hs =
 -- the number of the version that n sees of a key's chain, where it has one
 abbrev pub number_seen : ℕ → Option ChainValue → Option ℕ
 number_seen n None = None
-number_seen n (Some c) = number_at n c
+number_seen n (Some c) = seen_number n c
 
 -- the numbers below n see of the key's chain what they saw, and where it has changed its newest has number n
 pub record IsAddedTo (n : ℕ) (o p : Option ChainValue) : Type 0 where

@@ -3,9 +3,9 @@ use Rattle.std.specs.List.{AllByRecursion}
 use Rattle.std.specs.Prelude.{◌≡◌, ◌≤◌, ◌+◌, ◌-◌, ℕ, List, ◌∷◌, take, get_or, false}
 use Rattle.versions.specs.Chains.{Chains, IsKept}
 use Rattle.versions.specs.Groups.{GroupValue, Listed}
-use Rattle.versions.specs.Listings.{AreAmong, AreFound, AreIn, AreKept, AreMixedSettled, AreOfBoth, AreSeenFrom}
-use Rattle.versions.specs.Listings.{IsAllReclaimed, IsListed, IsPartReclaimed, IsSettled, IsTrulyMixed, StaySettled}
-use Rattle.versions.specs.Listings.{lists_in, pins}
+use Rattle.versions.specs.Listings.{AreAmong, AreFound, AreIn, AreKept, AreUnclassifiedCollected, AreOfBoth}
+use Rattle.versions.specs.Listings.{AreSeenFrom, IsAllReclaimed, IsListed, IsPartReclaimed, IsCollected}
+use Rattle.versions.specs.Listings.{IsTrulyUnclassified, StayCollected, lists_in, pins}
 use Rattle.versions.specs.Meaning.{garbage_for, garbage_in, is_among, lists_a_step}
 use Rattle.versions.specs.Pins.{GroupStaysUnder, GroupTakesUnder, GroupsJoinUnder, GroupsStayUnder}
 use Rattle.versions.specs.Pins.{MoveUnderPins, StayUnder}
@@ -17,10 +17,10 @@ pub record ReclaimsChains (bs : List ℕ) (old new : Chains) : Type 0 where
 
 -- ---- listed versions
 
--- Each version that is left is settled, and one that is no longer listed is no longer in its chain. A number that saw
+-- Each version that is left is collected, and one that is no longer listed is no longer in its chain. A number that saw
 -- all of them sees all that are left, and they stand under each pin that all of them stood under.
 pub record DropsUnseen (bs : List ℕ) (chains : Chains) (old new : List Listed) : Type 0 where
-  pub settled : AllByRecursion (IsSettled bs chains) new
+  pub collected : AllByRecursion (IsCollected bs chains) new
   pub left : AreKept old new chains
   pub seen : (n : ℕ) → AreSeenFrom n old → AreSeenFrom n new
   pub each : StayUnder old new
@@ -35,19 +35,19 @@ pub record DropsFromGroup (chains : Chains) (w : ℕ) (g h : GroupValue) : Type 
   pub left : AreKept g.versions h.versions chains
   pub each : GroupStaysUnder g h
 
--- where no list of the group is garbage, each of its versions is settled; those of its mixed lists are in any case, and
--- these are truly mixed
+-- where no list of the group is garbage, each of its versions is collected; those of its unclassified lists are in any
+-- case, and these are truly unclassified
 pub record IsLookedAfter (bs : List ℕ) (chains : Chains) (g : GroupValue) : Type 0 where
-  pub settled : garbage_for bs g ≡ 0 → AllByRecursion (IsSettled bs chains) g.versions
-  pub mixed : AllByRecursion (IsSettled bs chains) g.mixed
-  pub truly : IsTrulyMixed bs g
+  pub collected : garbage_for bs g ≡ 0 → AllByRecursion (IsCollected bs chains) g.versions
+  pub unclassified : AllByRecursion (IsCollected bs chains) g.unclassified
+  pub truly : IsTrulyUnclassified bs g
 
--- the group lists its versions and these, and what was settled of both, or stood under a pin with them, does still
+-- the group lists its versions and these, and what was collected of both, or stood under a pin with them, does still
 pub record TakesVersions (bs : List ℕ) (g : GroupValue) (more : List Listed) (h : GroupValue) : Type 0 where
   pub found : AreIn g.versions h.versions
   pub kept : AreIn more h.versions
-  pub settled : StaySettled bs g.versions more h.versions
-  pub mixed : StaySettled bs g.mixed more h.mixed
+  pub collected : StayCollected bs g.versions more h.versions
+  pub unclassified : StayCollected bs g.unclassified more h.unclassified
   pub each : GroupTakesUnder g more h
 
 -- the group has so many lists more, none of them garbage, under the same pin
@@ -60,8 +60,8 @@ pub record TakesLists (g : GroupValue) (count : ℕ) (h : GroupValue) : Type 0 w
 pub record TakesGroup (g other h : GroupValue) : Type 0 where
   pub found : AreOfBoth g.versions other.versions h.versions
   pub garbage : (bs : List ℕ) → garbage_for bs h ≡ garbage_for bs g + garbage_for bs other
-  pub truly : (bs : List ℕ) → IsTrulyMixed bs g → IsTrulyMixed bs other → IsTrulyMixed bs h
-  pub mixed : (bs : List ℕ) → StaySettled bs g.mixed other.mixed h.mixed
+  pub truly : (bs : List ℕ) → IsTrulyUnclassified bs g → IsTrulyUnclassified bs other → IsTrulyUnclassified bs h
+  pub unclassified : (bs : List ℕ) → StayCollected bs g.unclassified other.unclassified h.unclassified
   pub each : GroupsJoinUnder g other h
 
 -- ---- all groups
@@ -73,13 +73,13 @@ pub record ReclaimsStep (bs : List ℕ) (old new : Chains) (gs hs : List GroupVa
   pub all : garbage_in bs hs ≡ 0 → IsAllReclaimed bs old new
 
 -- The groups after a step: each older version of the chains is listed, in no more lists than before, and its pin is one
--- of the numbers or 0; what is mixed is truly mixed and settled.
+-- of the numbers or 0; what is unclassified is truly unclassified and collected.
 pub record AreLookedAt (bs : List ℕ) (chains : Chains) (gs hs : List GroupValue) : Type 0 where
   pub listed : IsListed chains hs
   pub lists : lists_in hs ≤ lists_in gs
   pub active : AreAmong (0 ∷ bs) (pins hs)
-  pub truly : AllByRecursion (IsTrulyMixed bs) hs
-  pub mixed : AreMixedSettled bs chains hs
+  pub truly : AllByRecursion (IsTrulyUnclassified bs) hs
+  pub unclassified : AreUnclassifiedCollected bs chains hs
   pub each : MoveUnderPins bs gs hs
 
 -- the groups list what they listed, under pins that they had: as many lists are garbage, and what held of each group
@@ -88,8 +88,9 @@ pub record KeepsListed (gs hs : List GroupValue) : Type 0 where
   pub found : AreFound gs hs
   pub garbage : (bs : List ℕ) → garbage_in bs hs ≡ garbage_in bs gs
   pub active : (bs : List ℕ) → AreAmong bs (pins gs) → AreAmong bs (pins hs)
-  pub truly : (bs : List ℕ) → AllByRecursion (IsTrulyMixed bs) gs → AllByRecursion (IsTrulyMixed bs) hs
-  pub mixed : (bs : List ℕ) (chains : Chains) → AreMixedSettled bs chains gs → AreMixedSettled bs chains hs
+  pub truly : (bs : List ℕ) → AllByRecursion (IsTrulyUnclassified bs) gs → AllByRecursion (IsTrulyUnclassified bs) hs
+  pub unclassified : (bs : List ℕ) (chains : Chains) → AreUnclassifiedCollected bs chains gs
+      → AreUnclassifiedCollected bs chains hs
   pub each : GroupsStayUnder gs hs
 
 -- the groups are the same, and none before place i has the pin of the group there

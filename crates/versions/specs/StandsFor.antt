@@ -6,7 +6,7 @@ use Rattle.model.specs.Dependency.{writes_key}
 use Rattle.model.specs.History.{Record, map_at}
 use Rattle.model.specs.Map.{Bytes, KeyMap, KeyWrite, IsMap, value_at}
 use Rattle.versions.specs.Chains.{ChainsValue}
-use Rattle.versions.specs.Listings.{IsUnmixed}
+use Rattle.versions.specs.Listings.{IsClassified}
 use Rattle.versions.specs.Meaning.{map_seen, newest_of, is_among}
 use Rattle.versions.specs.Pins.{AreUnderPins}
 
@@ -48,9 +48,9 @@ StandWhereAmong bs old new = (active : ℕ → Bool) (base : KeyMap) (history : 
     → StandsFor old active base history
     → StandsFor new (λ n. active n && is_among bs n) base history
 
--- no list is mixed where each of these numbers was active
-abbrev pub UnmixedWhereActive : List ℕ → ChainsValue → ChainsValue → Type 0
-UnmixedWhereActive bs old new =
+-- no list is unclassified where each of these numbers was active
+abbrev pub ClassifiedWhereActive : List ℕ → ChainsValue → ChainsValue → Type 0
+ClassifiedWhereActive bs old new =
     (active : ℕ → Bool) (base : KeyMap) (history : List Record) → StandsFor old active base history
     → ((n : ℕ) → IsTrue (is_among bs n) → IsTrue (active n))
-    → AllByRecursion IsUnmixed new.groups
+    → AllByRecursion IsClassified new.groups

@@ -131,12 +131,12 @@ impl Chain {
             several.as_mut().reclaim(begins);
         }
         if self.len() == 1 {
-            self.give_back();
+            self.free_spare();
         }
     }
 
     // Frees the room for more versions than the newest.
-    fn give_back(&mut self)
+    fn free_spare(&mut self)
         requires { self.old.older ≡ [] }
         ensures { self.new ≡ fresh_chain self.old.newest 0 }
     {

@@ -6,8 +6,8 @@ ghost use Rattle.std.specs.FinMap.Entries.{is_sorted};
 ghost use Rattle.std.specs.Vec.{vec_len, vec_capacity};
 ghost use Rattle.model.specs.Map.{Bytes};
 ghost use Rattle.sorted_pages.specs.Pages.{entries, room_at};
-ghost use Rattle.versions.specs.Chains.{HasPlaceAt, HasRoom, IsAddedAt, IsKept, IsReady, IsRoomier, WhereRoom};
-ghost use Rattle.versions.specs.Chains.{find_chain, stamped};
+ghost use Rattle.versions.specs.Chains.{HasPlaceAt, ChainHasRoom, IsAddedAt, IsKept, CanAddVersion, AreRoomier};
+ghost use Rattle.versions.specs.Chains.{WhereRoom, find_chain, stamped};
 ghost use Rattle.versions.specs.Listings.{followed};
 ghost use Rattle.versions.specs.Installing.{AddsWrites, HaveRoom, ListsFollowed, ListsMore};
 
@@ -43,9 +43,9 @@ pub(crate) fn make_room(
     n: usize,
 ) -> Result<(), AllocError>
     requires { T (is_sorted (slice_cmp nat_cmp) (entries chains.old)) }
-    ensures chains { IsRoomier (entries chains.old) (entries chains.new) }
+    ensures chains { AreRoomier (entries chains.old) (entries chains.new) }
     ensures rooms { (q : Bytes) → room_at q chains.old ≤ room_at q chains.new }
-    ensures room { OnOk result (HasRoom (find_chain key.entry.bytes.now (entries chains.new))) }
+    ensures room { OnOk result (ChainHasRoom (find_chain key.entry.bytes.now (entries chains.new))) }
     ensures place { OnOk result (HasPlaceAt n key.entry.bytes.now chains.new (entries chains.new)) }
     ensures known { WhereRoom n key.entry.bytes.now chains.old (entries chains.old) (IsOk result) }
 {
@@ -58,7 +58,7 @@ pub(crate) fn make_room(
 // Adds the version that commit `n` leaves, in the room that was made for it, and lists the one before it.
 fn add(chains: &mut SortedPages<Chain>, listed: &mut Vec<OldVersion>, n: u64, write: Write)
     requires sorted { T (is_sorted (slice_cmp nat_cmp) (entries chains.old)) }
-    requires ready { IsReady n (find_chain write.0 (entries chains.old)) }
+    requires ready { CanAddVersion n (find_chain write.0 (entries chains.old)) }
     requires place { HasPlaceAt 1 write.0 chains.old (entries chains.old) }
     requires listed_spare { 1 ≤ vec_capacity listed.old - vec_len listed.old }
     ensures chains { IsAddedAt write.0 (stamped n write.1) (entries chains.old) (entries chains.new) }

@@ -56,27 +56,28 @@ pub(crate) struct Group {
     pub(crate) garbage: LinkedList<Vec<OldVersion>>,
     // lists that were looked at and are needed, though the pin isn't active or doesn't see all of them. Each call looks at them. There are
     // none as long as each number that becomes active is at least the last commit's
-    pub(crate) mixed: LinkedList<Vec<OldVersion>>,
+    pub(crate) unclassified: LinkedList<Vec<OldVersion>>,
 }
 
 impl Model for Group {
     ghost use Rattle.std.specs.Prelude.{◌+◌, ◌<◌, ◌^◌, ◌++◌, length};
-    ghost use Rattle.versions.specs.Listings.{AreFilled, AreSeenFrom, versions_in};
+    ghost use Rattle.versions.specs.Listings.{ListsAreFilled, AreSeenFrom, versions_in};
     ghost use Rattle.versions.specs.Groups.{GroupValue};
 
     ghost Value = { GroupValue };
 
     ghost view = { λ g. record {
       pin = g.pin;
-      versions = versions_in g.lists ++ (versions_in g.garbage ++ versions_in g.mixed);
-      mixed = versions_in g.mixed;
+      versions = versions_in g.lists ++ (versions_in g.garbage ++ versions_in g.unclassified);
+      unclassified = versions_in g.unclassified;
       seen = length g.lists;
       garbage = length g.garbage;
-      lists = length g.lists + length g.garbage + length g.mixed;
+      lists = length g.lists + length g.garbage + length g.unclassified;
     } };
 
     ghost invariant = { λ g.
-        AreSeenFrom g.pin (versions_in g.lists) × (length g.lists + length g.garbage + length g.mixed < 2 ^ 63) × AreFilled g.mixed };
+        AreSeenFrom g.pin (versions_in g.lists) × (length g.lists + length g.garbage + length g.unclassified < 2 ^ 63)
+        × ListsAreFilled g.unclassified };
 }
 
 impl Group {
@@ -84,7 +85,7 @@ impl Group {
     pub(crate) fn new(pin: u64, lists: LinkedList<Vec<OldVersion>>) -> Group
         requires { AreSeenFrom pin (versions_in lists) }
         ensures versions { result.versions ≡ versions_in lists }
-        ensures mixed { result.mixed ≡ [] }
+        ensures unclassified { result.unclassified ≡ [] }
         ensures pin { result.pin ≡ pin }
         ensures garbage { (bs : List ℕ) → garbage_for bs result ≤ length lists }
         ensures lists { result.lists ≡ length lists }
@@ -96,7 +97,7 @@ impl Group {
             pin,
             lists,
             garbage: LinkedList::new(alloc),
-            mixed: LinkedList::new(alloc),
+            unclassified: LinkedList::new(alloc),
         }
     }
 
@@ -112,7 +113,7 @@ impl Group {
         ensures value { result ≡ self.now.lists }
         ensures fits { result < 2 ^ 63 }
     {
-        self.lists.len() + self.garbage.len() + self.mixed.len()
+        self.lists.len() + self.garbage.len() + self.unclassified.len()
     }
 
     // Is there no list?

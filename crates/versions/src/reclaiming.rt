@@ -9,8 +9,8 @@ ghost use Rattle.std.specs.Vec.{vec_len};
 ghost use Rattle.sorted_pages.specs.Pages.{entries};
 ghost use Rattle.versions.specs.Chains.{IsKept, IsReclaimedAt, find_chain};
 ghost use Rattle.versions.specs.Pins.{GroupStaysUnder};
-ghost use Rattle.versions.specs.Listings.{AreApart, AreFilled, AreIn, CanJoin, IsListed, IsTakenIn, IsTrulyMixed};
-ghost use Rattle.versions.specs.Listings.{has_version, lists_in, versions_in, pin_for, pins};
+ghost use Rattle.versions.specs.Listings.{AreApart, ListsAreFilled, AreIn, CanJoin, IsListed, IsTakenIn};
+ghost use Rattle.versions.specs.Listings.{IsTrulyUnclassified, has_version, lists_in, versions_in, pin_for, pins};
 ghost use Rattle.versions.specs.Reclaiming.{AreLookedAt, DropsFromGroup, DropsUnseen, IsLookedAfter, KeepsListed};
 ghost use Rattle.versions.specs.Reclaiming.{ReclaimsChains, ReclaimsStep, StaysApart, TakesGroup, TakesLists};
 ghost use Rattle.versions.specs.Reclaiming.{TakesVersions};
@@ -82,7 +82,7 @@ fn append(lists: &mut LinkedList<Vec<OldVersion>>, more: LinkedList<Vec<OldVersi
 }
 
 // Goes over the versions of the one list, as `drop_unseen` does.
-fn settle_first(
+fn collect_first(
     chains: &mut SortedPages<Chain>,
     lists: &mut LinkedList<Vec<OldVersion>>,
     begins: &[u64],
@@ -102,7 +102,7 @@ fn settle_first(
 }
 
 // Goes over the versions of each list, as `drop_unseen` does, and drops the lists that are then empty.
-fn settle_lists(
+fn collect_lists(
     chains: &mut SortedPages<Chain>,
     lists: &mut LinkedList<Vec<OldVersion>>,
     begins: &[u64],
@@ -111,7 +111,7 @@ fn settle_lists(
     requires kept { (last : ℕ) × IsKept (entries chains.old) last }
     requires next { IfSome next (λ n. IsTrue (is_among begins.now n)) }
     ensures fewer { length lists.new ≤ length lists.old }
-    ensures filled { AreFilled lists.new }
+    ensures filled { ListsAreFilled lists.new }
     ensures chains { ReclaimsChains begins.now (entries chains.old) (entries chains.new) }
     ensures versions { DropsUnseen begins.now (entries chains.new) (versions_in lists.old) (versions_in lists.new) }
 {
@@ -119,7 +119,7 @@ fn settle_lists(
     let mut rest = mem::replace(lists, LinkedList::new(alloc));
     for _ in 0..rest.len() {
         let mut first = take_front(&mut rest, 1);
-        settle_first(chains, &mut first, begins, next);
+        collect_first(chains, &mut first, begins, next);
         if !are_empty(&first) {
             append(lists, first);
         }
@@ -150,20 +150,21 @@ impl Group {
         self.pin = greatest_below(begins, self.pin);
     }
 
-    // Puts lists that were looked at under the pin, where it is active and sees all of them, and else with the mixed. Takes no memory.
+    // Puts lists that were looked at under the pin, where it is active and sees all of them, and else leaves them unclassified. Takes no
+    // memory.
     fn keep(&mut self, lists: LinkedList<Vec<OldVersion>>, begins: &[u64])
         requires fits { self.old.lists + length lists < 2 ^ 63 }
-        requires filled { AreFilled lists }
+        requires filled { ListsAreFilled lists }
         requires taken_in { IsTakenIn begins.now self.old }
         ensures versions { TakesVersions begins.now self.old (versions_in lists) self.new }
         ensures lists { TakesLists self.old (length lists) self.new }
         ensures taken_in { IsTakenIn begins.now self.new }
-        ensures truly { self.old.mixed ≡ [] → IsTrulyMixed begins.now self.new }
+        ensures truly { self.old.unclassified ≡ [] → IsTrulyUnclassified begins.now self.new }
     {
         if is_among(begins, self.pin) && are_seen_from(&lists, self.pin) {
             append(&mut self.lists, lists);
         } else {
-            append(&mut self.mixed, lists);
+            append(&mut self.unclassified, lists);
         }
     }
 
@@ -182,13 +183,13 @@ impl Group {
         }
         let pin = Some(self.pin).filter(|pin| is_among(begins, *pin));
         let mut lists = take_front(&mut self.garbage, count);
-        settle_lists(chains, &mut lists, begins, pin);
+        collect_lists(chains, &mut lists, begins, pin);
         self.keep(lists, begins);
     }
 
-    // Looks at the mixed lists, and puts them under the pin where it now sees all of them. If no list is garbage, the whole group was then
-    // looked at.
-    fn look_at_mixed(&mut self, chains: &mut SortedPages<Chain>, begins: &[u64])
+    // Looks at the unclassified lists, and puts them under the pin where it now sees all of them. If no list is garbage, the whole group
+    // was then looked at.
+    fn look_at_unclassified(&mut self, chains: &mut SortedPages<Chain>, begins: &[u64])
         requires taken_in { IsTakenIn begins.now self.old }
         requires kept { (last : ℕ) × IsKept (entries chains.old) last }
         ensures chains { ReclaimsChains begins.now (entries chains.old) (entries chains.new) }
@@ -196,13 +197,13 @@ impl Group {
         ensures garbage { garbage_for begins.now self.new ≡ self.old.garbage }
         ensures looked_after { IsLookedAfter begins.now (entries chains.new) self.new }
     {
-        if self.mixed.is_empty() {
+        if self.unclassified.is_empty() {
             return;
         }
-        let alloc = *self.mixed.allocator();
-        let mut mixed = mem::replace(&mut self.mixed, LinkedList::new(alloc));
-        settle_lists(chains, &mut mixed, begins, None);
-        self.keep(mixed, begins);
+        let alloc = *self.unclassified.allocator();
+        let mut unclassified = mem::replace(&mut self.unclassified, LinkedList::new(alloc));
+        collect_lists(chains, &mut unclassified, begins, None);
+        self.keep(unclassified, begins);
     }
 
     // Takes in which numbers are active, looks at up to `most` of the garbage lists, and answers how many fewer than `most` it looked at.
@@ -217,7 +218,7 @@ impl Group {
         self.take_in(begins);
         let count = self.garbage().min(most);
         self.look_at_garbage(chains, begins, count);
-        self.look_at_mixed(chains, begins);
+        self.look_at_unclassified(chains, begins);
         most - count
     }
 
@@ -230,7 +231,7 @@ impl Group {
     {
         append(&mut self.lists, other.lists);
         append(&mut self.garbage, other.garbage);
-        append(&mut self.mixed, other.mixed);
+        append(&mut self.unclassified, other.unclassified);
     }
 }
 

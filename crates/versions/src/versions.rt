@@ -7,18 +7,18 @@ ghost use Rattle.std.specs.Cmp.Lexicographic.{slice_cmp};
 ghost use Rattle.std.specs.FinMap.Entries.{is_sorted};
 ghost use Rattle.model.specs.KeyBytes.{end_bytes};
 ghost use Rattle.model.specs.Map.{value_at, pairs_in_range};
-ghost use Rattle.versions.specs.Chains.{IsPrepared, HasPlaceAt, HasRoom, WhereRoom, find_chain};
-ghost use Rattle.versions.specs.Meaning.{map_seen, newest_of, kept_of};
+ghost use Rattle.versions.specs.Chains.{IsPrepared, HasPlaceAt, ChainHasRoom, WhereRoom, find_chain};
+ghost use Rattle.versions.specs.Meaning.{map_seen, newest_of, versions_kept};
 ghost use Rattle.versions.specs.Meaning.{garbage_of, groups_of, IsSameMeaning, IsInstalled};
 ghost use Rattle.versions.specs.Meaning.{IsReclaimed};
 ghost use Rattle.versions.specs.Meaning.{IsReclaimedInPart};
 ghost use Rattle.sorted_pages.specs.Pages.{places_in};
 ghost use Rattle.std.specs.List.{AllByRecursion};
-ghost use Rattle.versions.specs.Listings.{IsTrulyMixed};
+ghost use Rattle.versions.specs.Listings.{IsTrulyUnclassified};
 ghost use Rattle.versions.specs.Installing.{HasMoreRoom};
 ghost use Rattle.versions.specs.Lent.{range_pairs};
 ghost use Rattle.versions.specs.StandsFor.{StandForSame, StandWithCommit, StandWhereAmong, StandsFor};
-ghost use Rattle.versions.specs.StandsFor.{UnmixedWhereActive};
+ghost use Rattle.versions.specs.StandsFor.{ClassifiedWhereActive};
 
 use crate::chain::Chain;
 use crate::installing::{add_all, make_room};
@@ -35,7 +35,7 @@ use std::marker::Model;
 use std::mem;
 
 /// The versions of all keys, in sorted pages. A clause sees the map that each number sees (`map_seen`), the number of each
-/// key's newest version (`newest_of`), how many versions of it are kept (`kept_of`), and the histories that these stand for
+/// key's newest version (`newest_of`), how many versions of it are kept (`versions_kept`), and the histories that these stand for
 /// (`StandsFor`).
 #[derive(Drop)]
 pub struct Versions {
@@ -125,7 +125,7 @@ impl Versions {
 
     /// How many versions of the key are kept; a deletion counts too. Takes no memory.
     pub fn kept(&self, key: KeyRef<'_>) -> usize
-        ensures { result ≡ kept_of self.now key.entry.bytes.now }
+        ensures { result ≡ versions_kept self.now key.entry.bytes.now }
     {
         match self.chains.get(key) {
             Some(chain) => chain.len(),
@@ -157,7 +157,7 @@ impl Versions {
     // Makes room for a version in the key's chain, or for `n` new chains where it would stand.
     fn make_room(&mut self, key: KeyRef<'_>, n: usize) -> Result<(), AllocError>
         ensures roomier { HasMoreRoom self.old self.new }
-        ensures room { OnOk result (HasRoom (find_chain key.entry.bytes.now self.new.chains)) }
+        ensures room { OnOk result (ChainHasRoom (find_chain key.entry.bytes.now self.new.chains)) }
         ensures place { OnOk result (HasPlaceAt n key.entry.bytes.now self.new.pages self.new.chains) }
         ensures known { WhereRoom n key.entry.bytes.now self.old.pages self.old.chains (IsOk result) }
     {
@@ -214,15 +214,15 @@ impl Versions {
     /// wait for those that an old number left. For each version in a list it walks the key's chain once, against the numbers themselves,
     /// and called again with the same numbers it ends. Takes no memory: where the lists of two commits come under one pin, they are linked.
     /// The lists under one pin are one group, so there are no more groups than numbers and one. Lists that are needed though their pin
-    /// isn't active, or doesn't see all of them, are mixed, and each call looks at them; no others are mixed. Where each of the numbers was
-    /// active at the calls before, or is at least that of the last commit, there are none.
+    /// isn't active, or doesn't see all of them, are unclassified, and each call looks at them; no others are unclassified. Where each of
+    /// the numbers was active at the calls before, or is at least that of the last commit, there are none.
     pub fn reclaim_step(&mut self, begins: &[u64]) -> bool
         ensures reclaimed { IsReclaimedInPart self.old self.new begins.now }
         ensures all { result ≡ false → IsReclaimed self.old self.new begins.now }
         ensures still { result ≡ nat_lt 0 (garbage_of begins.now self.new) }
         ensures few { groups_of self.new ≤ length begins.now + 1 }
-        ensures mixed { AllByRecursion (IsTrulyMixed begins.now) self.new.groups }
-        ensures unmixed { UnmixedWhereActive begins.now self.old self.new }
+        ensures unclassified { AllByRecursion (IsTrulyUnclassified begins.now) self.new.groups }
+        ensures classified { ClassifiedWhereActive begins.now self.old self.new }
         ensures stands { StandWhereAmong begins.now self.old self.new }
     {
         reclaim_versions(&mut self.chains, &mut self.groups, begins)
@@ -232,14 +232,14 @@ impl Versions {
     /// that is the newest version of its key stays.
     ///
     /// It takes the steps of `reclaim_step` until no list is garbage. So its time grows with the versions in the garbage lists, for each of
-    /// which it walks its key's chain against the numbers, and where lists are mixed, with the versions in them for each step. Takes no
-    /// memory.
+    /// which it walks its key's chain against the numbers, and where lists are unclassified, with the versions in them for each step. Takes
+    /// no memory.
     pub fn reclaim(&mut self, begins: &[u64])
         ensures reclaimed { IsReclaimed self.old self.new begins.now }
         ensures no_garbage { garbage_of begins.now self.new ≡ 0 }
         ensures few { groups_of self.new ≤ length begins.now + 1 }
-        ensures mixed { AllByRecursion (IsTrulyMixed begins.now) self.new.groups }
-        ensures unmixed { UnmixedWhereActive begins.now self.old self.new }
+        ensures unclassified { AllByRecursion (IsTrulyUnclassified begins.now) self.new.groups }
+        ensures classified { ClassifiedWhereActive begins.now self.old self.new }
         ensures stands { StandWhereAmong begins.now self.old self.new }
     {
         'steps: while self.reclaim_step(begins) {}

@@ -10,7 +10,7 @@ use Rattle.std.specs.Prelude.{nat_lt, is_some, IsTrue, ◌↔◌}
 use Rattle.std.specs.declared.cmp.Ordering.TheVariants.{Less, Equal, Greater}
 use Rattle.model.specs.Entries.{IsAt, IsGap}
 use Rattle.model.specs.Map.{Bytes, KeyWrite, key_cmp}
-use Rattle.write_buffer.specs.Buffered.{AreEntries, IsWithinLimits, is_full_for, written}
+use Rattle.write_buffer.specs.Buffered.{AreEntries, IsWithinLimits, is_full_for_key, last_write}
 use Rattle.write_buffer.specs.declared.faults.WritesFault.{WritesFault}
 use Rattle.write_buffer.specs.declared.faults.WritesFault.TheVariants.{FullWrites}
 
@@ -29,17 +29,17 @@ few-put true few n m room le lt e = omega arith
 few-put false true n m room le lt e = let l = lt refl in omega arith
 few-put false false n m room le lt e = absurd (both_ways true room refl)
 
-pub entries-put : (k : Bytes) (v : Option Bytes) (ws : List KeyWrite) → AreEntries ws → IsWithinLimits (k, v) → is_full_for ws k ≡ false
+pub entries-put : (k : Bytes) (v : Option Bytes) (ws : List KeyWrite) → AreEntries ws → IsWithinLimits (k, v) → is_full_for_key ws k ≡ false
     → AreEntries (put (slice_cmp nat_cmp) k v ws)
 entries-put k v ws h p room = record {
   sorted = is_sorted-put (slice_cmp nat_cmp) nat_list_cmp_total k v ws h.sorted;
-  few = few-put (is_some (written ws k)) (nat_lt (length ws) 64) (length ws) (length (put (slice_cmp nat_cmp) k v ws)) room h.few
+  few = few-put (is_some (last_write ws k)) (nat_lt (length ws) 64) (length ws) (length (put (slice_cmp nat_cmp) k v ws)) room h.few
       (λ t. ltb-true (length ws) 64 t) (length-put (slice_cmp nat_cmp) nat_list_cmp_total k v ws h.sorted);
   within = within-put k v ws p h.within;
 }
 
 -- the write is there
-pub not_full : (ws : List KeyWrite) (k : Bytes) (o : Option Bytes) → written ws k ≡ Some o → is_full_for ws k ≡ false
+pub not_full : (ws : List KeyWrite) (k : Bytes) (o : Option Bytes) → last_write ws k ≡ Some o → is_full_for_key ws k ≡ false
 not_full ws k o e = ap (λ w. not (is_some w) && not (nat_lt (length ws) 64)) e
 
 pub only_full : (r : Result (Unit {0}) WritesFault) (b : Bool) → (r ≡ Err FullWrites → ⊥) → b ≡ false → (r ≡ Err FullWrites) ↔ IsTrue b
@@ -59,5 +59,5 @@ insert_there ws us k j b i f v same gap key made new =
     ∙ ap (λ (q : Bytes). put (slice_cmp nat_cmp) q v ws) key
 
 pub entries-put_as : (ws us gs : List KeyWrite) (k : Bytes) (v : Option Bytes) → us ≡ ws → gs ≡ put (slice_cmp nat_cmp) k v ws → AreEntries us
-    → IsWithinLimits (k, v) → is_full_for ws k ≡ false → AreEntries gs
+    → IsWithinLimits (k, v) → is_full_for_key ws k ≡ false → AreEntries gs
 entries-put_as ws us gs k v same is h p room = subst AreEntries (sym is) (entries-put k v ws (subst AreEntries same h) p room)

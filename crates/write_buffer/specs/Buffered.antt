@@ -8,16 +8,16 @@ use Rattle.model.specs.Bounds.{value_max}
 use Rattle.model.specs.Map.{Bytes, KeyWrite}
 
 -- the last write of the key
-abbrev pub written : List KeyWrite → Bytes → Option (Option Bytes)
-written ws k = find (slice_cmp nat_cmp) k ws
+abbrev pub last_write : List KeyWrite → Bytes → Option (Option Bytes)
+last_write ws k = find (slice_cmp nat_cmp) k ws
 
 -- the writes with this one
 abbrev pub with_write : List KeyWrite → Bytes → Option Bytes → List KeyWrite
 with_write ws k v = put (slice_cmp nat_cmp) k v ws
 
 -- the key isn't written, and there is no room for one more
-abbrev pub is_full_for : List KeyWrite → Bytes → Bool
-is_full_for ws k = not (is_some (written ws k)) && not (nat_lt (length ws) 64)
+abbrev pub is_full_for_key : List KeyWrite → Bytes → Bool
+is_full_for_key ws k = not (is_some (last_write ws k)) && not (nat_lt (length ws) 64)
 
 abbrev pub IsShortValue : Option Bytes → Type 0
 IsShortValue None = ⊤

@@ -2,7 +2,7 @@
 ghost use Rattle.std.specs.Prelude.{◌≡◌, ◌≤◌, ◌↔◌, [], length, IsTrue, IsOk, IfOk, IfErr, OnOk, OnErr, Err, Some};
 ghost use Rattle.std.specs.Prelude.{None, is_some, option_map, false};
 ghost use Rattle.model.specs.Entries.{IsAt, IsGap};
-ghost use Rattle.write_buffer.specs.Buffered.{AreEntries, written, with_write, is_full_for, IsShortValue};
+ghost use Rattle.write_buffer.specs.Buffered.{AreEntries, last_write, with_write, is_full_for_key, IsShortValue};
 ghost use Rattle.write_buffer.specs.Written.{written_lent, IsShortWritten};
 
 use crate::faults::WritesFault;
@@ -52,7 +52,7 @@ impl WriteBuffer {
 
     /// What was last written to the key; a value has `VALUE_MAX` bytes at most. Takes no memory.
     pub fn get(&self, key: KeyRef<'_>) -> Written<'_>
-        ensures last { written_lent result ≡ written self.now key.entry.bytes.now }
+        ensures last { written_lent result ≡ last_write self.now key.entry.bytes.now }
         ensures short { IsShortWritten result }
     {
         match self.search(key.bytes()) {
@@ -71,7 +71,7 @@ impl WriteBuffer {
         ensures ok { OnOk result (self.new ≡ with_write self.old key.entry.bytes.now (Some value.now)) }
         ensures err { OnErr result (self.new ≡ self.old) }
         ensures entries { AreEntries self.new }
-        ensures full { (result ≡ Err WritesFault.FullWrites) ↔ IsTrue (is_full_for self.old key.entry.bytes.now) }
+        ensures full { (result ≡ Err WritesFault.FullWrites) ↔ IsTrue (is_full_for_key self.old key.entry.bytes.now) }
     {
         if self.is_full_for(key) {
             return Err(WritesFault::FullWrites);
@@ -88,8 +88,8 @@ impl WriteBuffer {
         ensures ok { OnOk result (self.new ≡ with_write self.old key.entry.bytes.now None) }
         ensures err { OnErr result (self.new ≡ self.old) }
         ensures entries { AreEntries self.new }
-        ensures full { (result ≡ Err WritesFault.FullWrites) ↔ IsTrue (is_full_for self.old key.entry.bytes.now) }
-        ensures known { IsTrue (is_some (written self.old key.entry.bytes.now)) → IsOk result }
+        ensures full { (result ≡ Err WritesFault.FullWrites) ↔ IsTrue (is_full_for_key self.old key.entry.bytes.now) }
+        ensures known { IsTrue (is_some (last_write self.old key.entry.bytes.now)) → IsOk result }
     {
         if self.is_full_for(key) {
             return Err(WritesFault::FullWrites);
@@ -100,7 +100,7 @@ impl WriteBuffer {
 
     // Is the key new, and is there no room for one more?
     fn is_full_for(&self, key: KeyRef<'_>) -> bool
-        ensures full { result ≡ is_full_for self.now key.entry.bytes.now }
+        ensures full { result ≡ is_full_for_key self.now key.entry.bytes.now }
         ensures entries { AreEntries self.now }
     {
         match self.search(key.bytes()) {
@@ -111,12 +111,12 @@ impl WriteBuffer {
 
     // Puts the value to the key, for which there is room.
     fn write(&mut self, key: KeyRef<'_>, value: Option<Vec<u8>>) -> Result<(), Memory>
-        requires room { is_full_for self.old key.bytes.now ≡ false }
+        requires room { is_full_for_key self.old key.bytes.now ≡ false }
         requires short { IsShortValue (option_map (λ v. v.items) value) }
         ensures ok { OnOk result (self.new ≡ with_write self.old key.entry.bytes.now (option_map (λ v. v.items) value)) }
         ensures err { OnErr result (self.new ≡ self.old) }
         ensures entries { AreEntries self.new }
-        ensures known { IsTrue (is_some (written self.old key.entry.bytes.now)) → IsOk result }
+        ensures known { IsTrue (is_some (last_write self.old key.entry.bytes.now)) → IsOk result }
     {
         match self.search(key.bytes()) {
             Ok(i) => self.entries[i].set_value(value),

@@ -39,6 +39,6 @@ returns g c =
     let given = c.in_ok-count.ensures.count in
     Made c.in_ok-found.found.1 c.in_ok-found.found.0 c.copy_sectors-needed.result c.in_ok-device.device c.copy_device-copied.new.device
     c.copy_device-copied.result c.read_file.new.files c.create.new.self
-    c.close.new.self c.copy_device-copied.new.out c.may_tell.new.err c.in_ok-found.ensures needs not_few makes c.may_tell.ensures
+    c.close.new.self c.copy_device-copied.new.out c.may_report.new.err c.in_ok-found.ensures needs not_few makes c.may_report.ensures
     (c.copy_device-copied.ensures.copies (omega (arith, room, size, given)))
     c.close.ensures

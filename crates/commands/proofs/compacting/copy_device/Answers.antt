@@ -3,7 +3,7 @@ use Rattle.std.proofs.Common.{◌≡◌, arith, ap, refl, subst, Ok, Err}
 use Rattle.std.proofs.lemmas.Result.{err_from_is_err_and}
 use Rattle.commit_log.specs.declared.faults.LogFault.TheVariants.{Full}
 use Rattle.commands.specs.Compacting.Copies.{NotCopied, Copied}
-use Rattle.commands.specs.LogCounts.{line_of}
+use Rattle.commands.specs.LogCounts.{counts_line}
 
 pub returns-in_err-counts-clause-copies : goal.returns-in_err-counts-clause-copies
 returns-in_err-counts-clause-copies g c room =
@@ -18,7 +18,7 @@ returns-in_err-counts-clause-copies g c room =
 pub returns-in_err-print_counts-clause-copies : goal.returns-in_err-print_counts-clause-copies
 returns-in_err-print_counts-clause-copies g c room =
     let p = err_from_is_err_and c.from_residual-in_err-print_counts.result c.from_residual-in_err-print_counts.ensures.1 in
-    let printed = subst (λ k. g.O.Lines.writes c.args.out.now (line_of k) (Err c.in_err-print_counts.field-0.0) c.print_counts.new.out)
+    let printed = subst (λ k. g.O.Lines.writes c.args.out.now (counts_line k) (Err c.in_err-print_counts.field-0.0) c.print_counts.new.out)
     c.in_ok-counts.ensures.counted c.in_err-print_counts.ensures in
     rw p.1 (Copied tt (Err c.in_err-print_counts.field-0.0) (Err p.0) c.copy_counts.new.device c.print_counts.new.out (record {
       fault = c.in_ok-counts.ensures.fault;
@@ -28,7 +28,7 @@ returns-in_err-print_counts-clause-copies g c room =
 
 pub returns-clause-copies : goal.returns-clause-copies
 returns-clause-copies g c room =
-    let printed = subst (λ k. g.O.Lines.writes c.args.out.now (line_of k) (Ok c.in_ok-print_counts.field-0) c.print_counts.new.out)
+    let printed = subst (λ k. g.O.Lines.writes c.args.out.now (counts_line k) (Ok c.in_ok-print_counts.field-0) c.print_counts.new.out)
     c.in_ok-counts.ensures.counted c.in_ok-print_counts.ensures in
     Copied tt (Ok c.in_ok-print_counts.field-0) (Ok tt) c.copy_counts.new.device c.print_counts.new.out (record {
       fault = c.in_ok-counts.ensures.fault;

@@ -20,7 +20,7 @@ returns-then-is_same-clause-first g c keeps =
         record { size_is = settles.settled.size_is ∙ c.sync.ensures.size; read = λ i s at. settles.was_read i s at; left = settles.was_left },
         settles.settled.read 0 c.read.new.into (c.in-Ok-read.ensures.gives keeps) ∙ ap (λ (s : List ℕ). Some s) (c.is_same.ensures.yes c.if-is_same.true),
       );
-      not_empty = λ told. absurd cc;
+      not_empty = λ is_so. absurd cc;
     }
 
 pub returns-else-is_same-clause-first : goal.returns-else-is_same-clause-first
@@ -29,7 +29,7 @@ returns-else-is_same-clause-first g c keeps =
     let settles = c.in-Ok.ensures.settles keeps in
     record {
       empty = tt;
-      not_empty = λ told. (
+      not_empty = λ is_so. (
         settles.image,
         record { size_is = settles.settled.size_is ∙ c.sync.ensures.size; read = λ i s at. settles.was_read i s at; left = settles.was_left },
         (λ zeros.

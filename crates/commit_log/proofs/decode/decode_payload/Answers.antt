@@ -8,7 +8,7 @@ use Rattle.commit_log.proofs.Parsing.{too_few, no_count, no_entry, not_rising, l
 use Rattle.commit_log.proofs.Parsing.{some_if}
 use Rattle.commit_log.proofs.decode.decode_payload.Goals.{then-count-lt1-via-then-count-lt1}
 use Rattle.commit_log.proofs.decode.decode_payload.Goals.{then-count-lt1-via-else-count-lt1+then-count-gt64}
-use Rattle.commit_log.specs.RecordFormat.{IsWithinLimits, IsRising}
+use Rattle.commit_log.specs.RecordFormat.{FitsFormat, IsRising}
 
 pub returns-in_default-clause-none : goal.returns-in_default-clause-none
 returns-in_default-clause-none c = too_few c.args.format c.args.bytes.now c.in_default.ensures.none
@@ -45,7 +45,7 @@ loop-i-preserved c =
       read = rw pushed (read_more c.args.bytes.now (big_bytes 4 c.in-Some.count) c.loop-i.rest.now c.in-Some-2.after.now c.loop-i.writes.items c.in-Some-2.write
           c.loop-i.invariant.read (rw c.in-Some-2.is at c.in_ok-write.ensures.some));
       number = omega (arith, ap length pushed, length-append c.loop-i.writes.items (c.in-Some-2.write ∷ []), c.loop-i.invariant.number);
-      limits = rw pushed (All-push (IsWithinLimits c.args.format) c.loop-i.writes.items c.in-Some-2.write c.loop-i.invariant.limits
+      limits = rw pushed (All-push (FitsFormat c.args.format) c.loop-i.writes.items c.in-Some-2.write c.loop-i.invariant.limits
           (rw c.in-Some-2.is at c.in_ok-write.ensures.limits));
       rising = rw pushed (subst (λ (l : List KeyWrite). IsRising (l ++ c.in-Some-2.write ∷ [])) deref
           (c.rises.ensures.yes c.if-not-rises.false (subst IsRising (sym deref) c.loop-i.invariant.rising)));

@@ -6,7 +6,7 @@ use Rattle.commit_log.proofs.Protocol.{Making, gate_written, gate_settled, head_
 use Rattle.commit_log.proofs.Records.{formatted, closed_gate_shut}
 use Rattle.commit_log.proofs.formatting.write_head.Given.{Over}
 use Rattle.commit_log.proofs.formatting.write_head.Goals.{After-write-2}
-use Rattle.commit_log.specs.RecordFormat.{is_open, closed_gate}
+use Rattle.commit_log.specs.RecordFormat.{is_gate_open, closed_gate}
 
 pub returns-clause-formatted : goal.returns-clause-formatted
 returns-clause-formatted g c keeps =
@@ -28,7 +28,7 @@ returns-clause-formatted g c keeps =
           (λ s at.
           let before = first.settled.read 1 s (c.write-2.ensures.others keeps 1 s other (second.was_read 1 s at)) in
           let zeros = c.in_ok-write.ensures.written keeps s (first.was_read 1 s before) in
-          ap is_open (zeros ∙ c.closed_gate.ensures) ∙ closed_gate_shut),
+          ap is_gate_open (zeros ∙ c.closed_gate.ensures) ∙ closed_gate_shut),
     )
 
 head : (g : Over) (c : After-write-2 g) → g.D.Sectors.keeps_model

@@ -6,7 +6,7 @@ use Rattle.commit_log.proofs.Parsing.{IsRead, first_read, all_read, too_short, n
 use Rattle.commit_log.proofs.read.read_record.Given.{Over}
 use Rattle.commit_log.proofs.read.read_record.Goals.{After-deref-2, then-sectors-body_max-via-then-sectors-body_max}
 use Rattle.commit_log.proofs.read.read_record.Goals.{then-sectors-body_max-via-else-sectors-body_max+then-sectors-count}
-use Rattle.commit_log.specs.Reading.{ReadsAs}
+use Rattle.commit_log.specs.Reading.{ReadsImage}
 use Rattle.commit_log.specs.RecordFormat.{sectors_for, padded_body}
 
 pub returns-then-count-at-lt2-clause-found : goal.returns-then-count-at-lt2-clause-found
@@ -32,7 +32,7 @@ returns-then-sectors-body_max-clause-found g c keeps image size reads =
     ])
 
 -- the sectors of the record were read
-whole : (g : Over) (c : After-deref-2 g) → g.D.Sectors.keeps_model → (image : List (List ℕ)) → ReadsAs (g.D.Sectors.may_read c.args.device.now) image
+whole : (g : Over) (c : After-deref-2 g) → g.D.Sectors.keeps_model → (image : List (List ℕ)) → ReadsImage (g.D.Sectors.may_read c.args.device.now) image
     → IsRead image c.args.at c.sectors_for-sectors.result c.read_sectors.new.bytes.items c.read_sectors-2.new.bytes.items
 whole g c keeps image reads =
     let long : length c.read_sectors.new.bytes.items ≡ 512 = omega (arith, c.in_ok-read_sectors.ensures.grown.long, ap length c.new-body.ensures.items) in
@@ -41,7 +41,7 @@ whole g c keeps image reads =
     (c.in_ok-read_sectors.ensures.bytes keeps image reads 0 (omega arith)) in
     let len : big_number 4 c.read_sectors.new.bytes.items ≡ c.read_u32.result =
     ap (λ (l : List ℕ). big_number 4 l) (sym c.deref.ensures.value) ∙ sym c.read_u32.ensures in
-    let mid : ReadsAs (g.D.Sectors.may_read c.read_sectors.new.device) image =
+    let mid : ReadsImage (g.D.Sectors.may_read c.read_sectors.new.device) image =
     λ i s read. reads i s ((c.in_ok-read_sectors.ensures.only_reads keeps).reads i s read) in
     record {
       there = there;

@@ -5,7 +5,7 @@ use Rattle.std.proofs.lemmas.Result.{err_from_is_err_and}
 use Rattle.sector.proofs.Crashes.{of_none}
 use Rattle.commit_log.proofs.Calls.{reads_joined}
 use Rattle.commit_log.proofs.Recovering.{read_fault, nothing_read, ended, damaged, more}
-use Rattle.commit_log.specs.Reading.{ReadsAs}
+use Rattle.commit_log.specs.Reading.{ReadsImage}
 
 pub records-init : goal.records-init
 records-init g c = record {
@@ -24,7 +24,7 @@ returns-then-sector-ne1-clause-found g c keeps image size reads =
     record {
       lists = read.lists;
       holds = ended c.args.format image _ _ _ _ _ read there c.if-sector-ne1.true;
-      tells = record { gate = read.gate_is; records = read.records_are; digest = read.digest_is; map = c.in_ok-map.ensures ∙ read.map_is };
+      reports = record { gate = read.gate_is; records = read.records_are; digest = read.digest_is; map = c.in_ok-map.ensures ∙ read.map_is };
     }
 
 pub returns-in_err-record-clause-found : goal.returns-in_err-record-clause-found
@@ -40,7 +40,7 @@ records-preserved g c = record {
   counted = omega (arith, c.records.invariant.counted);
   found = λ keeps image size reads.
       let there = reads _ _ ((c.records.invariant.only_reads keeps).reads _ _ (c.in-Ok.ensures.gives keeps)) in
-      let mid : ReadsAs (g.D.Sectors.may_read c.read.new.self) image =
+      let mid : ReadsImage (g.D.Sectors.may_read c.read.new.self) image =
       λ i s read. reads i s ((c.records.invariant.only_reads keeps).reads i s (c.read.ensures.reads keeps i s read)) in
       let read = c.records.invariant.found keeps image size reads in
       let found = rw c.in-Some.is at (c.in_ok-record.ensures.found keeps image size mid) in

@@ -1,7 +1,7 @@
 use Rattle.commit_log.proofs.read.read_records.Given as goal
 use Rattle.std.proofs.Common.{◌≡◌, ◌-◌, ◌<◌, ◌≤◌, ℕ, List, length}
 use Rattle.commit_log.proofs.Recovering.{HasRead}
-use Rattle.commit_log.specs.Reading.{ReadsAs, OnlyReads}
+use Rattle.commit_log.specs.Reading.{ReadsImage, OnlyReads}
 
 abbrev pub invariant-records : goal.invariant-records
 invariant-records g l = record {
@@ -10,7 +10,7 @@ invariant-records g l = record {
   only_reads : g.D.Sectors.keeps_model → OnlyReads g.D.Sectors l.fn.device l.device;
   in_range : l.gate < l.count;
   counted : l.records ≤ l.gate;
-  found : g.D.Sectors.keeps_model → (image : List (List ℕ)) → length image ≡ l.count → ReadsAs (g.D.Sectors.may_read l.fn.device) image
+  found : g.D.Sectors.keeps_model → (image : List (List ℕ)) → length image ≡ l.count → ReadsImage (g.D.Sectors.may_read l.fn.device) image
       → HasRead l.format image l.gate l.records l.digest.bytes l.latest;
 }
 

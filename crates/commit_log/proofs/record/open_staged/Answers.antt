@@ -7,7 +7,7 @@ use Rattle.commit_log.proofs.Records.{open_gate_open}
 use Rattle.commit_log.proofs.record.open_staged.Given.{Over}
 use Rattle.commit_log.proofs.record.open_staged.Goals.{After-write}
 use Rattle.commit_log.specs.LogState.{OnlyWrites}
-use Rattle.commit_log.specs.RecordFormat.{is_open}
+use Rattle.commit_log.specs.RecordFormat.{is_gate_open}
 
 pub returns-in_err-write-clause-any_moment : goal.returns-in_err-write-clause-any_moment
 returns-in_err-write-clause-any_moment g c keeps lists writes is proper here =
@@ -32,7 +32,7 @@ returns-clause-acknowledged g c keeps lists writes is proper here =
     (g.met.D.Sectors.only_now keeps c.args.device.now) (c.write.ensures.crash keeps) (c.write.ensures.time keeps) in
     acknowledged g.D.Sectors lists writes c.write.new.self c.sync.new.self c.args.gate (g.D.Sectors.size c.sync.new.self) (c.in_ok-sync.ensures.settles keeps)
     c.open_gate.result is proper (omega (arith, c.requires, c.write.ensures.size, c.sync.ensures.size)) (c.in_ok-write.ensures.written keeps)
-    (ap is_open c.open_gate.ensures ∙ open_gate_open) opening.left
+    (ap is_gate_open c.open_gate.ensures ∙ open_gate_open) opening.left
 
 opened : (g : Over) (c : After-write g) → g.D.Sectors.keeps_model → OnlyWrites g.D.Sectors c.args.gate 1 c.args.device.now c.write.new.self
 opened g c keeps =

@@ -8,7 +8,7 @@ use Rattle.commit_log.proofs.Records.{closed_gate_shut}
 use Rattle.commit_log.proofs.record.stage.Given.{Over}
 use Rattle.commit_log.proofs.record.stage.Goals.{After-write_sectors, After-write}
 use Rattle.commit_log.specs.LogState.{OnlyWrites}
-use Rattle.commit_log.specs.RecordFormat.{is_open}
+use Rattle.commit_log.specs.RecordFormat.{is_gate_open}
 
 body_alone : (g : Over) (c : After-write_sectors g) → g.D.Sectors.keeps_model
     → OnlyWrites g.D.Sectors (c.args.gate + 1) (length c.args.body.now / 512) c.args.device.now c.write_sectors.new.self
@@ -63,7 +63,7 @@ returns-clause-staged g c keeps lists writes is here =
     staged_by g.D.Sectors lists writes c.write.new.self c.sync.new.self c.args.gate (g.D.Sectors.size c.sync.new.self) (c.in_ok-sync.ensures.settles keeps)
     c.write_sectors.new.self c.args.body.now c.closed_gate.result is
     (omega (arith, c.requires.room, c.write_sectors.ensures.size, c.write.ensures.size, c.sync.ensures.size)) (c.in_ok-write_sectors.ensures.written keeps)
-    (c.write.ensures.others keeps) (c.in_ok-write.ensures.written keeps) (ap is_open c.closed_gate.ensures ∙ closed_gate_shut) gate.left
+    (c.write.ensures.others keeps) (c.in_ok-write.ensures.written keeps) (ap is_gate_open c.closed_gate.ensures ∙ closed_gate_shut) gate.left
 
 gate_written : (g : Over) (c : After-write g) → g.D.Sectors.keeps_model
     → OnlyWrites g.D.Sectors (c.args.gate + 1) (length c.args.body.now / 512 + 1) c.args.device.now c.write.new.self

@@ -12,13 +12,13 @@ use Rattle.commit_log.specs.LogState.{sector_count, used_sectors}
 use Rattle.commit_log.specs.RecordFormat.{sectors_for}
 use Rattle.commit_log.specs.declared.log.Log.{Log}
 use Rattle.engine.proofs.Committing.{conflict_refuses, overwritten_refuses, full_refuses, to_commit}
-use Rattle.engine.specs.Changes.{IsWritten, HasLogRoom}
+use Rattle.engine.specs.Changes.{WritesSomething, HasLogRoom}
 
 -- whether anything was written
 none_written : (xs ws : List KeyWrite) (b : Bool) → b ≡ (length xs == 0) → xs ≡ ws → b ≡ true → ws ≡ []
 none_written xs ws b e same t = nil_from_length ws (grind (arith, nat_tests))
 
-some_written : (xs ws : List KeyWrite) (b : Bool) → b ≡ (length xs == 0) → xs ≡ ws → b ≡ false → IsWritten ws
+some_written : (xs ws : List KeyWrite) (b : Bool) → b ≡ (length xs == 0) → xs ≡ ws → b ≡ false → WritesSomething ws
 some_written xs ws b e same f none = grind (arith, nat_tests, ap length none)
 
 -- whether the log has room for it

@@ -3,7 +3,7 @@ use Rattle.std.proofs.Common.{◌≡◌, true, false, Some, refl, sym, ap, subst
 use Rattle.std.proofs.lemmas.List.{get_or-set_other}
 use Rattle.model.proofs.Lookups.{some_same}
 use Rattle.event_loop.proofs.Polled.{put_there, there, vacant}
-use Rattle.event_loop.specs.Lingerings.{lingers_in, Leaves}
+use Rattle.event_loop.specs.Lingerings.{lingers_in, LingersOrCloses}
 use Rattle.event_loop.specs.declared.socket.Socket.{Socket}
 
 pub returns-then-not-end_drive : goal.returns-then-not-end_drive
@@ -29,4 +29,4 @@ returns-in-Some-try_remove g c =
     ∙ get_or-set_other c.args.table.now.slots c.args.key other (Some c.end_drive.new.entry) _ differs)
     _ _ c.in-Some.entry.now c.end_drive.new.entry (sym c.in-Some.ensures.value) c.end_drive.ensures.ends true (sym c.if-not-end_drive.false
     ∙ c.end_drive.ensures.over) c.try_remove.ensures.updates.changed
-    (subst (λ (s : Socket). Leaves s (lingers_in c.args.lingering.now) (lingers_in c.begin.new.self)) socket c.begin.ensures)
+    (subst (λ (s : Socket). LingersOrCloses s (lingers_in c.args.lingering.now) (lingers_in c.begin.new.self)) socket c.begin.ensures)

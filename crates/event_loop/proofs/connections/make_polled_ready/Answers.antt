@@ -6,7 +6,7 @@ pub loop-event-preserved-in-Some-get_mut : goal.loop-event-preserved-in-Some-get
 loop-event-preserved-in-Some-get_mut c =
     polled_more_some (λ e. e.now) c.loop-event.yielded c.in-Some.event c.args.table.now.slots c.loop-event.table.slots c.token-key.result.0
     (ap (λ t. t.0) c.token-key.ensures) c.loop-event.invariant
-    c.tells_to_read_on.result c.tells_to_read_on.ensures c.in-Some-get_mut.entry.now
+    c.reports_to_read_on.result c.reports_to_read_on.ensures c.in-Some-get_mut.entry.now
     c.make_ready.new.entry (sym c.in-Some-get_mut.ensures.value) c.make_ready.ensures
 
 pub loop-event-preserved : goal.loop-event-preserved

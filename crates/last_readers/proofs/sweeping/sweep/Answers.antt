@@ -5,10 +5,10 @@ use Rattle.std.specs.VecDeque.{deque_len}
 use Rattle.last_readers.proofs.Sweeps.{so_far_all, so_far_more, so_far_none}
 
 pub loop-turn-init : goal.loop-turn-init
-loop-turn-init c = record { far = so_far_none c.args.oldest c.args.told c.args.steps.now.items; len = omega arith; capacity = search rules }
+loop-turn-init c = record { far = so_far_none c.args.oldest c.args.in_force c.args.steps.now.items; len = omega arith; capacity = search rules }
 
-pub turn-told-requires : goal.turn-told-requires
-turn-told-requires c =
+pub turn-in_force-requires : goal.turn-in_force-requires
+turn-in_force-requires c =
     let far = c.loop-turn.invariant.far in
     let xs = c.args.steps.now.items in
     let i = c.loop-turn._turn in
@@ -31,17 +31,17 @@ loop-turn-preserved c =
     let is = c.loop-turn.invariant in
     let lt : i < length c.args.steps.now.items = omega (arith, c.args.steps.now.ok.0, c.loop-turn-test.true, c.len-turn-end.ensures) in
     record {
-      far = so_far_more c.args.oldest c.args.told c.loop-turn.told c.turn-told.result c.args.steps.now.items c.loop-turn.steps.items c.turn-told.new.steps.items
-          i (i + 1) (omega arith) lt c.turn-told.ensures.turned is.far;
-      len = omega (arith, is.len, c.turn-told.ensures.len);
-      capacity = c.turn-told.ensures.capacity ∙ is.capacity;
+      far = so_far_more c.args.oldest c.args.in_force c.loop-turn.in_force c.turn-in_force.result c.args.steps.now.items c.loop-turn.steps.items
+          c.turn-in_force.new.steps.items i (i + 1) (omega arith) lt c.turn-in_force.ensures.turned is.far;
+      len = omega (arith, is.len, c.turn-in_force.ensures.len);
+      capacity = c.turn-in_force.ensures.capacity ∙ is.capacity;
     }
 
 pub returns : goal.returns
 returns c =
     let is = c.loop-turn.invariant in
     record {
-      swept = so_far_all c.args.oldest c.args.told c.loop-turn.told c.args.steps.now.items c.loop-turn.steps.items c.loop-turn._turn
+      swept = so_far_all c.args.oldest c.args.in_force c.loop-turn.in_force c.args.steps.now.items c.loop-turn.steps.items c.loop-turn._turn
           (omega (arith, c.args.steps.now.ok.0, c.loop-turn-test.false, c.len-turn-end.ensures)) is.far;
       len = is.len;
       capacity = is.capacity;

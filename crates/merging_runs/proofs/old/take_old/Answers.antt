@@ -1,8 +1,8 @@
 use Rattle.merging_runs.proofs.old.take_old.Goals as goal
 use Rattle.std.proofs.Common.{◌+◌, map, sym, ap, ◌∙◌}
-use Rattle.merging_runs.proofs.OldRuns.{old_at, mixed_without, part_of, none_old}
+use Rattle.merging_runs.proofs.OldRuns.{old_at, partial_without, part_of, none_old}
 use Rattle.merging_runs.proofs.RunSteps.{left_without, rest_agrees}
-use Rattle.merging_runs.specs.Held.{mixed_upto, size_upto}
+use Rattle.merging_runs.specs.Held.{partial_upto, size_upto}
 use Rattle.merging_runs.specs.RunSizes.{left_above}
 use Rattle.merging_runs.specs.Value.{held_of}
 
@@ -21,7 +21,7 @@ returns-in-Some g c =
       agree = rw items (rest_agrees (g.R.Run.agree o) (g.met.R.Run.between o) rs i r found.0 at (g.met.R.Run.old o r found.1));
       none = λ none. absurd cc;
       size = part_of held o rs i r found.0 at found.1 ∙ ap (λ l. (held r).size + size_upto o (map held l)) (sym items);
-      mixed = ap (λ l. mixed_upto o (map held l)) items ∙ mixed_without held o rs i r found.0 at found.1;
+      partial = ap (λ l. partial_upto o (map held l)) items ∙ partial_without held o rs i r found.0 at found.1;
       left = ap (λ l. left_above o (map size l)) items ∙ left_without size o rs i r found.0 at found.1;
     }
 

@@ -1,7 +1,7 @@
 use Rattle.merging_runs.proofs.sweeps.sweep_all.Given as goal
 use Rattle.std.proofs.Common.{◌≡◌, ◌≤◌, map}
 use Rattle.merging_runs.specs.RunSizes.{left_above}
-use Rattle.merging_runs.specs.Value.{size_mixed, size_old}
+use Rattle.merging_runs.specs.Value.{size_partial, size_old}
 
 abbrev pub invariant-runs : goal.invariant-runs
 invariant-runs g l = record {
@@ -11,4 +11,4 @@ invariant-runs g l = record {
 }
 
 abbrev pub decreases-runs : goal.decreases-runs
-decreases-runs g l = size_mixed g.R.Run.from g.R.Run.sizes g.R.Run.held l.oldest l.runs.items
+decreases-runs g l = size_partial g.R.Run.from g.R.Run.sizes g.R.Run.held l.oldest l.runs.items

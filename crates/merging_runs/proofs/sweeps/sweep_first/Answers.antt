@@ -3,7 +3,7 @@ use Rattle.std.proofs.Common.{◌≡◌, ◌*◌, ap, sym, ◌∙◌, arith}
 use Rattle.std.proofs.lemmas.Bool.Decides.{nat_tests}
 use Rattle.std.specs.Prelude.{◌^◌, min}
 use Rattle.merging_runs.proofs.RunSteps.{other_agrees, same_run}
-use Rattle.merging_runs.proofs.SweptRuns.{found_at, left_swept, mixed_at, mixed_swept, none_found, whole_swept}
+use Rattle.merging_runs.proofs.SweptRuns.{found_at, left_swept, partial_at, partial_swept, none_found, whole_swept}
 use Rattle.merging_runs.specs.Value.{held_of}
 
 pub returns-in_err-place-clause-none : goal.returns-in_err-place-clause-none
@@ -47,11 +47,11 @@ returns-then-work-most g c =
       c.size.ensures,
       ap g.R.Run.held (same_run rs i c.index.result.now was found.within c.index.ensures at),
     ) in
-    let mixed = mixed_swept f o rs i was is found.within at found.from found.last c.sweep.ensures.from in
+    let partial = partial_swept f o rs i was is found.within at found.from found.last c.sweep.ensures.from in
     record {
       agree = other_agrees (g.R.Run.agree o) (g.met.R.Run.between o) rs i was is found.within at c.sweep.ensures.agree;
       whole = whole_swept f o rs i was is found.within at found.last swept.last ∙ c.requires;
-      looked = (omega (arith, looked), omega (arith, looked), omega (arith, looked, mixed), grind (arith, nat_tests, looked, mixed));
+      looked = (omega (arith, looked), omega (arith, looked), omega (arith, looked, partial), grind (arith, nat_tests, looked, partial));
       none = λ none. absurd cc;
       left = left_swept size o rs i was is found.within at found.last swept.last swept.left;
     }
@@ -66,5 +66,5 @@ returns-else-work-most-clause-looked g c =
     let found = found_at f o rs c.deref.result.now i r (sym c.deref.ensures.value) (sym c.first_from.ensures
     ∙ c.in_ok-place.was) c.requires c.index.ensures (omega arith) in
     let looked : c.min-work.result ≡ min (8 * (f r).size) (2 ^ 63) = omega (arith, c.min-work.ensures, c.saturating_mul.ensures, c.size.ensures) in
-    let least = mixed_at f o rs i r found.within c.index.ensures found.from found.last in
+    let least = partial_at f o rs i r found.within c.index.ensures found.from found.last in
     (omega (arith, looked), omega (arith, looked), omega (arith, looked, least), grind (arith, nat_tests))

@@ -10,7 +10,7 @@ use Rattle.model.specs.PrivateCopy.{covers}
 use Rattle.marks.specs.Lent.{lent_mark}
 use Rattle.marks.specs.Marked.{start_of}
 use Rattle.pivot_check.proofs.Walks.{parted, rest_rises, rest_from, rest_decides}
-use Rattle.pivot_check.specs.Postings.{Posting, keys_rise, are_from, least}
+use Rattle.pivot_check.specs.Postings.{Posting, keys_rise, have_keys_from, least}
 
 moved : (k low : Bytes) (ps : List Posting) (i : ℕ) → k ≡ low
     → IsPartitionPoint (λ p. is_lt (key_cmp p.key k) ≡ true) (λ p. is_lt (key_cmp p.key k) ≡ false) ps i →
@@ -27,7 +27,7 @@ count_covered-requires-clause-from c =
     let low = start_of (lent_mark c.args.mark) in
     let point = c.partition_point-first.ensures.partitioned (λ p. is_lt (key_cmp p.key k)) (always_returns_same _ _ _ (λ a r f g. search (rules, of_calls)))
     (parted k c.args.postings.now c.requires) in
-    ap (are_from low) (take_rest c.args.postings.now c.partition_point-first.result)
+    ap (have_keys_from low) (take_rest c.args.postings.now c.partition_point-first.result)
     ∙ rest_from low c.args.postings.now c.partition_point-first.result
     (moved k low c.args.postings.now c.partition_point-first.result c.start-low.ensures point)
 

@@ -21,9 +21,9 @@ returns-in_default g c h stands =
     let there = subst (λ k. StandsFor c.step.new.self k) same (reached c.args.hub.now _ _ _ came h stands).stands in
     let served = c.step-2.ensures.step in
     let after = reached _ c.step-2.new.self _ _ served (received h s frame) there in
-    let is : served.0 ≡ granted served.0.front served.0.failed = granted_is served.0 (served.1 ∙ not_memory c.step-2.result c.in_default.not-Memory) in
+    let is : served.0 ≡ granted served.0.head served.0.failed = granted_is served.0 (served.1 ∙ not_memory c.step-2.result c.in_default.not-Memory) in
     record {
-      front = served.0.front;
+      head = served.0.head;
       failed = served.0.failed;
       possible = subst (λ choice. IsPossible (received h s frame) (Serves s) choice) is after.possible;
       stands = subst (λ choice. StandsFor c.step-2.new.self (hub_step (received h s frame) (Serves s) choice).0) is after.stands;

@@ -1,6 +1,6 @@
 use Rattle.sessions.proofs.requests.commit.Goals as goal
 use Rattle.std.proofs.Common.{refl, ap, ◌∙◌, Err}
-use Rattle.commit_log.specs.LogState.{device_of as log_device}
+use Rattle.commit_log.specs.LogState.{log_device}
 use Rattle.sessions.proofs.RequestSteps.{survives_after, executes_commit}
 
 pub returns-in-Ok-clause-crash : goal.returns-in-Ok-clause-crash

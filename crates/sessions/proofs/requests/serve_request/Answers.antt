@@ -1,7 +1,7 @@
 use Rattle.sessions.proofs.requests.serve_request.Goals as goal
 use Rattle.std.proofs.Common.{refl, ap}
-use Rattle.commit_log.specs.LogState.{device_of as log_device}
-use Rattle.sessions.proofs.RequestSteps.{survives_front, aborts_left}
+use Rattle.commit_log.specs.LogState.{log_device}
+use Rattle.sessions.proofs.RequestSteps.{survives_head, aborts_left}
 
 pub returns-in-Err-clause-step : goal.returns-in-Err-clause-step
 returns-in-Err-clause-step g c = (
@@ -16,12 +16,12 @@ returns-in-Err-clause-step g c = (
 
 pub returns-in-Ok-clause-crash : goal.returns-in-Ok-clause-crash
 returns-in-Ok-clause-crash g c =
-    survives_front c.args.engine.now c.execute_request.new.engine c.execute_request.new.engine c.args.s c.args.inbox.now refl c.in-Whole.request c.in-Whole.used
+    survives_head c.args.engine.now c.execute_request.new.engine c.execute_request.new.engine c.args.s c.args.inbox.now refl c.in-Whole.request c.in-Whole.used
     ((c.in-Whole.ensures.whole c.in-Whole.request c.in-Whole.used).0 (refl, refl)) c.execute_request.ensures.crash
 
 pub returns-in-Err-clause-crash : goal.returns-in-Err-clause-crash
 returns-in-Err-clause-crash g c =
-    survives_front c.args.engine.now c.execute_request.new.engine c.abort_transaction.new.engine c.args.s c.args.inbox.now
+    survives_head c.args.engine.now c.execute_request.new.engine c.abort_transaction.new.engine c.args.s c.args.inbox.now
     (ap log_device c.abort_transaction.ensures.log) c.in-Whole.request c.in-Whole.used
     ((c.in-Whole.ensures.whole c.in-Whole.request c.in-Whole.used).0 (refl, refl)) c.execute_request.ensures.crash
 

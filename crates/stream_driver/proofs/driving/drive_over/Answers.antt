@@ -4,24 +4,24 @@ use Rattle.sessions.proofs.EventSteps.{status_seen}
 use Rattle.stream_driver.proofs.Appends.{AddedNone, once_then, out, pending_none, served, served_once, spent}
 use Rattle.stream_driver.proofs.Loops.{again, driven_none, flushes_out, gone_closed, gone_serving, gone_writing}
 use Rattle.stream_driver.proofs.Loops.{leaves, out_broke, out_served, waits_to_read, waits_to_write}
-use Rattle.stream_driver.proofs.Sends.{tells_still, tells_three, tells_two_at}
+use Rattle.stream_driver.proofs.Sends.{reports_still, reports_three, reports_two_at}
 use Rattle.stream_driver.proofs.Waiting.{stays_last, stays_still}
 use Rattle.stream_driver.proofs.States.{leads_none, present_in, present_after, stands_after}
 
 pub requests-init : goal.requests-init
 requests-init g c =
-    let told = tells_still (leads_none c.args.hub.now c.law_runs_follow.ensures.none _
+    let was_answered = reports_still (leads_none c.args.hub.now c.law_runs_follow.ensures.none _
     (λ h stands. driven_none (present_in c.args.s stands.state c.requires.1))) in
-    record { told = told; adds = λ keeps. AddedNone refl refl; sound = λ sound. sound }
+    record { was_answered = was_answered; adds = λ keeps. AddedNone refl refl; sound = λ sound. sound }
 
 pub write_out-requires-clause-present : goal.write_out-requires-clause-present
 write_out-requires-clause-present g c =
-    present_after c.args.s c.args.s c.requires c.requests.invariant.told.leads (λ h k before p. p.driven.carried.runs.present)
+    present_after c.args.s c.args.s c.requires c.requests.invariant.was_answered.leads (λ h k before p. p.driven.carried.runs.present)
 
 pub returns-in-Blocked : goal.returns-in-Blocked
 returns-in-Blocked g c =
     record {
-      driven = tells_two_at c.law_runs_follow.ensures.follow c.requests.invariant.told c.in-Blocked.ensures.written (λ h k p. p.driven.carried)
+      driven = reports_two_at c.law_runs_follow.ensures.follow c.requests.invariant.was_answered c.in-Blocked.ensures.written (λ h k p. p.driven.carried)
           (λ h k l was stands p q. waits_to_write p (omega arith) q);
       appends = λ keeps. spent keeps (c.requests.invariant.adds keeps) c.in-Blocked.ensures.spends;
       stays = stays_last g.S.Stream.is_sound g.S.Stream.waits _ _ _ c.requests.invariant.sound c.in-Blocked.ensures.stays (λ waiting. refl);
@@ -29,10 +29,10 @@ returns-in-Blocked g c =
 
 pub returns-in-Failed : goal.returns-in-Failed
 returns-in-Failed g c =
-    let some = stands_after (stands_after c.requires.0 c.requests.invariant.told.leads) c.in-Failed.ensures.written.leads in
+    let some = stands_after (stands_after c.requires.0 c.requests.invariant.was_answered.leads) c.in-Failed.ensures.written.leads in
     record {
-      driven = leaves c.law_runs_follow.ensures.follow c.requests.invariant.told c.depart.ensures.answer c.in-Failed.ensures.written c.depart.ensures.left
-          (λ h k l m stands p q r. gone_writing p (omega arith) q r);
+      driven = leaves c.law_runs_follow.ensures.follow c.requests.invariant.was_answered c.depart.ensures.answer c.in-Failed.ensures.written
+          c.depart.ensures.left (λ h k l m stands p q r. gone_writing p (omega arith) q r);
       appends = λ keeps. once_then (spent keeps (c.requests.invariant.adds keeps) c.in-Failed.ensures.spends) (c.depart.ensures.records some);
       stays = stays_still g.S.Stream.is_sound g.S.Stream.waits _ c.write_out.new.stream _
           (λ sound. c.in-Failed.ensures.stays.sound (c.requests.invariant.sound sound))
@@ -41,9 +41,9 @@ returns-in-Failed g c =
 
 pub returns-in_default : goal.returns-in_default
 returns-in_default g c =
-    let some = stands_after (stands_after c.requires.0 c.requests.invariant.told.leads) c.in-Empty.ensures.written.leads in
+    let some = stands_after (stands_after c.requires.0 c.requests.invariant.was_answered.leads) c.in-Empty.ensures.written.leads in
     record {
-      driven = leaves c.law_runs_follow.ensures.follow c.requests.invariant.told c.depart-in_default.ensures.answer c.in-Empty.ensures.written
+      driven = leaves c.law_runs_follow.ensures.follow c.requests.invariant.was_answered c.depart-in_default.ensures.answer c.in-Empty.ensures.written
           c.depart-in_default.ensures.left
           (λ h k l m stands p q r. gone_closed p (omega arith) q (λ e. c.in_default.not-Open (c.status.ensures ∙ status_seen _ _ stands c.args.s ∙ e)) r);
       appends = λ keeps. once_then (spent keeps (c.requests.invariant.adds keeps) c.in-Empty.ensures.spends) (c.depart-in_default.ensures.records some);
@@ -54,7 +54,7 @@ returns-in_default g c =
 
 pub serve_in_share-requires : goal.serve_in_share-requires
 serve_in_share-requires g c =
-    let some = stands_after c.requires.0 c.requests.invariant.told.leads in
+    let some = stands_after c.requires.0 c.requests.invariant.was_answered.leads in
     record {
       stands = stands_after some c.in-Empty.ensures.written.leads;
       opened = sym c.in-Open.ensures;
@@ -63,10 +63,10 @@ serve_in_share-requires g c =
 
 pub returns-in-Blocked-serve_in_share : goal.returns-in-Blocked-serve_in_share
 returns-in-Blocked-serve_in_share g c =
-    let some = stands_after c.requires.0 c.requests.invariant.told.leads in
-    let flushed = flushes_out c.law_runs_follow.ensures.follow c.requests.invariant.told c.in-Empty.ensures.written in
+    let some = stands_after c.requires.0 c.requests.invariant.was_answered.leads in
+    let flushed = flushes_out c.law_runs_follow.ensures.follow c.requests.invariant.was_answered c.in-Empty.ensures.written in
     record {
-      driven = tells_two_at c.law_runs_follow.ensures.follow flushed c.in-Blocked-serve_in_share.ensures.served (λ h l p. p.0.driven.carried)
+      driven = reports_two_at c.law_runs_follow.ensures.follow flushed c.in-Blocked-serve_in_share.ensures.served (λ h l p. p.0.driven.carried)
           (λ h l m was stands p r. waits_to_read p (omega arith) r);
       appends = λ keeps. served_once keeps
           (out keeps (c.requests.invariant.adds keeps) c.in-Empty.ensures.spends (pending_none some c.in-Empty.ensures.written))
@@ -78,12 +78,13 @@ returns-in-Blocked-serve_in_share g c =
 
 pub returns-in_default-serve_in_share : goal.returns-in_default-serve_in_share
 returns-in_default-serve_in_share g c =
-    let some = stands_after c.requires.0 c.requests.invariant.told.leads in
-    let flushed = flushes_out c.law_runs_follow.ensures.follow c.requests.invariant.told c.in-Empty.ensures.written in
+    let some = stands_after c.requires.0 c.requests.invariant.was_answered.leads in
+    let flushed = flushes_out c.law_runs_follow.ensures.follow c.requests.invariant.was_answered c.in-Empty.ensures.written in
     record {
       driven =
           rw c.depart-in_default-serve_in_share.ensures.answer
-          (tells_three c.law_runs_follow.ensures.follow flushed c.serve_in_share.ensures.served (tells_still c.depart-in_default-serve_in_share.ensures.left)
+          (reports_three c.law_runs_follow.ensures.follow flushed c.serve_in_share.ensures.served
+          (reports_still c.depart-in_default-serve_in_share.ensures.left)
           (λ h l p. p.0.driven.carried) (λ l m r. r.carried)
           (λ h l m n stands p r t.
           gone_serving p (omega arith) c.serve_in_share.result c.in_default-serve_in_share.not-Served c.in_default-serve_in_share.not-Broke
@@ -100,22 +101,22 @@ returns-in_default-serve_in_share g c =
 
 pub write_out-requires-2-clause-present : goal.write_out-requires-2-clause-present
 write_out-requires-2-clause-present g c =
-    present_after c.args.s c.args.s c.requires c.requests.invariant.told.leads (λ h k before p. p.driven.carried.runs.present)
+    present_after c.args.s c.args.s c.requires c.requests.invariant.was_answered.leads (λ h k before p. p.driven.carried.runs.present)
 
 pub returns-in-Blocked-write_out : goal.returns-in-Blocked-write_out
 returns-in-Blocked-write_out g c =
     record {
-      driven = tells_two_at c.law_runs_follow.ensures.follow c.requests.invariant.told c.in-Blocked-write_out.ensures.written (λ h k p. p.driven.carried)
-          (λ h k l was stands p q. waits_to_write p (omega arith) q);
+      driven = reports_two_at c.law_runs_follow.ensures.follow c.requests.invariant.was_answered c.in-Blocked-write_out.ensures.written
+          (λ h k p. p.driven.carried) (λ h k l was stands p q. waits_to_write p (omega arith) q);
       appends = λ keeps. spent keeps (c.requests.invariant.adds keeps) c.in-Blocked-write_out.ensures.spends;
       stays = stays_last g.S.Stream.is_sound g.S.Stream.waits _ _ _ c.requests.invariant.sound c.in-Blocked-write_out.ensures.stays (λ waiting. refl);
     }
 
 pub returns-in-Failed-write_out : goal.returns-in-Failed-write_out
 returns-in-Failed-write_out g c =
-    let some = stands_after (stands_after c.requires.0 c.requests.invariant.told.leads) c.in-Failed-write_out.ensures.written.leads in
+    let some = stands_after (stands_after c.requires.0 c.requests.invariant.was_answered.leads) c.in-Failed-write_out.ensures.written.leads in
     record {
-      driven = leaves c.law_runs_follow.ensures.follow c.requests.invariant.told c.depart-in-Failed-write_out.ensures.answer
+      driven = leaves c.law_runs_follow.ensures.follow c.requests.invariant.was_answered c.depart-in-Failed-write_out.ensures.answer
           c.in-Failed-write_out.ensures.written
           c.depart-in-Failed-write_out.ensures.left (λ h k l m stands p q r. gone_writing p (omega arith) q r);
       appends = λ keeps. once_then (spent keeps (c.requests.invariant.adds keeps) c.in-Failed-write_out.ensures.spends)
@@ -128,8 +129,8 @@ returns-in-Failed-write_out g c =
 pub returns-in-Open-status : goal.returns-in-Open-status
 returns-in-Open-status g c =
     record {
-      driven = tells_two_at c.law_runs_follow.ensures.follow c.requests.invariant.told c.in-Empty-write_out.ensures.written (λ h k p. p.driven.carried)
-          (λ h k l was stands p q. again p (omega arith) q (sym (c.in-Open-status.ensures ∙ status_seen _ _ stands c.args.s)));
+      driven = reports_two_at c.law_runs_follow.ensures.follow c.requests.invariant.was_answered c.in-Empty-write_out.ensures.written
+          (λ h k p. p.driven.carried) (λ h k l was stands p q. again p (omega arith) q (sym (c.in-Open-status.ensures ∙ status_seen _ _ stands c.args.s)));
       appends = λ keeps. spent keeps (c.requests.invariant.adds keeps) c.in-Empty-write_out.ensures.spends;
       stays = stays_still g.S.Stream.is_sound g.S.Stream.waits _ c.write_out-2.new.stream _
           (λ sound. c.in-Empty-write_out.ensures.stays.sound (c.requests.invariant.sound sound))
@@ -138,10 +139,10 @@ returns-in-Open-status g c =
 
 pub returns-in_default-status : goal.returns-in_default-status
 returns-in_default-status g c =
-    let some = stands_after (stands_after c.requires.0 c.requests.invariant.told.leads) c.in-Empty-write_out.ensures.written.leads in
+    let some = stands_after (stands_after c.requires.0 c.requests.invariant.was_answered.leads) c.in-Empty-write_out.ensures.written.leads in
     record {
-      driven = leaves c.law_runs_follow.ensures.follow c.requests.invariant.told c.depart-in_default-status.ensures.answer c.in-Empty-write_out.ensures.written
-          c.depart-in_default-status.ensures.left
+      driven = leaves c.law_runs_follow.ensures.follow c.requests.invariant.was_answered c.depart-in_default-status.ensures.answer
+          c.in-Empty-write_out.ensures.written c.depart-in_default-status.ensures.left
           (λ h k l m stands p q r. gone_closed p (omega arith) q (λ e. c.in_default-status.not-Open (c.status-2.ensures ∙ status_seen _ _ stands c.args.s ∙ e))
           r);
       appends = λ keeps. once_then (spent keeps (c.requests.invariant.adds keeps) c.in-Empty-write_out.ensures.spends)
@@ -153,19 +154,19 @@ returns-in_default-status g c =
 
 pub requests-preserved : goal.requests-preserved
 requests-preserved g c =
-    let flushed = flushes_out c.law_runs_follow.ensures.follow c.requests.invariant.told c.in-Empty.ensures.written in
+    let flushed = flushes_out c.law_runs_follow.ensures.follow c.requests.invariant.was_answered c.in-Empty.ensures.written in
     let ready = λ (keeps : g.S.Stream.keeps_share). out keeps (c.requests.invariant.adds keeps) c.in-Empty.ensures.spends
-    (pending_none (stands_after c.requires.0 c.requests.invariant.told.leads) c.in-Empty.ensures.written) in
+    (pending_none (stands_after c.requires.0 c.requests.invariant.was_answered.leads) c.in-Empty.ensures.written) in
     elim c.in-Served.is [
       | inl e ↦ record {
-        told = tells_two_at c.law_runs_follow.ensures.follow flushed (rw e at c.serve_in_share.ensures.served) (λ h l p. p.0.driven.carried)
+        was_answered = reports_two_at c.law_runs_follow.ensures.follow flushed (rw e at c.serve_in_share.ensures.served) (λ h l p. p.0.driven.carried)
             (λ h l m stands last p r. out_served p (sym (c.in-Open.ensures ∙ status_seen _ _ stands c.args.s)) r);
         adds = λ keeps. served keeps (ready keeps) (rw e at c.serve_in_share.ensures.once) c.serve_in_share.ensures.ended
             (c.serve_in_share.ensures.ends keeps) (rw e at c.serve_in_share.ensures.once).replied;
         sound = λ sound. c.serve_in_share.ensures.stays.sound (c.in-Empty.ensures.stays.sound (c.requests.invariant.sound sound));
       }
       | inr e ↦ record {
-        told = tells_two_at c.law_runs_follow.ensures.follow flushed (rw e at c.serve_in_share.ensures.served) (λ h l p. p.0.driven.carried)
+        was_answered = reports_two_at c.law_runs_follow.ensures.follow flushed (rw e at c.serve_in_share.ensures.served) (λ h l p. p.0.driven.carried)
             (λ h l m stands last p r. out_broke p r);
         adds = λ keeps. served keeps (ready keeps) (rw e at c.serve_in_share.ensures.once) c.serve_in_share.ensures.ended
             (c.serve_in_share.ensures.ends keeps) (rw e at c.serve_in_share.ensures.once).replied;

@@ -2,13 +2,13 @@ use Rattle.stream_driver.proofs.driving.drive_over.Given as goal
 use Rattle.sessions.specs.StandsFor.{records_of}
 use Rattle.stream_driver.proofs.Appends.{SoFar}
 use Rattle.stream_driver.specs.Calls.{DrivenOut}
-use Rattle.stream_driver.specs.Sends.{LeadsTelling}
+use Rattle.stream_driver.specs.Sends.{LeadsAnswering}
 
 abbrev pub invariant-requests : goal.invariant-requests
 invariant-requests g l =
     record {
-      told : LeadsTelling l.fn.s g.S.Stream.tells l.fn.hub (g.S.Stream.traffic l.fn.stream) l.hub (g.S.Stream.traffic l.stream)
-          (λ h k. DrivenOut l.fn.s g.S.Stream.tells h (g.S.Stream.traffic l.fn.stream) k (g.S.Stream.traffic l.stream) l._served);
+      was_answered : LeadsAnswering l.fn.s g.S.Stream.reports l.fn.hub (g.S.Stream.traffic l.fn.stream) l.hub (g.S.Stream.traffic l.stream)
+          (λ h k. DrivenOut l.fn.s g.S.Stream.reports h (g.S.Stream.traffic l.fn.stream) k (g.S.Stream.traffic l.stream) l._served);
       adds : g.S.Stream.keeps_share
           → SoFar g.S.Stream.takes_at_most g.S.Stream.has_ended_share l.fn.s (records_of l.fn.hub) (g.S.Stream.has_ended_share l.fn.stream)
           l.hub l.stream;

@@ -5,14 +5,14 @@ use Rattle.std.proofs.lemmas.List.{append-nil}
 use Rattle.sessions.specs.StandsFor.{pending_of}
 use Rattle.stream_driver.proofs.Appends.{none_none, receives_none}
 use Rattle.stream_driver.proofs.OneCall.{read_moved, read_none, reads_within}
-use Rattle.stream_driver.proofs.Sends.{begins_nothing, tells_call}
+use Rattle.stream_driver.proofs.Sends.{begins_nothing, reports_call}
 
 pub returns-in-Moved-clause-read : goal.returns-in-Moved-clause-read
 returns-in-Moved-clause-read g c =
     let piece = take c.in-Moved.n c.read-answer.new.into in
     let len : length piece ≡ c.in-Moved.n = grind (arith, common_steps) in
     let within : c.in-Moved.n ≤ c.args.room = grind (arith, common_steps) in
-    tells_call c.law_runs_follow.ensures.none
+    reports_call c.law_runs_follow.ensures.none
     (read_moved c.in-Moved.n c.in-Moved.ensures.within.0 piece c.step.ensures.step c.step.ensures.ran c.step.ensures.device len within
     c.in-Moved.ensures.received
     c.in-Moved.ensures.sent c.in-Moved.ensures.answered)
@@ -24,7 +24,7 @@ returns-in_default-clause-within g c = reads_within c.read-answer.result _ c.arg
 
 pub returns-in_default-clause-read : goal.returns-in_default-clause-read
 returns-in_default-clause-read g c =
-    tells_call c.law_runs_follow.ensures.none
+    reports_call c.law_runs_follow.ensures.none
     (read_none c.law_runs_follow.ensures.none c.args.room c.read-answer.new.into c.read-answer.ensures.sent c.read-answer.result c.in_default.not-Moved
     c.read-answer.ensures.received c.read-answer.ensures.answered)
     (g.D.Sectors.moment c.device.result.now) (ap (λ d. g.D.Sectors.moment d) c.device.ensures) c.read-answer.ensures.departed

@@ -6,7 +6,7 @@ use Rattle.stream_driver.proofs.Appends.{keeps_idle, keeps_none, replied_now, se
 use Rattle.stream_driver.proofs.Appends.{serves_then}
 use Rattle.stream_driver.proofs.Loops.{read_nothing, read_then, read_stopped, serve_starved, serve_open, serve_closed}
 use Rattle.stream_driver.proofs.Loops.{serve_replied, waits}
-use Rattle.stream_driver.proofs.Sends.{tells_step, tells_still, tells_two_at}
+use Rattle.stream_driver.proofs.Sends.{reports_step, reports_still, reports_two_at}
 use Rattle.stream_driver.proofs.Waiting.{stays_last, stays_still}
 use Rattle.stream_driver.proofs.States.{leads_none, seen_after, stands_after}
 
@@ -14,16 +14,16 @@ pub loop-hub-init : goal.loop-hub-init
 loop-hub-init g c =
     let hub = c.args.hub.now in
     let s = c.args.s in
-    let told = tells_still (leads_none c.args.hub.now c.law_runs_follow.ensures.none _
+    let was_answered = reports_still (leads_none c.args.hub.now c.law_runs_follow.ensures.none _
     (λ h stands. read_nothing (sym (status_seen hub h.hub stands.state s) ∙ c.requires.opened) (sym (pending_seen hub h.hub stands.state s)
     ∙ c.requires.nothing) (c.room-room.ensures ∙ room_seen hub h.hub stands.state s))) in
-    record { told = told; keeps = keeps_none hub c.args.stream.now; sound = λ sound. sound }
+    record { was_answered = was_answered; keeps = keeps_none hub c.args.stream.now; sound = λ sound. sound }
 
 pub returns-in-Memory : goal.returns-in-Memory
 returns-in-Memory g c =
-    let some = stands_after c.requires.stands c.loop-hub.invariant.told.leads in
+    let some = stands_after c.requires.stands c.loop-hub.invariant.was_answered.leads in
     record {
-      served = tells_step c.law_runs_follow.ensures.follow c.loop-hub.invariant.told c.step.ensures.step c.step.ensures.ran c.step.ensures.device
+      served = reports_step c.law_runs_follow.ensures.follow c.loop-hub.invariant.was_answered c.step.ensures.step c.step.ensures.ran c.step.ensures.device
           (λ h k p. p.moves.carried) (λ h k choice happens is stands p. serve_starved p happens is c.in-Memory.is);
       once = serves_then c.loop-hub.invariant.keeps (serves_one some c.step.ensures.records) tt;
       stays = stays_still g.S.Stream.is_sound g.S.Stream.waits _ c.loop-hub.stream _ c.loop-hub.invariant.sound (λ blocked. cc);
@@ -31,11 +31,11 @@ returns-in-Memory g c =
 
 pub returns-in-Open : goal.returns-in-Open
 returns-in-Open g c =
-    let some = stands_after c.requires.stands c.loop-hub.invariant.told.leads in
-    let replied = tells_step c.law_runs_follow.ensures.follow c.loop-hub.invariant.told c.step.ensures.step c.step.ensures.ran c.step.ensures.device
+    let some = stands_after c.requires.stands c.loop-hub.invariant.was_answered.leads in
+    let replied = reports_step c.law_runs_follow.ensures.follow c.loop-hub.invariant.was_answered c.step.ensures.step c.step.ensures.ran c.step.ensures.device
     (λ h k p. p.moves.carried) (λ h k choice happens is stands p. serve_replied p happens is c.in-Done.is) in
     record {
-      served = tells_step c.law_runs_follow.ensures.follow c.loop-hub.invariant.told c.step.ensures.step c.step.ensures.ran c.step.ensures.device
+      served = reports_step c.law_runs_follow.ensures.follow c.loop-hub.invariant.was_answered c.step.ensures.step c.step.ensures.ran c.step.ensures.device
           (λ h k p. p.moves.carried)
           (λ h k choice happens is stands p. serve_open p happens is c.in-Done.is (sym (c.in-Open.ensures ∙ status_seen _ _ stands c.args.s)));
       once = serves_then c.loop-hub.invariant.keeps (serves_one some c.step.ensures.records) (replied_now c.requires.stands replied);
@@ -44,12 +44,12 @@ returns-in-Open g c =
 
 pub returns-in_default-status : goal.returns-in_default-status
 returns-in_default-status g c =
-    let some = stands_after c.requires.stands c.loop-hub.invariant.told.leads in
-    let replied = tells_step c.law_runs_follow.ensures.follow c.loop-hub.invariant.told c.step.ensures.step c.step.ensures.ran c.step.ensures.device
+    let some = stands_after c.requires.stands c.loop-hub.invariant.was_answered.leads in
+    let replied = reports_step c.law_runs_follow.ensures.follow c.loop-hub.invariant.was_answered c.step.ensures.step c.step.ensures.ran c.step.ensures.device
     (λ h k p. p.moves.carried) (λ h k choice happens is stands p. serve_replied p happens is c.in-Done.is) in
     record {
       served =
-          tells_step c.law_runs_follow.ensures.follow c.loop-hub.invariant.told c.step.ensures.step c.step.ensures.ran c.step.ensures.device
+          reports_step c.law_runs_follow.ensures.follow c.loop-hub.invariant.was_answered c.step.ensures.step c.step.ensures.ran c.step.ensures.device
           (λ h k p. p.moves.carried)
           (λ h k choice happens is stands p. serve_closed p happens is c.in-Done.is
           (λ e. c.in_default-status.not-Open (c.status.ensures ∙ status_seen _ _ stands c.args.s ∙ e)));
@@ -59,7 +59,7 @@ returns-in_default-status g c =
 
 pub read_some-requires : goal.read_some-requires
 read_some-requires g c =
-    let waited = waits c.law_runs_follow.ensures.follow c.loop-hub.invariant.told c.step.ensures.step c.step.ensures.ran c.step.ensures.device
+    let waited = waits c.law_runs_follow.ensures.follow c.loop-hub.invariant.was_answered c.step.ensures.step c.step.ensures.ran c.step.ensures.device
     c.in_default.not-Done
     c.in_default.not-Memory in
     seen_after le_prop c.requires.stands waited.leads (λ h k was stands p. p.2)
@@ -69,13 +69,13 @@ loop-hub-smaller g c = let within = c.in-Moved.ensures.within in omega (arith, w
 
 pub loop-hub-preserved : goal.loop-hub-preserved
 loop-hub-preserved g c =
-    let waited = waits c.law_runs_follow.ensures.follow c.loop-hub.invariant.told c.step.ensures.step c.step.ensures.ran c.step.ensures.device
+    let waited = waits c.law_runs_follow.ensures.follow c.loop-hub.invariant.was_answered c.step.ensures.step c.step.ensures.ran c.step.ensures.device
     c.in_default.not-Done
     c.in_default.not-Memory in
-    let some = stands_after c.requires.stands c.loop-hub.invariant.told.leads in
+    let some = stands_after c.requires.stands c.loop-hub.invariant.was_answered.leads in
     let idle = serves_none some c.step.ensures.step c.step.ensures.records c.in_default.not-Done c.in_default.not-Memory in
     record {
-      told = tells_two_at c.law_runs_follow.ensures.follow waited c.in-Moved.ensures.read (λ h k p. p.0.moves.carried)
+      was_answered = reports_two_at c.law_runs_follow.ensures.follow waited c.in-Moved.ensures.read (λ h k p. p.0.moves.carried)
           (λ h k l was stands p q. read_then p.0 c.in-Moved.n (q p.1 p.0.room_is));
       keeps = keeps_idle c.loop-hub.invariant.keeps idle (c.in-Moved.ensures.keeps (stands_after c.requires.stands waited.leads));
       sound = λ sound. c.in-Moved.ensures.stays.sound (c.loop-hub.invariant.sound sound);
@@ -83,13 +83,13 @@ loop-hub-preserved g c =
 
 pub returns-in-Blocked : goal.returns-in-Blocked
 returns-in-Blocked g c =
-    let waited = waits c.law_runs_follow.ensures.follow c.loop-hub.invariant.told c.step.ensures.step c.step.ensures.ran c.step.ensures.device
+    let waited = waits c.law_runs_follow.ensures.follow c.loop-hub.invariant.was_answered c.step.ensures.step c.step.ensures.ran c.step.ensures.device
     c.in_default.not-Done
     c.in_default.not-Memory in
-    let some = stands_after c.requires.stands c.loop-hub.invariant.told.leads in
+    let some = stands_after c.requires.stands c.loop-hub.invariant.was_answered.leads in
     let idle = serves_none some c.step.ensures.step c.step.ensures.records c.in_default.not-Done c.in_default.not-Memory in
     record {
-      served = tells_two_at c.law_runs_follow.ensures.follow waited c.in-Blocked.ensures.read (λ h k p. p.0.moves.carried)
+      served = reports_two_at c.law_runs_follow.ensures.follow waited c.in-Blocked.ensures.read (λ h k p. p.0.moves.carried)
           (λ h k l was stands p q. (let read = q p.1 p.0.room_is in read_stopped p.0 _ _ p.1 read read.why (λ served why. why)));
       once = serves_not (keeps_idle c.loop-hub.invariant.keeps idle (c.in-Blocked.ensures.keeps (stands_after c.requires.stands waited.leads))) tt;
       stays = stays_last g.S.Stream.is_sound g.S.Stream.waits _ _ _ c.loop-hub.invariant.sound c.in-Blocked.ensures.stays (λ blocked. refl);
@@ -97,13 +97,13 @@ returns-in-Blocked g c =
 
 pub returns-in-Failed : goal.returns-in-Failed
 returns-in-Failed g c =
-    let waited = waits c.law_runs_follow.ensures.follow c.loop-hub.invariant.told c.step.ensures.step c.step.ensures.ran c.step.ensures.device
+    let waited = waits c.law_runs_follow.ensures.follow c.loop-hub.invariant.was_answered c.step.ensures.step c.step.ensures.ran c.step.ensures.device
     c.in_default.not-Done
     c.in_default.not-Memory in
-    let some = stands_after c.requires.stands c.loop-hub.invariant.told.leads in
+    let some = stands_after c.requires.stands c.loop-hub.invariant.was_answered.leads in
     let idle = serves_none some c.step.ensures.step c.step.ensures.records c.in_default.not-Done c.in_default.not-Memory in
     record {
-      served = tells_two_at c.law_runs_follow.ensures.follow waited c.in-Failed.ensures.read (λ h k p. p.0.moves.carried)
+      served = reports_two_at c.law_runs_follow.ensures.follow waited c.in-Failed.ensures.read (λ h k p. p.0.moves.carried)
           (λ h k l was stands p q. (let read = q p.1 p.0.room_is in read_stopped p.0 _ _ p.1 read read.why (λ served why. why)));
       once = serves_not (keeps_idle c.loop-hub.invariant.keeps idle (c.in-Failed.ensures.keeps (stands_after c.requires.stands waited.leads))) tt;
       stays = stays_last g.S.Stream.is_sound g.S.Stream.waits _ _ _ c.loop-hub.invariant.sound c.in-Failed.ensures.stays (λ blocked. absurd (cc));
@@ -111,13 +111,13 @@ returns-in-Failed g c =
 
 pub returns-in-Ended : goal.returns-in-Ended
 returns-in-Ended g c =
-    let waited = waits c.law_runs_follow.ensures.follow c.loop-hub.invariant.told c.step.ensures.step c.step.ensures.ran c.step.ensures.device
+    let waited = waits c.law_runs_follow.ensures.follow c.loop-hub.invariant.was_answered c.step.ensures.step c.step.ensures.ran c.step.ensures.device
     c.in_default.not-Done
     c.in_default.not-Memory in
-    let some = stands_after c.requires.stands c.loop-hub.invariant.told.leads in
+    let some = stands_after c.requires.stands c.loop-hub.invariant.was_answered.leads in
     let idle = serves_none some c.step.ensures.step c.step.ensures.records c.in_default.not-Done c.in_default.not-Memory in
     record {
-      served = tells_two_at c.law_runs_follow.ensures.follow waited c.in-Ended.ensures.read (λ h k p. p.0.moves.carried)
+      served = reports_two_at c.law_runs_follow.ensures.follow waited c.in-Ended.ensures.read (λ h k p. p.0.moves.carried)
           (λ h k l was stands p q. (let read = q p.1 p.0.room_is in read_stopped p.0 _ _ p.1 read read.why (λ served why. why)));
       once = serves_not (keeps_idle c.loop-hub.invariant.keeps idle (c.in-Ended.ensures.keeps (stands_after c.requires.stands waited.leads))) tt;
       stays = stays_last g.S.Stream.is_sound g.S.Stream.waits _ _ _ c.loop-hub.invariant.sound c.in-Ended.ensures.stays (λ blocked. absurd (cc));

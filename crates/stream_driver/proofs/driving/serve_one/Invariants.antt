@@ -1,13 +1,13 @@
 use Rattle.stream_driver.proofs.driving.serve_one.Given as goal
 use Rattle.stream_driver.specs.Appends.{KeepsShare}
 use Rattle.stream_driver.specs.Calls.{ReadSoFar}
-use Rattle.stream_driver.specs.Sends.{LeadsTelling}
+use Rattle.stream_driver.specs.Sends.{LeadsAnswering}
 
 abbrev pub invariant-loop-hub : goal.invariant-loop-hub
 invariant-loop-hub g l =
     record {
-      told : LeadsTelling l.fn.s g.S.Stream.tells l.fn.hub (g.S.Stream.traffic l.fn.stream) l.hub (g.S.Stream.traffic l.stream)
-          (λ h k. ReadSoFar l.fn.s g.S.Stream.tells h (g.S.Stream.traffic l.fn.stream) k (g.S.Stream.traffic l.stream) l.room);
+      was_answered : LeadsAnswering l.fn.s g.S.Stream.reports l.fn.hub (g.S.Stream.traffic l.fn.stream) l.hub (g.S.Stream.traffic l.stream)
+          (λ h k. ReadSoFar l.fn.s g.S.Stream.reports h (g.S.Stream.traffic l.fn.stream) k (g.S.Stream.traffic l.stream) l.room);
       keeps : KeepsShare g.S.Stream.keeps_share g.S.Stream.takes_at_most g.S.Stream.has_ended_share l.fn.s l.fn.hub l.fn.stream l.hub l.stream;
       sound : g.S.Stream.is_sound l.fn.stream → g.S.Stream.is_sound l.stream;
     }

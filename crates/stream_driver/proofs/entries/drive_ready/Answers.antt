@@ -22,7 +22,7 @@ pub loop-key-preserved : goal.loop-key-preserved
 loop-key-preserved g c =
     let key = c.loop-key.key in
     let slots = c.args.table.now.slots in
-    let was = same_slot g.S.Stream.tells g.S.Stream.traffic key slots c.loop-key.table.slots c.loop-key.invariant.so_far.rest in
+    let was = same_slot g.S.Stream.reports g.S.Stream.traffic key slots c.loop-key.table.slots c.loop-key.invariant.so_far.rest in
     elim c.match-get_mut.branch [
       | in-Some w ↦
           let old = w.in-Some.entry.now in

@@ -6,7 +6,7 @@ use Rattle.stream_driver.specs.Entries.{EntriesSoFar}
 
 abbrev pub invariant-loop-key : goal.invariant-loop-key
 invariant-loop-key g l = record {
-  so_far : EntriesSoFar g.S.Stream.tells g.S.Stream.traffic l.key l.fn.hub l.fn.table.slots l.hub l.table.slots;
+  so_far : EntriesSoFar g.S.Stream.reports g.S.Stream.traffic l.key l.fn.hub l.fn.table.slots l.hub l.table.slots;
   appends : g.S.Stream.keeps_share → AppendsAtMost (ready_count (take l.key l.fn.table.slots)) l.fn.hub l.hub;
   waits : WaitBelow g.S.Stream.is_sound g.S.Stream.waits l.key l.fn.table.slots l.table.slots;
 }

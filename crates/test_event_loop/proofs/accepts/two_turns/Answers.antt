@@ -1,5 +1,5 @@
 use Rattle.test_event_loop.proofs.accepts.two_turns.Goals as goal
-use Rattle.sessions.specs.Lives.{IsOpened}
+use Rattle.sessions.specs.Restarts.{IsOpened}
 use Rattle.event_loop.proofs.Entries.{no_entry, nobody_entries}
 use Rattle.event_loop.proofs.Serving.{opened_nobody, opened_stands}
 

@@ -1,5 +1,5 @@
 use Rattle.test_hubs.proofs.hubs.open_hub.Goals as goal
-use Rattle.sessions.specs.Lives.{IsOpened}
+use Rattle.sessions.specs.Restarts.{IsOpened}
 use Rattle.test_hubs.proofs.Opened.{stands_once_opened}
 
 pub returns : goal.returns

@@ -7,7 +7,7 @@ use Rattle.versions.proofs.Stores.{swap_remove-default}
 use Rattle.versions.proofs.reclaiming.drop_unseen.Goals.{else-not-is_seen_by-via-then-not-is_seen_by+else-not-reclaim_version}
 use Rattle.versions.proofs.reclaiming.drop_unseen.Goals.{else-not-is_seen_by-via-else-not-is_seen_by}
 use Rattle.versions.specs.Chains.{Chains}
-use Rattle.versions.specs.Listings.{IsSettled}
+use Rattle.versions.specs.Listings.{IsCollected}
 
 pub reclaim_version-requires : goal.reclaim_version-requires
 reclaim_version-requires c = (c.loop-left.invariant.kept c.requires.kept.0 c.requires.kept.1).sorted
@@ -46,9 +46,9 @@ pub returns-clause-versions : goal.returns-clause-versions
 returns-clause-versions c =
     let left = c.loop-left.invariant in
     let vs = c.loop-left.versions.items in
-    let all = λ (n : ℕ). AllByRecursion (IsSettled c.args.begins.now (entries c.loop-left.chains)) (drop n vs) in
+    let all = λ (n : ℕ). AllByRecursion (IsCollected c.args.begins.now (entries c.loop-left.chains)) (drop n vs) in
     record {
-      settled = subst all {x = c.loop-left.left} {y = 0} (omega arith) left.settled;
+      collected = subst all {x = c.loop-left.left} {y = 0} (omega arith) left.collected;
       left = left.left_out;
       seen = left.seen;
       each = left.each;

@@ -7,7 +7,7 @@ use Rattle.versions.proofs.UnderPins.{IsUnder}
 use Rattle.versions.proofs.Pins.{found-before, join-fits, lists-joined, pins-set, take-remove, among-remove}
 use Rattle.versions.proofs.Pins.{none-before, take-get}
 use Rattle.versions.specs.Groups.{GroupValue}
-use Rattle.versions.specs.Listings.{AreAmong, IsSettled, IsTrulyMixed, pins}
+use Rattle.versions.specs.Listings.{AreAmong, IsCollected, IsTrulyUnclassified, pins}
 use Rattle.versions.specs.Meaning.{is_among}
 
 pub absorb-requires : goal.absorb-requires
@@ -44,10 +44,10 @@ returns-in-Some c =
         found = join-found gs hs i m a g j lt second less short first both.found;
         garbage = λ bs. garbage-joined bs gs hs i m a g j lt second less first short (both.garbage bs);
         active = λ bs h. subst (AreAmong bs) (sym (same ∙ ap pins less)) (among-remove bs gs i h);
-        truly = λ bs. all-joined (IsTrulyMixed bs) gs hs i m a g j lt second less short first (both.truly bs);
-        mixed = λ bs es. (
-            let P = λ (x : GroupValue). AllByRecursion (IsSettled bs es) x.mixed in
-            all-joined P gs hs i m a g j lt second less short first (both.mixed bs es));
+        truly = λ bs. all-joined (IsTrulyUnclassified bs) gs hs i m a g j lt second less short first (both.truly bs);
+        unclassified = λ bs es. (
+            let P = λ (x : GroupValue). AllByRecursion (IsCollected bs es) x.unclassified in
+            all-joined P gs hs i m a g j lt second less short first (both.unclassified bs es));
         each = λ active v. all-joined (IsUnder active v) gs hs i m a g j lt second less short first
             (under-joined active v a g j joins.0 c.absorb.ensures.pin both.each);
       };

@@ -6,7 +6,8 @@ use Rattle.versions.proofs.Groups.{garbage-empty, found-remove, keeps-itself, ke
 use Rattle.versions.proofs.UnderPins.{IsUnder}
 use Rattle.versions.proofs.Pins.{apart-next, among-remove, take-remove, lists-remove}
 use Rattle.versions.specs.Groups.{GroupValue}
-use Rattle.versions.specs.Listings.{AreAmong, AreApart, AreMixedSettled, IsSettled, IsTrulyMixed, lists_in, pins}
+use Rattle.versions.specs.Listings.{AreAmong, AreApart, AreUnclassifiedCollected, IsCollected, IsTrulyUnclassified}
+use Rattle.versions.specs.Listings.{lists_in, pins}
 use Rattle.versions.specs.Reclaiming.{KeepsListed}
 use Rattle.versions.specs.Pins.{AreUnderPins}
 
@@ -24,9 +25,9 @@ loop-i-preserved-then-is_empty c =
       found = found-remove gs hs i g (omega arith) c.index.ensures less (c.if-is_empty.ensures.none refl);
       garbage = λ bs. garbage-empty bs gs hs i g (omega arith) c.index.ensures less (c.if-is_empty.ensures.garbage refl bs);
       active = λ bs h. subst (λ (l : List GroupValue). AreAmong bs (pins l)) (sym less) (among-remove bs gs i h);
-      truly = λ bs h. subst (λ (l : List GroupValue). AllByRecursion (IsTrulyMixed bs) l) (sym less) (all-remove (IsTrulyMixed bs) gs i h);
-      mixed = λ bs es h. subst (λ (l : List GroupValue). AreMixedSettled bs es l) (sym less)
-          (all-remove (λ x. AllByRecursion (IsSettled bs es) x.mixed) gs i h);
+      truly = λ bs h. subst (λ (l : List GroupValue). AllByRecursion (IsTrulyUnclassified bs) l) (sym less) (all-remove (IsTrulyUnclassified bs) gs i h);
+      unclassified = λ bs es h. subst (λ (l : List GroupValue). AreUnclassifiedCollected bs es l) (sym less)
+          (all-remove (λ x. AllByRecursion (IsCollected bs es) x.unclassified) gs i h);
       each = λ active v h. subst (λ (l : List GroupValue). AreUnderPins active v l) (sym less) (all-remove (IsUnder active v) gs i h);
     } in
     record {

@@ -9,7 +9,7 @@ use Rattle.versions.proofs.Groups.{any-garbage}
 use Rattle.versions.proofs.Listings.{groups-found}
 use Rattle.versions.proofs.Pins.{apart-few}
 use Rattle.versions.specs.Groups.{GroupValue}
-use Rattle.versions.specs.Listings.{AreAmong, AreMixedSettled, IsListed, IsTrulyMixed, pins}
+use Rattle.versions.specs.Listings.{AreAmong, AreUnclassifiedCollected, IsListed, IsTrulyUnclassified, pins}
 use Rattle.versions.specs.Meaning.{garbage_in}
 use Rattle.versions.specs.Pins.{AreUnderPins}
 
@@ -34,8 +34,8 @@ returns c =
         listed = groups-found es all c.join_groups.new.groups.items joined.found (subst (IsListed es) are looked.listed);
         lists = search rules;
         active = active;
-        truly = joined.truly bs (subst (AllByRecursion (IsTrulyMixed bs)) are looked.truly);
-        mixed = joined.mixed bs es (subst (AreMixedSettled bs es) are looked.mixed);
+        truly = joined.truly bs (subst (AllByRecursion (IsTrulyUnclassified bs)) are looked.truly);
+        unclassified = joined.unclassified bs es (subst (AreUnclassifiedCollected bs es) are looked.unclassified);
         each = λ more now v u stands under. (
             let old = subst (AreUnderPins more v) (sym c.deref_mut.ensures.value) under in
             joined.each now u (subst (AreUnderPins now u) are (looked.each more now v u stands old)));

@@ -3,7 +3,7 @@ use Rattle.std.proofs.Common.{refl, sym, ap, ◌∙◌, Err}
 use Rattle.model.specs.Operations.Operation.{Commit}
 use Rattle.model.specs.Operations.Response.{Number}
 use Rattle.model.specs.declared.refusals.Refusal.TheVariants.{NotOpen}
-use Rattle.commit_log.specs.LogState.{device_of as log_device}
+use Rattle.commit_log.specs.LogState.{log_device}
 use Rattle.engine.proofs.Calls.{refused_outside}
 use Rattle.engine.proofs.Committing.{cleared_still, ended_refused, ended_overwritten, ended_fault, joined, risen}
 use Rattle.engine.proofs.Committing.{not_risen, commit_memory, unwritten, crash_stored, added_none, added_once}

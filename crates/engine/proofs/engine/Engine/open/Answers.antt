@@ -8,7 +8,7 @@ use Rattle.model.specs.Machine.{State, opened, IsReached}
 use Rattle.model.specs.Map.{KeyMap, IsMap, IsInBounds}
 use Rattle.sector.specs.declared.device.Sectors.{Ghosts}
 use Rattle.commit_log.specs.LogImage.{span}
-use Rattle.commit_log.specs.LogState.{is_stopped, used_sectors, sector_count}
+use Rattle.commit_log.specs.LogState.{is_log_stopped, used_sectors, sector_count}
 use Rattle.commit_log.specs.Recovery.{map_after}
 use Rattle.pivot_check.specs.Kept.{IsEmpty}
 use Rattle.engine.specs.HistoryValue.{HistoryStandsFor}
@@ -19,7 +19,7 @@ use Rattle.engine.specs.declared.engine.Engine.{Engine}
 reached_opened : (map : KeyMap) (used count : ℕ) → IsMap map → IsReached (opened map used count)
 reached_opened map used count h = record { contents = map; sectors_used = used; sectors = count; inputs = []; is_map = h; is = refl }
 
-opened_stands : {D : Type 0} {g : Ghosts D} (e : Engine D g) (map : KeyMap) (used count : ℕ) → is_stopped e.log ≡ false → used ≡ used_sectors e.log
+opened_stands : {D : Type 0} {g : Ghosts D} (e : Engine D g) (map : KeyMap) (used count : ℕ) → is_log_stopped e.log ≡ false → used ≡ used_sectors e.log
     → sector_count e.log ≡ count → HistoryStandsFor e.history (λ _. true) map [] → IsEmpty e.history.committed.facts
     → e.running.entries ≡ [] → (g.keeps_model → IsStored e.log map) → StandsFor e (opened map used count)
 opened_stands e map used count running taken size h facts none stored = grind (arith, common_steps, reached_opened, both_ways)

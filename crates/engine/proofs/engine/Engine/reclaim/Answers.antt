@@ -21,7 +21,7 @@ returns g c =
         log = search rules;
       };
       versions = λ m h. subst (IsReclaimed e.history.versions new.versions) (numbers m h) c.reclaim.ensures.reclaimed;
-      unmixed = λ m h. c.reclaim.ensures.reclaims.unmixed h.active m.base m.history h.history
+      classified = λ m h. c.reclaim.ensures.reclaims.classified h.active m.base m.history h.history
           (are_active e new oldest _ least c.gather_begins-count.ensures.numbers m h);
       forgotten = λ m h. none_below e new oldest _ least c.gather_begins-count.ensures.numbers m h new.committed.facts c.reclaim.ensures.reclaims.forgotten;
       kept = c.reclaim.ensures.kept;

@@ -24,9 +24,9 @@ returns g c =
       };
       versions = λ m h. subst (IsReclaimedInPart e.history.versions new.versions) (numbers m h) c.reclaim_step-2.ensures.reclaimed;
       still = λ m h. subst (λ ns. c.reclaim_step-2.result ≡ is_garbage ns new) (numbers m h) c.reclaim_step-2.ensures.still;
-      unmixed = λ m h. c.reclaim_step-2.ensures.reclaims.unmixed h.active m.base m.history h.history
+      classified = λ m h. c.reclaim_step-2.ensures.reclaims.classified h.active m.base m.history h.history
           (are_active e new oldest _ least c.gather_begins-count.ensures.numbers m h);
-      given_back = search rules;
+      frees_runs = search rules;
       forgotten = λ m h. none_below e new oldest _ least c.gather_begins-count.ensures.numbers m h new.committed.facts
           c.reclaim_step-2.ensures.reclaims.forgotten;
       kept = c.reclaim_step-2.ensures.kept;
@@ -41,6 +41,6 @@ returns-then-is_empty-clause-keeps g c =
     c.reclaim_step.ensures.reclaims.stands c.reclaim_step.ensures.reclaims.last c.reclaim_step.ensures.reclaims.oldest in
     record { stands = stands; log = search rules }
 
-pub returns-then-is_empty-clause-unmixed : goal.returns-then-is_empty-clause-unmixed
-returns-then-is_empty-clause-unmixed g c m h = c.reclaim_step.ensures.reclaims.unmixed h.active m.base m.history h.history
+pub returns-then-is_empty-clause-classified : goal.returns-then-is_empty-clause-classified
+returns-then-is_empty-clause-classified g c m h = c.reclaim_step.ensures.reclaims.classified h.active m.base m.history h.history
     (λ n t. absurd (both_ways false refl t))

@@ -16,5 +16,5 @@ returns-clause-reclaims c =
       last = search rules;
       oldest = search rules;
       forgotten = c.forget.ensures.forgotten;
-      unmixed = λ active base history h among. c.reclaim.ensures.unmixed active base history (before active base history h).versions among;
+      classified = λ active base history h among. c.reclaim.ensures.classified active base history (before active base history h).versions among;
     }

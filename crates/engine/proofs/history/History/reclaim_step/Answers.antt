@@ -16,6 +16,6 @@ returns-clause-reclaims c =
       last = search rules;
       oldest = search rules;
       forgotten = c.forget_step-garbage_runs.ensures.forgotten;
-      unmixed = λ active base history h among. c.reclaim_step-garbage_versions.ensures.unmixed active base history (before active base history h).versions
+      classified = λ active base history h among. c.reclaim_step-garbage_versions.ensures.classified active base history (before active base history h).versions
           among;
     }

@@ -53,20 +53,20 @@ invariant_of-self g c =
             ended = rw c.device.ensures at ended;
           })
           old.sessions _ _ (rw c.device.ensures at c.end_drives.ensures.left) old.serving;
-      sessions = remain_sessions later driven new (ended_remain driven new ghosts.tells ghosts.traffic _ ended) c.drive_ready.ensures.sessions;
-      entries = ended_entries driven new ghosts.tells ghosts.traffic _ ended later
+      sessions = remain_sessions later driven new (ended_remain driven new ghosts.reports ghosts.traffic _ ended) c.drive_ready.ensures.sessions;
+      entries = ended_entries driven new ghosts.reports ghosts.traffic _ ended later
           (driven_entries old.hub later _ _ ready driven old.stands c.drive_ready.ensures.driven.leads
           (polled_entries old.table.slots ready events turns old.hub old.entries));
-      numbers = remain_numbers old.next driven new (ended_remain driven new ghosts.tells ghosts.traffic _ ended)
+      numbers = remain_numbers old.next driven new (ended_remain driven new ghosts.reports ghosts.traffic _ ended)
           (below_after old.next ready driven (remain_numbers old.next old.table.slots ready (polled_remain old.table.slots ready events turns) old.numbers)
           c.drive_ready.ensures.numbers);
-      places = remain_places driven new (ended_remain driven new ghosts.tells ghosts.traffic _ ended)
+      places = remain_places driven new (ended_remain driven new ghosts.reports ghosts.traffic _ ended)
           (places_after ready driven c.drive_ready.ensures.numbers
           (remain_places old.table.slots ready (polled_remain old.table.slots ready events turns) old.places));
       peers = leads_lack old.hub later c.drive_ready.ensures.driven.leads old.table.slots new
-          (drives_wait ghosts.traffic CameShort ghosts.tells old.table.slots ready driven new events turns
+          (drives_wait ghosts.traffic CameShort ghosts.reports old.table.slots ready driven new events turns
           (polled_sessions old.table.slots ready events turns old.hub old.sessions).own _ ended c.drive_ready.ensures.waits old.rested) old.peers;
-      rested = ended_rested ghosts.tells ghosts.traffic _ driven new ended;
+      rested = ended_rested ghosts.reports ghosts.traffic _ driven new ended;
       next_place = c.next_turns-self.ensures.places.0;
       beside_place = c.next_turns-self.ensures.places.1;
     }
@@ -103,5 +103,5 @@ returns-clause-keeps g c =
     in
     let has_own = polled_sessions old.table.slots ready events turns old.hub old.sessions in
     leads_map old.hub c.drive_ready.new.hub _ _ c.drive_ready.ensures.driven.leads (λ h k stands d has.
-    drives_bytes ghosts.tells ghosts.traffic _ old.table.slots ready c.drive_ready.new.table.slots c.end_drives.new.table.slots events turns has_own.own
+    drives_bytes ghosts.reports ghosts.traffic _ old.table.slots ready c.drive_ready.new.table.slots c.end_drives.new.table.slots events turns has_own.own
     c.end_drives.ensures.ended h k d has)

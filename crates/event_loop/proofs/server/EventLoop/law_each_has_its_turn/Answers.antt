@@ -3,4 +3,4 @@ use Rattle.event_loop.proofs.Ordering.{each_soon}
 use Rattle.event_loop.specs.contracts.socket.SocketStream.TheImpl.{ghosts}
 
 pub returns : goal.returns
-returns g c = record { soon = λ old new turn key ready. each_soon ghosts.tells ghosts.traffic old new turn key c.law_each_comes_nearer.ensures ready }
+returns g c = record { soon = λ old new turn key ready. each_soon ghosts.reports ghosts.traffic old new turn key c.law_each_comes_nearer.ensures ready }

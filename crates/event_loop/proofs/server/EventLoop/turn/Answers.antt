@@ -21,26 +21,26 @@ invariant_of-self-3-clause-serving g c =
 
 pub returns-clause-turned : goal.returns-clause-turned
 returns-clause-turned g c =
-    let due : accepts_now c.args.self.now.backlog (items c.give_back.new.self.poller.events)
+    let due : accepts_now c.args.self.now.backlog (items c.collect_garbage.new.self.poller.events)
     ≡ accepts_now c.drive.new.self.backlog (items c.drive.new.self.poller.events) =
-    ap (λ (p : Poller). accepts_now c.args.self.now.backlog (items p.events)) (c.give_back.ensures.poller ∙ c.accept_reported.ensures.poller)
+    ap (λ (p : Poller). accepts_now c.args.self.now.backlog (items p.events)) (c.collect_garbage.ensures.poller ∙ c.accept_reported.ensures.poller)
     ∙ ap (λ backlog. accepts_now backlog (items c.drive.new.self.poller.events)) (sym c.drive.ensures.backlog)
     in
-    turned_by ghosts.tells ghosts.traffic c.args.self.now _ c.accept_reported.new.self c.give_back.new.self (c.give_back.ensures.turns
+    turned_by ghosts.reports ghosts.traffic c.args.self.now _ c.accept_reported.new.self c.collect_garbage.new.self (c.collect_garbage.ensures.turns
     ∙ c.accept_reported.ensures.turns) c.drive.ensures.next c.drive.ensures.port c.drive.ensures.backlog
-    c.drive.ensures.refused c.accept_reported.ensures.lingerers c.give_back.ensures.gives_back c.wait.new.self (c.give_back.ensures.poller
+    c.drive.ensures.refused c.accept_reported.ensures.lingerers c.collect_garbage.ensures.collects c.wait.new.self (c.collect_garbage.ensures.poller
     ∙ c.accept_reported.ensures.poller ∙ c.drive.ensures.poller) _ due
     c.is_reported-comes_more.result (c.is_reported-comes_more.ensures
     ∙ ap (λ (p : Poller). is_reported_of LINGERER (items p.events)) c.drive.ensures.poller) c.drive.ensures.drives.0
     (record { begun = lingers_in c.drive.new.self.lingering; left = c.drive.ensures.drives.1; turned = rw c.device.ensures at c.turn.ensures })
     c.accept_reported.ensures.accepts
-    (rest_leads c.law_runs_follow.ensures.follow c.args.self.now.hub c.accept_reported.new.self c.give_back.new.self c.give_back.ensures.gives_back _
+    (rest_leads c.law_runs_follow.ensures.follow c.args.self.now.hub c.accept_reported.new.self c.collect_garbage.new.self c.collect_garbage.ensures.collects _
     (then_accepts c.law_runs_follow.ensures.follow c.args.self.now.hub _ c.accept_reported.new.self _ c.drive.ensures.drives.0.drives.leads _
     c.accept_reported.ensures.accepts))
 
 pub returns-clause-bytes : goal.returns-clause-bytes
 returns-clause-bytes g c =
-    rest_keeps c.law_runs_follow.ensures.follow c.args.self.now.hub c.accept_reported.new.self c.give_back.new.self c.give_back.ensures.gives_back
+    rest_keeps c.law_runs_follow.ensures.follow c.args.self.now.hub c.accept_reported.new.self c.collect_garbage.new.self c.collect_garbage.ensures.collects
     c.args.self.now.table.slots
     (accepts_keep c.law_runs_follow.ensures.follow c.args.self.now.hub _ c.accept_reported.new.self c.args.self.now.table.slots c.drive.ensures.keeps _
     c.accept_reported.ensures.accepts)
@@ -57,12 +57,12 @@ returns-in_err-wait-clause-waits g c =
 
 pub returns-clause-waits : goal.returns-clause-waits
 returns-clause-waits g c =
-    let same : c.give_back.new.self.poller ≡ c.wait.new.self = c.give_back.ensures.poller ∙ c.accept_reported.ensures.poller
+    let same : c.collect_garbage.new.self.poller ≡ c.wait.new.self = c.collect_garbage.ensures.poller ∙ c.accept_reported.ensures.poller
     ∙ c.drive.ensures.poller in record {
       polled = ap polls_of same ∙ c.in_ok-wait.ensures.polls;
       waited = ap (λ (p : Poller). nanos_of p.waited) same ∙ ap nanos_of c.wait.ensures.waited ∙ c.next_wait-wait.ensures;
       asked = subst (λ (p : Poller). WasAskedOnce c.args.self.now.poller.poll p.waited p.poll) (sym same) c.wait.ensures.asked;
-      room = c.give_back.new.self.room;
+      room = c.collect_garbage.new.self.room;
     }
 
 pub returns-in_err-wait-clause-served : goal.returns-in_err-wait-clause-served
@@ -74,5 +74,6 @@ returns-in_err-wait-clause-served g c = (
 pub returns-clause-served : goal.returns-clause-served
 returns-clause-served g c = (
   is_served c.args.self.now.hub c.args.self.now.table.slots c.args.self.now.lingering.queue.items c.args.self.now.serving,
-  is_served c.give_back.new.self.hub c.give_back.new.self.table.slots c.give_back.new.self.lingering.queue.items c.give_back.new.self.serving,
+  is_served c.collect_garbage.new.self.hub c.collect_garbage.new.self.table.slots c.collect_garbage.new.self.lingering.queue.items
+      c.collect_garbage.new.self.serving,
 )

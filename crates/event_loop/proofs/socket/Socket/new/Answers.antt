@@ -5,9 +5,9 @@ use Rattle.event_loop.specs.Sockets.{departure_of}
 
 pub returns-clause-uncalled : goal.returns-clause-uncalled
 returns-clause-uncalled c = let none = c.new-2.ensures in record {
-  received = λ tells. (tells.begins c.new.result c.new.ensures.calls).0;
-  sent = λ tells. ap (λ l. latest [] l) (tells.begins c.new.result c.new.ensures.calls).1;
-  departed = λ tells. ap (λ l. map departure_of l) (tells.begins c.new.result c.new.ensures.calls).1;
+  received = λ reports. (reports.begins c.new.result c.new.ensures.calls).0;
+  sent = λ reports. ap (λ l. latest [] l) (reports.begins c.new.result c.new.ensures.calls).1;
+  departed = λ reports. ap (λ l. map departure_of l) (reports.begins c.new.result c.new.ensures.calls).1;
   counts = (
     (λ i. (none i).read_blocked),
     (λ i. (none i).read_failed),

@@ -10,23 +10,23 @@ pub invariant_of-self : goal.invariant_of-self
 invariant_of-self c =
     let o = c.args.oldest in
     let was = c.args.self.now in
-    let told = c.told_of-told.result in
-    let first = c.give_room_back.ensures.first ∙ c.sweep.ensures.swept in
-    let second = c.give_room_back.ensures.second ∙ c.sweep-2.ensures.swept in
+    let in_force = c.number_in_force-in_force.result in
+    let first = c.free_room.ensures.first ∙ c.sweep.ensures.swept in
+    let second = c.free_room.ensures.second ∙ c.sweep-2.ensures.swept in
     let made = c.sweep-3.ensures.swept in
     let merged : (k : Bytes)
-    → merged_at c.give_room_back.new.first.items c.give_room_back.new.second.items c.sweep-3.new.steps.items k
+    → merged_at c.free_room.new.first.items c.free_room.new.second.items c.sweep-3.new.steps.items k
     ≡ cut o (merged_at was.first.items was.second.items was.made.items k)
-    = λ k. (λ i. merged_at (c.give_room_back.ensures.first i) (c.give_room_back.ensures.second i) c.sweep-3.new.steps.items k)
-    ∙ merged_swept o told was.first.items was.second.items was.made.items c.sweep.new.steps.items c.sweep-2.new.steps.items c.sweep-3.new.steps.items k
-    was.first_rises was.second_rises c.sweep.ensures.swept c.sweep-2.ensures.swept made c.told_of-told.ensures in
+    = λ k. (λ i. merged_at (c.free_room.ensures.first i) (c.free_room.ensures.second i) c.sweep-3.new.steps.items k)
+    ∙ merged_swept o in_force was.first.items was.second.items was.made.items c.sweep.new.steps.items c.sweep-2.new.steps.items c.sweep-3.new.steps.items k
+    was.first_rises was.second_rises c.sweep.ensures.swept c.sweep-2.ensures.swept made c.number_in_force-in_force.ensures in
     record {
-      first_rises = (λ i. steps_rise (first i ++ made i)) ∙ rises_swept o (Some 0) told was.first.items was.made.items was.first_rises;
-      second_rises = (λ i. steps_rise (second i ++ made i)) ∙ rises_swept o (Some 0) told was.second.items was.made.items was.second_rises;
+      first_rises = (λ i. steps_rise (first i ++ made i)) ∙ rises_swept o (Some 0) in_force was.first.items was.made.items was.first_rises;
+      second_rises = (λ i. steps_rise (second i ++ made i)) ∙ rises_swept o (Some 0) in_force was.second.items was.made.items was.second_rises;
       room = omega (
         arith,
         was.room,
-        c.give_room_back.ensures.lens,
+        c.free_room.ensures.lens,
         c.sweep.ensures.len,
         c.sweep-2.ensures.len,
         c.sweep-3.ensures.len,
@@ -34,7 +34,7 @@ invariant_of-self c =
       );
       upto = λ k. omega (arith, merged k, cut_low o (merged_at was.first.items was.second.items was.made.items k), was.upto k);
       numbers = (λ i. are_from (o + 1) (first i) (second i) (made i))
-          ∙ and_from _ _ (from_swept o (Some 0) was.first.items) (and_from _ _ (from_swept o (Some 0) was.second.items) (from_swept o told was.made.items));
+          ∙ and_from _ _ (from_swept o (Some 0) was.first.items) (and_from _ _ (from_swept o (Some 0) was.second.items) (from_swept o in_force was.made.items));
     }
 
 pub returns-clause-agree : goal.returns-clause-agree
@@ -43,7 +43,8 @@ returns-clause-agree c = λ k.
     let was = c.args.self.now in
     cut_either o _ _ 0 (
     ap (cut o)
-    ((λ i. merged_at (c.give_room_back.ensures.first i) (c.give_room_back.ensures.second i) c.sweep-3.new.steps.items k)
-    ∙ merged_swept o c.told_of-told.result was.first.items was.second.items was.made.items c.sweep.new.steps.items c.sweep-2.new.steps.items
-    c.sweep-3.new.steps.items k was.first_rises was.second_rises c.sweep.ensures.swept c.sweep-2.ensures.swept c.sweep-3.ensures.swept c.told_of-told.ensures)
+    ((λ i. merged_at (c.free_room.ensures.first i) (c.free_room.ensures.second i) c.sweep-3.new.steps.items k)
+    ∙ merged_swept o c.number_in_force-in_force.result was.first.items was.second.items was.made.items c.sweep.new.steps.items c.sweep-2.new.steps.items
+    c.sweep-3.new.steps.items k was.first_rises was.second_rises c.sweep.ensures.swept c.sweep-2.ensures.swept c.sweep-3.ensures.swept
+    c.number_in_force-in_force.ensures)
     ∙ cut_again o (merged_at was.first.items was.second.items was.made.items k))

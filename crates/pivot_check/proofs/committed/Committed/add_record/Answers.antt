@@ -1,7 +1,7 @@
 use Rattle.pivot_check.proofs.committed.Committed.add_record.Goals as goal
 use Rattle.std.proofs.Common.{◌∙◌, ◌≡◌, ◌+◌, Bool, sym, ap, subst, arith}
 use Rattle.std.proofs.lemmas.List.{nil_from_length}
-use Rattle.last_readers.specs.Readers.{last_reader, IsNoted, HasRoom as HasReadersRoom, ReadersRoom}
+use Rattle.last_readers.specs.Readers.{last_reader, IsNoted, HasReadersRoom, ReadersRoom}
 use Rattle.pivot_check.proofs.Judging.{notes, upto_own}
 use Rattle.pivot_check.proofs.LastSources.{noted_upto, noted_above}
 use Rattle.pivot_check.specs.Inside.{postings_in}

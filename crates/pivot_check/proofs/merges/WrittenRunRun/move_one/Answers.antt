@@ -7,4 +7,4 @@ use Rattle.pivot_check.specs.Postings.{Posting}
 pub returns-clause-agree : goal.returns-clause-agree
 returns-clause-agree c = λ t.
     let above = λ (p : Posting). nat_lt c.args._oldest p.number && t p in
-    same_agrees above _ _ (c.give_room_back.ensures.same above ∙ c.move_least.ensures.same above)
+    same_agrees above _ _ (c.free_room.ensures.same above ∙ c.move_least.ensures.same above)

@@ -32,7 +32,7 @@ invariant_of-self c =
     }
 
 pub returns-clause-from : goal.returns-clause-from
-returns-clause-from c = c.give_room_back.ensures.from c.args.oldest (omega arith)
+returns-clause-from c = c.free_room.ensures.from c.args.oldest (omega arith)
     (omega (arith, c.sweep.ensures.number, c.sweep-2.ensures.number, c.sweep-3.ensures.number))
 
 pub returns-clause-agree : goal.returns-clause-agree
@@ -41,7 +41,7 @@ returns-clause-agree c = λ t.
     let o = c.args.oldest in
     let above = λ (p : Posting). nat_lt o p.number && t p in
     let one = λ (ps : List Posting). least-append above ps [] ∙ lesser_none (least above ps) in
-    one (in_run c.give_room_back.new.run) ∙ c.give_room_back.ensures.same above
+    one (in_run c.free_room.new.run) ∙ c.free_room.ensures.same above
     ∙ ap (least above) (all_parts o (live was.made) (live was.first) (live was.second) (live c.sweep-3.new.self) (live c.sweep.new.self)
     (live c.sweep-2.new.self) c.sweep-3.ensures.left c.sweep.ensures.left c.sweep-2.ensures.left)
     ∙ asked_later o t (in_run was) ∙ sym (one (in_run was))
@@ -50,7 +50,7 @@ pub returns-clause-swept : goal.returns-clause-swept
 returns-clause-swept c =
     let was = c.args.self.now in
     let o = c.args.oldest in
-    let sizes = c.give_room_back.ensures.sizes in
+    let sizes = c.free_room.ensures.sizes in
     record {
       last = ap (λ (s : RunSize). s.last) sizes;
       left = omega (
@@ -68,7 +68,7 @@ returns-clause-held c =
     let o = c.args.oldest in
     omega (
       arith,
-      c.give_room_back.ensures.held,
+      c.free_room.ensures.held,
       fewer_in o was.first c.sweep.new.self c.sweep.ensures.written,
       fewer_in o was.second c.sweep-2.new.self c.sweep-2.ensures.written,
       fewer_in o was.made c.sweep-3.new.self c.sweep-3.ensures.written,

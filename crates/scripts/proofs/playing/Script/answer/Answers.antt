@@ -11,9 +11,9 @@ use Rattle.sessions.specs.declared.events.Status.{Status}
 use Rattle.sessions.specs.declared.events.Status.TheVariants.{Open}
 use Rattle.scripts.proofs.Runs.{err_is}
 use Rattle.scripts.proofs.Steps.{sends_alike}
-use Rattle.scripts.specs.Calls.{Served}
+use Rattle.scripts.specs.Calls.{ServesRequest}
 use Rattle.scripts.specs.Lines.{ScriptLine, frame_of, printed_line}
-use Rattle.scripts.specs.Transcript.{Scene, granted, after, received, PrintsIn}
+use Rattle.scripts.specs.Transcript.{Scene, granted, hub_after, received, PrintsIn}
 use Rattle.scripts.specs.declared.faults.ScriptFault.TheVariants.{File, Memory}
 
 -- where the session is not open nothing is printed
@@ -42,27 +42,27 @@ returns g c here is_at =
     let frame : c.deref.result.now ≡ frame_of line.words =
     c.deref.ensures.value ∙ c.in_ok-write_frame.ensures.ok ∙ ap (λ xs. xs ++ frame_of line.words) c.clear.ensures.items in
     let came : HubState = received here.hub s (frame_of line.words) in
-    let served : Served c.serve.new.hub came s =
-    subst (λ bytes. Served c.serve.new.hub (received here.hub s bytes) s) frame (c.in_ok-serve.ensures here.hub is_at.hub) in
-    let done : HubState = (hub_step came (Serves s) (granted served.front served.failed)).0 in
+    let served : ServesRequest c.serve.new.hub came s =
+    subst (λ bytes. ServesRequest c.serve.new.hub (received here.hub s bytes) s) frame (c.in_ok-serve.ensures here.hub is_at.hub) in
+    let done : HubState = (hub_step came (Serves s) (granted served.head served.failed)).0 in
     let reply : Bytes = c.pending-pending.result.now in
     let printed : c.deref-2.result.now ≡ printed_line line.label reply =
     c.deref-2.ensures.value ∙ c.in_ok-write_reply.ensures ∙ ap (λ xs. xs ++ printed_line c.label.result reply) c.clear-2.ensures.items
     ∙ ap (λ n. printed_line n reply) c.label.ensures in
     let leads = c.step.ensures.step in
     record {
-      scene = record { hub = after done (Sends s (length reply)); labels = here.labels };
+      scene = record { hub = hub_after done (Sends s (length reply)); labels = here.labels };
       printed = printed_line line.label reply;
       at = record {
         hub = subst (λ k. StandsFor c.step.new.self k) (ap (λ r. r.0) (sends_alike done s (length reply) leads.0 (granted More false)))
             (reached c.serve.new.hub c.step.new.self (Sends s (length reply)) c.step.result leads done served.stands).stands;
         labels = is_at.labels;
       };
-      prints = subst (λ st. PrintsIn st here s line (record { hub = after done (Sends s (length reply)); labels = here.labels })
+      prints = subst (λ st. PrintsIn st here s line (record { hub = hub_after done (Sends s (length reply)); labels = here.labels })
           (printed_line line.label reply)) (sym opened) (
             reply,
             record {
-              front = served.front;
+              head = served.head;
               failed = served.failed;
               possible = served.possible;
               reply_is = c.pending-pending.ensures.bytes ∙ pending_seen _ done served.stands s;
@@ -98,15 +98,15 @@ returns-in_err-write_out g c here is_at =
     let frame : c.deref.result.now ≡ frame_of line.words =
     c.deref.ensures.value ∙ c.in_ok-write_frame.ensures.ok ∙ ap (λ xs. xs ++ frame_of line.words) c.clear.ensures.items in
     let came : HubState = received here.hub s (frame_of line.words) in
-    let served : Served c.serve.new.hub came s =
-    subst (λ bytes. Served c.serve.new.hub (received here.hub s bytes) s) frame (c.in_ok-serve.ensures here.hub is_at.hub) in
-    let done : HubState = (hub_step came (Serves s) (granted served.front served.failed)).0 in
+    let served : ServesRequest c.serve.new.hub came s =
+    subst (λ bytes. ServesRequest c.serve.new.hub (received here.hub s bytes) s) frame (c.in_ok-serve.ensures here.hub is_at.hub) in
+    let done : HubState = (hub_step came (Serves s) (granted served.head served.failed)).0 in
     let reply : Bytes = c.pending-pending.result.now in
     let printed : c.deref-2.result.now ≡ printed_line line.label reply =
     c.deref-2.ensures.value ∙ c.in_ok-write_reply.ensures ∙ ap (λ xs. xs ++ printed_line c.label.result reply) c.clear-2.ensures.items
     ∙ ap (λ n. printed_line n reply) c.label.ensures in
     let why = c.in_err-write_out.ensures in
-    let next : Scene = record { hub = after done (Sends s (length reply)); labels = here.labels } in
+    let next : Scene = record { hub = hub_after done (Sends s (length reply)); labels = here.labels } in
     rw (err_is c.from_residual-in_err-write_out.result File
     (subst (λ f. IsErrAnd c.from_residual-in_err-write_out.result (λ x. x ≡ f)) why.0 c.from_residual-in_err-write_out.ensures.1)) (record {
       scene = next;
@@ -115,7 +115,7 @@ returns-in_err-write_out g c here is_at =
       prints = subst (λ st. PrintsIn st here s line next (why.1.0 ++ why.1.1)) (sym opened) (
         reply,
         record {
-          front = served.front;
+          head = served.head;
           failed = served.failed;
           possible = served.possible;
           reply_is = c.pending-pending.ensures.bytes ∙ pending_seen _ done served.stands s;

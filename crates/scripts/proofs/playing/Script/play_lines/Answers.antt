@@ -3,7 +3,7 @@ use Rattle.std.proofs.Common.{◌≡◌, ◌+◌, Option, Ok, Err, true, false, 
 use Rattle.std.specs.Prelude.{IfSome}
 use Rattle.model.specs.Map.{Bytes}
 use Rattle.scripts.proofs.Runs.{lift, err_is, run_none, run_ends, run_more, run_stops, run_unread}
-use Rattle.scripts.specs.Calls.{ReadsLine, Runs, RunSoFar}
+use Rattle.scripts.specs.Calls.{ReadsLine, RunsText, RunSoFar}
 use Rattle.scripts.specs.Lines.{lines_of}
 use Rattle.scripts.specs.Transcript.{Plays}
 use Rattle.scripts.specs.declared.faults.ScriptFault.TheVariants.{File}
@@ -44,7 +44,7 @@ returns-in_err-play_text g c first is_at =
     (λ script. Plays first (lines_of script) c.from_residual-in_err-play_text.result before printed)
     (λ script so_far. subst (λ r. Plays first (lines_of script) r before printed) (sym is)
     (run_stops first (lines_of script) c.loop-number.number c.loop-number.self left before held so_far text after reads c.play_text.new.self printed fault
-    (λ scene at. subst (λ t. Runs scene c.loop-number.number t (Err fault) c.play_text.new.self held printed) c.deref.ensures.value
+    (λ scene at. subst (λ t. RunsText scene c.loop-number.number t (Err fault) c.play_text.new.self held printed) c.deref.ensures.value
     (c.in_err-play_text.ensures scene at)))) (c.loop-number.invariant first is_at)
 
 pub loop-number-preserved : goal.loop-number-preserved
@@ -62,7 +62,7 @@ loop-number-preserved g c first is_at =
     (λ script. RunSoFar first (lines_of script) (c.loop-number.number + 1) c.play_text.new.self after before printed)
     (λ script so_far. run_more first (lines_of script) c.loop-number.number c.loop-number.self left before held so_far text after reads c.play_text.new.self
     printed
-    (λ scene at. subst (λ t. Runs scene c.loop-number.number t (Ok tt) c.play_text.new.self held printed) c.deref.ensures.value
+    (λ scene at. subst (λ t. RunsText scene c.loop-number.number t (Ok tt) c.play_text.new.self held printed) c.deref.ensures.value
     (c.in_ok-play_text.ensures scene at))) (c.loop-number.invariant first is_at)
 
 pub returns-in_err-next_line : goal.returns-in_err-next_line

@@ -3,7 +3,7 @@ use Rattle.std.proofs.Common.{◌≡◌, ◌≢◌, true, false, [], length, Som
 use Rattle.std.specs.Prelude.{◌==◌, IsErrAnd}
 use Rattle.scripts.proofs.Runs.{err_is, text_runs}
 use Rattle.scripts.specs.Calls.{Finds, RunsLine}
-use Rattle.scripts.specs.Transcript.{Scene, with_label, IsCrowded}
+use Rattle.scripts.specs.Transcript.{Scene, with_label, IsLabelTooMany}
 use Rattle.scripts.specs.declared.faults.ScriptFault.TheVariants.{Memory}
 
 pub returns : goal.returns
@@ -28,5 +28,5 @@ returns-in_err-session g c scene is_at =
     let why = c.in_err-session.ensures scene is_at in
     let is : c.from_residual.result ≡ Err Memory =
     err_is c.from_residual.result Memory (subst (λ f. IsErrAnd c.from_residual.result (λ x. x ≡ f)) why.0 c.from_residual.ensures.1) in
-    let place : IsCrowded scene line.label → ⊥ = subst (λ n. IsCrowded scene n → ⊥) c.label.ensures why.1 in
+    let place : IsLabelTooMany scene line.label → ⊥ = subst (λ n. IsLabelTooMany scene n → ⊥) c.label.ensures why.1 in
     rw is ((line, c.in-Some.ensures, place), refl)

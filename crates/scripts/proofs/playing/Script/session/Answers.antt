@@ -7,8 +7,8 @@ use Rattle.sessions.specs.StandsFor.{StandsFor}
 use Rattle.scripts.proofs.Labels.{known_session, known_not_crowded, known_scene, fresh_session, fresh_scene}
 use Rattle.scripts.proofs.Runs.{err_is}
 use Rattle.scripts.proofs.Steps.{joins_alike}
-use Rattle.scripts.specs.Calls.{IsAt}
-use Rattle.scripts.specs.Transcript.{place_of, after}
+use Rattle.scripts.specs.Calls.{IsAtScene}
+use Rattle.scripts.specs.Transcript.{place_of, hub_after}
 use Rattle.scripts.specs.declared.faults.ScriptFault.TheVariants.{Memory}
 use Rattle.scripts.specs.declared.playing.Script.{Script}
 
@@ -19,7 +19,7 @@ returns-in-Some g c scene is_at =
     let known : place_of scene.labels c.args.label ≡ Some c.in-Some.place = sym found ∙ c.in-Some.is in (
       known_session scene c.args.label c.in-Some.place known,
       known_not_crowded scene c.args.label c.in-Some.place known,
-      subst (λ k. IsAt {D = g.row.D.Denot} {g = g.D.Sectors} c.args.self.now k) (sym (known_scene scene c.args.label c.in-Some.place known)) is_at,
+      subst (λ k. IsAtScene {D = g.row.D.Denot} {g = g.D.Sectors} c.args.self.now k) (sym (known_scene scene c.args.label c.in-Some.place known)) is_at,
     )
 
 pub returns-then-len-ge-SESSIONS_MAX : goal.returns-then-len-ge-SESSIONS_MAX
@@ -39,13 +39,13 @@ returns-in-Done g c scene is_at =
     ap length is_at.labels in omega arith in
     let leads = c.step.ensures.step in
     let granted_all : leads.0.refused ≡ false = leads.1 ∙ ap is_memory c.in-Done.is in
-    let same : (hub_step scene.hub (Joins c.len-session.result) leads.0).0 ≡ after scene.hub (Joins (length scene.labels)) =
+    let same : (hub_step scene.hub (Joins c.len-session.result) leads.0).0 ≡ hub_after scene.hub (Joins (length scene.labels)) =
     ap (λ n. (hub_step scene.hub (Joins n) leads.0).0) len ∙ ap (λ r. r.0) (joins_alike scene.hub (length scene.labels) leads.0 granted_all) in
     let script : Script g.row.D.Denot g.D.Sectors =
     record { hub = c.step.new.self; labels = c.push.new.self; frame = c.args.self.now.frame; reply = c.args.self.now.reply } in (
       len ∙ fresh_session scene c.args.label fresh,
       (λ crowded. let many : 128 ≤ length scene.labels = crowded.1 in omega arith),
-      subst (λ k. IsAt script k) (sym (fresh_scene scene c.args.label fresh)) (record {
+      subst (λ k. IsAtScene script k) (sym (fresh_scene scene c.args.label fresh)) (record {
         hub = subst (λ k. StandsFor c.step.new.self k) same
             (reached c.args.self.now.hub c.step.new.self (Joins c.len-session.result) c.step.result leads scene.hub is_at.hub).stands;
         labels = c.in_ok-push.ensures.items ∙ ap (λ ls. ls ++ c.args.label ∷ []) is_at.labels;

@@ -1,5 +1,5 @@
 use Rattle.sessions.proofs.hub.Hub.law_loses_nothing.Goals as goal
-use Rattle.sessions.proofs.LivesLaws.{keeps_answered}
+use Rattle.sessions.proofs.RestartLaws.{keeps_answered}
 use Rattle.sessions.proofs.Runs.{law_loses_nothing}
 
 pub returns-clause-crash : goal.returns-clause-crash

@@ -22,8 +22,8 @@ returns-in-Ok-clause-opens g c keeps = record {
       record { used = 2 + span x.0; stands = subst P x.2 (c.new.ensures.stands _ found) });
 }
 
-pub returns-in-Ok-clause-tells : goal.returns-in-Ok-clause-tells
-returns-in-Ok-clause-tells g c = record {
+pub returns-in-Ok-clause-reports : goal.returns-in-Ok-clause-reports
+returns-in-Ok-clause-reports g c = record {
   faults = search;
   cause = search;
   short = c.in-Ok.ensures.short;
@@ -32,8 +32,8 @@ returns-in-Ok-clause-tells g c = record {
   older = λ keeps. (c.in-Ok.ensures.finds keeps).older;
 }
 
-pub returns-in-Err-clause-tells : goal.returns-in-Err-clause-tells
-returns-in-Err-clause-tells g c = record {
+pub returns-in-Err-clause-reports : goal.returns-in-Err-clause-reports
+returns-in-Err-clause-reports g c = record {
   faults = c.in-Err.ensures.refused.fault;
   cause = c.in-Err.ensures.refused.cause;
   short = c.in-Err.ensures.short;

@@ -1,6 +1,6 @@
 use Rattle.sessions.proofs.hub.Hub.reclaim_step.Goals as goal
 use Rattle.std.proofs.Common.{ap}
-use Rattle.commit_log.specs.LogState.{device_of as log_device, is_stopped as is_log_stopped}
+use Rattle.commit_log.specs.LogState.{log_device, is_log_stopped}
 use Rattle.sessions.proofs.Runs.{sound}
 
 pub returns : goal.returns
@@ -22,7 +22,7 @@ returns g c = let law = c.law_machine_is_serializable.ensures in record {
   );
   versions = λ h s. c.reclaim_step-more.ensures.versions h.machine s.engine;
   more_is = λ h s. c.reclaim_step-more.ensures.still h.machine s.engine;
-  runs = c.reclaim_step-more.ensures.given_back;
+  runs = c.reclaim_step-more.ensures.frees_runs;
   forgotten = λ h s. c.reclaim_step-more.ensures.forgotten h.machine s.engine;
   kept = c.reclaim_step-more.ensures.kept;
 }

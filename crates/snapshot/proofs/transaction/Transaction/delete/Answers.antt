@@ -3,7 +3,7 @@ use Rattle.std.proofs.Common.{◌≡◌, arith, Option, None, Err, sym, ap, subs
 use Rattle.std.proofs.lemmas.Grind.{common_steps}
 use Rattle.model.specs.Map.{Bytes}
 use Rattle.model.specs.PrivateCopy.{answer}
-use Rattle.write_buffer.specs.Buffered.{is_full_for}
+use Rattle.write_buffer.specs.Buffered.{is_full_for_key}
 use Rattle.write_buffer.specs.declared.faults.WritesFault.{WritesFault}
 use Rattle.snapshot.proofs.Copies.{Answered, write-reply, write-made, write-full, write_of, as_fault}
 use Rattle.snapshot.proofs.transaction.Transaction.delete.Goals.{in-Ok, in-Err-FullWrites, in-Err-Memory}
@@ -35,8 +35,8 @@ returns c =
       ok = grind (arith, common_steps);
       err = grind (arith, common_steps);
       known = grind (arith, common_steps);
-      full = subst (λ (u : View). (c.match-delete.result ≡ Err FullWrites) ↔ IsTrue (is_full_for u.writes k)) c.self.view_is
-          (subst (λ r. (r ≡ Err FullWrites) ↔ IsTrue (is_full_for c.self.inside.buffer k)) is full);
+      full = subst (λ (u : View). (c.match-delete.result ≡ Err FullWrites) ↔ IsTrue (is_full_for_key u.writes k)) c.self.view_is
+          (subst (λ r. (r ≡ Err FullWrites) ↔ IsTrue (is_full_for_key c.self.inside.buffer k)) is full);
       reply = λ m qs h. subst (λ r. IsDoneReply r (answer m qs (write_of k v))) is
           (write-reply c.delete.result t c.delete.new.self m qs k v answered (subst (λ (u : View). HasMade u m qs) (sym c.self.view_is) h));
       made = subst (λ (u : View). OnOk c.match-delete.result (MakesOneMore u after (write_of k v))) c.self.view_is

@@ -5,7 +5,7 @@ use Rattle.stream_driver.specs.Buffers.{buffered_in}
 
 abbrev pub invariant-loop-self : goal.invariant-loop-self
 invariant-loop-self g l = record {
-  so_far : FlushedSoFar g.S.Stream.tells g.S.Stream.traffic (g.D.Sectors.moment l.device) l.initial.self l.self;
+  so_far : FlushedSoFar g.S.Stream.reports g.S.Stream.traffic (g.D.Sectors.moment l.device) l.initial.self l.self;
   short : g.S.Stream.came_short l.initial.self.inner → g.S.Stream.came_short l.self.inner;
 }
 

@@ -2,7 +2,7 @@ use Rattle.stream_driver.proofs.buffered.BufferedStream.take_some.Goals as goal
 use Rattle.std.proofs.Common.{rules, ◌≡◌, ◌<◌, [], length, arith}
 use Rattle.std.proofs.lemmas.Grind.{common_steps}
 use Rattle.stream_driver.proofs.Buffering.{takes_in, takes_on, takes_why}
-use Rattle.stream_driver.specs.Buffers.{buffered_in, room_in}
+use Rattle.stream_driver.specs.Buffers.{buffered_in, buffer_room}
 
 pub returns-then-is_empty : goal.returns-then-is_empty
 returns-then-is_empty g c =
@@ -17,7 +17,7 @@ returns-then-is_empty g c =
 pub returns : goal.returns
 returns g c =
     let some : 0 < length c.args.from.now = grind (arith, common_steps) in
-    let room : 0 < room_in c.make_room.new.self.buffered = c.in-All.ensures.why.0 in
+    let room : 0 < buffer_room c.make_room.new.self.buffered = c.in-All.ensures.why.0 in
     let count = c.put.ensures.count in
     record {
       takes = takes_in c.in-All.ensures.kept c.in-All.ensures.failed c.put.new.self (

@@ -11,7 +11,7 @@ use Rattle.versions.proofs.Parts.{all-seen_more}
 use Rattle.versions.proofs.listing.Group.keep.Goals.{else-is_among-via-then-is_among+else-are_seen_from}
 use Rattle.versions.proofs.listing.Group.keep.Goals.{else-is_among-via-else-is_among}
 use Rattle.versions.specs.Groups.{GroupValue, Listed}
-use Rattle.versions.specs.Listings.{AreSeenFrom, IsSettled, is_seen_from, versions_in}
+use Rattle.versions.specs.Listings.{AreSeenFrom, IsCollected, is_seen_from, versions_in}
 use Rattle.versions.specs.Meaning.{is_among}
 use Rattle.versions.specs.Pins.{IsUnderPin}
 
@@ -34,24 +34,24 @@ returns-then-are_seen_from-clause-versions c =
     let g = c.self.inside in
     let put = ap versions_in c.append.ensures ∙ in-append g.lists c.args.lists in
     let all = λ (P : Listed → Type 0) (h : AllByRecursion P c.args.self.now.versions). (
-    all-seen_more P (versions_in g.lists) (versions_in g.garbage ++ versions_in g.mixed) (versions_in c.args.lists) (versions_in c.append.new.lists) put
+    all-seen_more P (versions_in g.lists) (versions_in g.garbage ++ versions_in g.unclassified) (versions_in c.args.lists) (versions_in c.append.new.lists) put
     (subst (λ (x : GroupValue). AllByRecursion P x.versions) (sym c.self.view_is) h)) in
-    let mixed = λ (P : Listed → Type 0) (h : AllByRecursion P c.args.self.now.mixed). (
-    subst (λ (x : GroupValue). AllByRecursion P x.mixed) (sym c.self.view_is) h) in
+    let unclassified = λ (P : Listed → Type 0) (h : AllByRecursion P c.args.self.now.unclassified). (
+    subst (λ (x : GroupValue). AllByRecursion P x.unclassified) (sym c.self.view_is) h) in
     record {
       found = grind (arith, common_steps);
       kept = grind (arith, common_steps);
-      settled = λ chains. all (IsSettled c.args.begins.now chains);
-      mixed = λ chains h more. mixed (IsSettled c.args.begins.now chains) h;
-      each = λ active v w h hm more. (all (IsUnderPin active v w) h more, mixed (IsUnderPin active v w) hm);
+      collected = λ chains. all (IsCollected c.args.begins.now chains);
+      unclassified = λ chains h more. unclassified (IsCollected c.args.begins.now chains) h;
+      each = λ active v w h hm more. (all (IsUnderPin active v w) h more, unclassified (IsUnderPin active v w) hm);
     }
 
 pub returns-else-is_among-clause-versions : goal.returns-else-is_among-clause-versions
 returns-else-is_among-clause-versions c = record {
   found = grind (arith, common_steps);
   kept = grind (arith, common_steps);
-  settled = grind (arith, common_steps);
-  mixed = grind (arith, common_steps);
+  collected = grind (arith, common_steps);
+  unclassified = grind (arith, common_steps);
   each = grind (arith, common_steps);
 }
 
@@ -59,16 +59,16 @@ pub returns-else-is_among-clause-truly : goal.returns-else-is_among-clause-truly
 returns-else-is_among-clause-truly c = λ none.
     let bs = c.args.begins.now in
     let w = c.self.inside.pin in
-    let mixed = c.self.inside.mixed in
+    let unclassified = c.self.inside.unclassified in
     let unfit : (is_among bs w && list_all (is_seen_from w) (versions_in c.args.lists)) ≡ false = elim c.else-is_among.branch [
       | else-is_among-via-then-is_among+else-are_seen_from b ↦ unseen bs w c.args.lists (sym b.are_seen_from.ensures ∙ b.if-are_seen_from.false)
       | else-is_among-via-else-is_among b ↦ and_left _ _ (sym c.is_among.ensures ∙ b.if-is_among.false)
     ] in
     let put = c.append-else-is_among.ensures in
-    let lists = ap length put ∙ length-append mixed c.args.lists in
-    let listed = ap (λ l. length (versions_in l)) put ∙ ap length (in-append mixed c.args.lists)
-    ∙ length-append (versions_in mixed) (versions_in c.args.lists) in (
+    let lists = ap length put ∙ length-append unclassified c.args.lists in
+    let listed = ap (λ l. length (versions_in l)) put ∙ ap length (in-append unclassified c.args.lists)
+    ∙ length-append (versions_in unclassified) (versions_in c.args.lists) in (
       omega (arith, lists, listed, c.self.invariant.2, c.requires.filled),
-      inr (unseen-put bs w (versions_in mixed) (versions_in c.args.lists) (versions_in c.append-else-is_among.new.lists) (ap versions_in put
-          ∙ in-append mixed c.args.lists) (ap (λ (x : GroupValue). x.mixed) c.self.view_is ∙ none) unfit),
+      inr (unseen-put bs w (versions_in unclassified) (versions_in c.args.lists) (versions_in c.append-else-is_among.new.lists) (ap versions_in put
+          ∙ in-append unclassified c.args.lists) (ap (λ (x : GroupValue). x.unclassified) c.self.view_is ∙ none) unfit),
     )

@@ -13,25 +13,26 @@ use Rattle.versions.specs.Pins.{IsUnderPin}
 pub returns-clause-group : goal.returns-clause-group
 returns-clause-group c =
     let g = c.self.inside in
-    let es = entries c.settle_lists.new.chains in
+    let es = entries c.collect_lists.new.chains in
     let taken = c.take_front-lists.result in
     let rest = c.take_front-lists.new.lists in
     let split = in-parts c.args.count g.garbage taken rest c.take_front-lists.ensures.front c.take_front-lists.ensures.rest in
-    let looked = c.settle_lists.ensures.versions in
+    let looked = c.collect_lists.ensures.versions in
     let put = c.keep.ensures.versions in
     record {
       pin = search rules;
       lists = grind (arith, common_steps);
       left = subst (λ (x : GroupValue). AreKept x.versions c.keep.new.self.versions es) c.self.view_is
-          (kept-garbage (versions_in g.lists) (versions_in g.garbage) (versions_in g.mixed) (versions_in taken) (versions_in c.settle_lists.new.lists)
+          (kept-garbage (versions_in g.lists) (versions_in g.garbage) (versions_in g.unclassified) (versions_in taken) (versions_in c.collect_lists.new.lists)
           (versions_in rest) c.keep.new.self.versions es split looked.left put.found put.kept);
       each = λ active v w h hm. (
           let P = IsUnderPin active v w in
-          let own = all-parts P (versions_in g.lists) (versions_in g.garbage) (versions_in g.mixed)
+          let own = all-parts P (versions_in g.lists) (versions_in g.garbage) (versions_in g.unclassified)
           (subst (λ (x : GroupValue). AllByRecursion P x.versions) (sym c.self.view_is) h) in
           let garbage = subst (AllByRecursion P) split own.1 in
           put.each active v w
-          (all-three P (versions_in g.lists) (versions_in rest) (versions_in g.mixed) own.0 (all-back P (versions_in taken) (versions_in rest) garbage) own.2)
+          (all-three P (versions_in g.lists) (versions_in rest)
+          (versions_in g.unclassified) own.0 (all-back P (versions_in taken) (versions_in rest) garbage) own.2)
           own.2
           (looked.each active v w (all-front P (versions_in taken) (versions_in rest) garbage)));
     }

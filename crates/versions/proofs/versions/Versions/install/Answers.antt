@@ -64,6 +64,6 @@ returns-clause-stands c = λ active base history r s long commit is.
     (groups-installed active c.args.self.now _ c.args.n c.new-2.result c.add_all.new.listed.items c.requires.above refl
     (subst (λ (v : ChainsValue). (k : Bytes)
     → IsAddedTo c.args.n (find_chain k v.chains) (find_chain k (entries c.add_all.new.chains))) c.self.view_is c.add_all.ensures.chains.added)
-    (c.in-Ok.ensures.items ∙ ap (λ (v : ChainsValue). v.groups ++ c.new-2.result ∷ []) c.self.view_is) c.new-2.ensures.pin c.new-2.ensures.mixed
+    (c.in-Ok.ensures.items ∙ ap (λ (v : ChainsValue). v.groups ++ c.new-2.result ∷ []) c.self.view_is) c.new-2.ensures.pin c.new-2.ensures.unclassified
     (c.new-2.ensures.versions ∙ filled) c.add_all.ensures.listed.followed)
     c.requires.above long commit is s

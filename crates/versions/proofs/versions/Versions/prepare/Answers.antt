@@ -7,15 +7,15 @@ use Rattle.model.proofs.Elements.{all-each}
 use Rattle.versions.proofs.Calls.{preparing, placed-at}
 use Rattle.versions.proofs.Histories.{stands-same}
 use Rattle.versions.proofs.Stores.{roomier-refl, roomier-trans, same-roomier, IsPlaced}
-use Rattle.versions.specs.Chains.{find_chain, HasRoom, HasPlaceAt, ChainsValue, IsRoomier}
+use Rattle.versions.specs.Chains.{find_chain, ChainHasRoom, HasPlaceAt, ChainsValue, AreRoomier}
 use Rattle.versions.specs.Meaning.{IsSameMeaning}
 use Rattle.versions.specs.StandsFor.{StandForSame}
 
 -- room for the list and for the groups changes no chain, and the histories stay
-reserved : (old now inside new : ChainsValue) → IsRoomier old.chains now.chains → now.last ≡ old.last → now.groups ≡ old.groups → inside ≡ now
+reserved : (old now inside new : ChainsValue) → AreRoomier old.chains now.chains → now.last ≡ old.last → now.groups ≡ old.groups → inside ≡ now
     → new.chains ≡ inside.chains → new.last ≡ inside.last → new.groups ≡ inside.groups → IsSameMeaning old new × StandForSame old new
 reserved old now inside new more last groups view same last' groups' =
-    let roomier = subst (IsRoomier old.chains) (sym (same ∙ ap (λ (v : ChainsValue). v.chains) view)) more in
+    let roomier = subst (AreRoomier old.chains) (sym (same ∙ ap (λ (v : ChainsValue). v.chains) view)) more in
     let meaning = same-roomier old new roomier (last' ∙ ap (λ (v : ChainsValue). v.last) view ∙ last) in
     (meaning, λ active base history. stands-same old active base history new meaning roomier (groups' ∙ ap (λ (v : ChainsValue). v.groups) view ∙ groups))
 
@@ -115,7 +115,7 @@ returns-clause-prepared c =
     let P = IsPlaced n c.loop-write.self.chains c.loop-write.self.pages in
     let all = subst (AllByRecursion P) (take_all c.loop-write.write-index ws c.loop-write-test.false) c.loop-write.invariant.prepared in
     record {
-      chains = all-each P _ ws (λ w p. subst (λ (v : ChainsValue). HasRoom (find_chain w.0 v.chains)) (sym c.self.view_is) p.0) all;
+      chains = all-each P _ ws (λ w p. subst (λ (v : ChainsValue). ChainHasRoom (find_chain w.0 v.chains)) (sym c.self.view_is) p.0) all;
       places = all-each P _ ws (λ w p. subst (λ (v : ChainsValue). HasPlaceAt n w.0 v.pages v.chains) (sym c.self.view_is) p.1) all;
       listed = omega (arith, c.in_ok-reserve_list.ensures.made);
       groups = omega (arith, c.in_ok-reserve.ensures.ok);

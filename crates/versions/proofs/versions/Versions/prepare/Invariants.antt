@@ -4,12 +4,12 @@ use Rattle.std.specs.List.{AllByRecursion}
 use Rattle.model.specs.Map.{Bytes}
 use Rattle.sorted_pages.specs.Pages.{room_at}
 use Rattle.versions.proofs.Stores.{IsPlaced}
-use Rattle.versions.specs.Chains.{IsRoomier}
+use Rattle.versions.specs.Chains.{AreRoomier}
 
 -- the writes so far have room
 abbrev pub invariant-loop-write : goal.invariant-loop-write
 invariant-loop-write l = record {
-  roomier : IsRoomier l.initial.self.chains l.self.chains;
+  roomier : AreRoomier l.initial.self.chains l.self.chains;
   pages : (q : Bytes) → room_at q l.initial.self.pages ≤ room_at q l.self.pages;
   last : l.self.last ≡ l.initial.self.last;
   groups : l.self.groups ≡ l.initial.self.groups;

@@ -1,6 +1,6 @@
 use Rattle.versions.proofs.versions.Versions.reclaim.Goals as goal
 use Rattle.std.proofs.Common.{rules}
-use Rattle.versions.proofs.Histories.{stands-itself, stands-on, unmixed-on}
+use Rattle.versions.proofs.Histories.{stands-itself, stands-on, classified-on}
 use Rattle.versions.proofs.Stores.{seen-itself, seen-on, reclaimed-on}
 
 pub steps-init : goal.steps-init
@@ -19,9 +19,9 @@ pub returns-clause-reclaimed : goal.returns-clause-reclaimed
 returns-clause-reclaimed c =
     reclaimed-on c.args.self.now c.steps.self c.reclaim_step.new.self c.args.begins.now c.steps.invariant.seen (c.reclaim_step.ensures.all (search rules))
 
-pub returns-clause-unmixed : goal.returns-clause-unmixed
-returns-clause-unmixed c =
-    unmixed-on c.args.begins.now c.args.self.now c.steps.self c.reclaim_step.new.self c.steps.invariant.stands c.reclaim_step.ensures.unmixed
+pub returns-clause-classified : goal.returns-clause-classified
+returns-clause-classified c =
+    classified-on c.args.begins.now c.args.self.now c.steps.self c.reclaim_step.new.self c.steps.invariant.stands c.reclaim_step.ensures.classified
 
 pub returns-clause-stands : goal.returns-clause-stands
 returns-clause-stands c =

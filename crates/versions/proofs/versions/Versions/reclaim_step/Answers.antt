@@ -5,7 +5,7 @@ use Rattle.std.specs.Prelude.{nat_lt, option_map}
 use Rattle.model.specs.Map.{Bytes}
 use Rattle.versions.proofs.Histories.{stands-reclaimed}
 use Rattle.versions.proofs.Stores.{reclaimed-part}
-use Rattle.versions.proofs.UnderPins.{groups-unmixed, under-reclaimed}
+use Rattle.versions.proofs.UnderPins.{groups-classified, under-reclaimed}
 use Rattle.versions.specs.Chains.{IsKept, find_chain, reclaimed, ChainsValue}
 use Rattle.versions.specs.Listings.{IsPartReclaimed}
 use Rattle.versions.specs.Meaning.{garbage_of, lists_a_step, IsReclaimedInPart, is_among}
@@ -49,11 +49,11 @@ returns-clause-stands c = λ active base history s.
     (λ h. e.groups.each active (λ n. active n && is_among c.args.begins.now n) _ _ (under-reclaimed active c.args.begins.now _ _ e.step.chains.part refl)
     (subst (λ (v : ChainsValue). AreUnderPins active v v.groups) (sym c.self.view_is) h)) s
 
-pub returns-clause-unmixed : goal.returns-clause-unmixed
-returns-clause-unmixed c = λ active base history s all.
+pub returns-clause-classified : goal.returns-clause-classified
+returns-clause-classified c = λ active base history s all.
     let bs = c.args.begins.now in
     let e = c.reclaim_versions.ensures in
-    groups-unmixed bs (λ n. active n && is_among bs n) _ c.self.inside.last
+    groups-classified bs (λ n. active n && is_among bs n) _ c.self.inside.last
     (λ n t. ap (λ b. b && is_among bs n) (all n t)
     ∙ t) (e.step.chains.kept c.self.inside.last c.self.invariant.0) c.reclaim_versions.new.groups.items
-    e.groups.active (returns-clause-stands c active base history s).pinned e.groups.mixed e.groups.truly
+    e.groups.active (returns-clause-stands c active base history s).pinned e.groups.unclassified e.groups.truly

@@ -23,18 +23,18 @@ MayFind h (e ∷ es) (suc answered) map =
     ((e.1.failed ≡ true) × IsUnderWay h e.0 map) ⊎ MayFind (hub_step h e.0 e.1).0 es answered map
 
 -- the image holds such a map
-abbrev pub Holds : HubState → List (HubEvent × Choice) → ℕ → List (List ℕ) → Type 0
-Holds h es answered c = (map : KeyMap) × HoldsMap c map × MayFind h es answered map
+abbrev pub HoldsFound : HubState → List (HubEvent × Choice) → ℕ → List (List ℕ) → Type 0
+HoldsFound h es answered c = (map : KeyMap) × HoldsMap c map × MayFind h es answered map
 
 -- the map with a COMMIT of the run that the device failed in
-abbrev pub IsInDoubt : HubState → List (HubEvent × Choice) → KeyMap → Type 0
-IsInDoubt h [] map = ⊥
-IsInDoubt h (e ∷ es) map = ((e.1.failed ≡ true) × IsUnderWay h e.0 map) ⊎ IsInDoubt (hub_step h e.0 e.1).0 es map
+abbrev pub IsMapInDoubt : HubState → List (HubEvent × Choice) → KeyMap → Type 0
+IsMapInDoubt h [] map = ⊥
+IsMapInDoubt h (e ∷ es) map = ((e.1.failed ≡ true) × IsUnderWay h e.0 map) ⊎ IsMapInDoubt (hub_step h e.0 e.1).0 es map
 
 -- once each event was answered, the map is the one that is committed, or it is in doubt
 abbrev pub FoundAfter : Type 0
 FoundAfter = (h : HubState) (es : List (HubEvent × Choice)) (map : KeyMap) → MayFind h es (length es) map
-    → (map ≡ committed_map (run h es).machine) ⊎ IsInDoubt h es map
+    → (map ≡ committed_map (run h es).machine) ⊎ IsMapInDoubt h es map
 
 -- during one event more, it is also the one with the COMMIT that this executes, or the one committed after it
 abbrev pub FoundDuring : Type 0
@@ -42,7 +42,7 @@ FoundDuring =
     (h : HubState) (es : List (HubEvent × Choice)) (e : HubEvent × Choice) (map : KeyMap)
     → MayFind h (es ++ e ∷ []) (length es) map →
     (map ≡ committed_map (run h es).machine)
-    ⊎ (IsUnderWay (run h es) e.0 map ⊎ ((map ≡ committed_map (run h (es ++ e ∷ [])).machine) ⊎ IsInDoubt h es map))
+    ⊎ (IsUnderWay (run h es) e.0 map ⊎ ((map ≡ committed_map (run h (es ++ e ∷ [])).machine) ⊎ IsMapInDoubt h es map))
 
 -- A crash at any moment after some events of a run were answered, during the events that follow or after them, leaves
 -- no map that is older than the one committed when they were answered.
@@ -50,4 +50,4 @@ abbrev pub LosesNothing : {D : Type 0} {g : Ghosts D} → Hub D g → Type 0
 LosesNothing {D} {g} hub =
     g.keeps_model → (old mid new : Hub D g) (es fs : List (HubEvent × Choice)) → Ran old mid es → Ran mid new fs
     → (h : HubState) → StandsFor old h → h.machine.stopped ≡ false
-    → (c : List (List ℕ)) → g.left_since (device new) (g.moment (device mid)) c → Holds h (es ++ fs) (length es) c
+    → (c : List (List ℕ)) → g.left_since (device new) (g.moment (device mid)) c → HoldsFound h (es ++ fs) (length es) c

@@ -1,4 +1,4 @@
-use Rattle.pivot_check.proofs.merges.give_room_back.Goals as goal
+use Rattle.pivot_check.proofs.merges.free_room.Goals as goal
 use Rattle.std.proofs.Common.{◌≡◌, ◌+◌, sym, ◌∙◌, arith}
 use Rattle.pivot_check.proofs.Joined.{at_rest}
 use Rattle.pivot_check.specs.Parts.{left}

@@ -1,13 +1,13 @@
-use Rattle.merging_runs.proofs.runs.Runs.give_back_old.Given as goal
+use Rattle.merging_runs.proofs.runs.Runs.free_old.Given as goal
 use Rattle.std.proofs.Common.{◌≡◌, ◌≤◌, ◌<◌, ◌+◌}
-use Rattle.merging_runs.specs.Held.{mixed_upto, whole_upto}
+use Rattle.merging_runs.specs.Held.{partial_upto, whole_upto}
 use Rattle.merging_runs.specs.RunSizes.{left_above}
 
 abbrev pub invariant-runs : goal.invariant-runs
 invariant-runs g l = record {
   agree : g.R.Run.agree l.oldest l.self.runs l.fn.self.runs;
   whole : whole_upto l.oldest l.fn.self.held + l.left ≡ whole_upto l.oldest l.self.held + 1024;
-  mixed : mixed_upto l.oldest l.self.held.runs ≡ mixed_upto l.oldest l.fn.self.held.runs;
+  partial : partial_upto l.oldest l.self.held.runs ≡ partial_upto l.oldest l.fn.self.held.runs;
   credit : l.self.held.credit ≡ l.fn.self.held.credit;
   left : left_above l.oldest l.self.sizes ≡ left_above l.oldest l.fn.self.sizes;
   refused : l.self.refused ≡ l.fn.self.refused;

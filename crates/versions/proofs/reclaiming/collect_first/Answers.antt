@@ -1,4 +1,4 @@
-use Rattle.versions.proofs.reclaiming.settle_first.Goals as goal
+use Rattle.versions.proofs.reclaiming.collect_first.Goals as goal
 use Rattle.std.proofs.Common.{sym, subst}
 use Rattle.sorted_pages.specs.Pages.{entries}
 use Rattle.versions.proofs.Lists.{in-one, in-only}

@@ -12,7 +12,7 @@ use Rattle.engine.specs.Recovery.{committed_map}
 use Rattle.sessions.proofs.StreamLaws.{Moved, Steps, moved}
 use Rattle.sessions.specs.Crashes.{HoldsBeforeOrAfter}
 use Rattle.sessions.specs.Laws.{IsSound, Steps as StepsBy}
-use Rattle.sessions.specs.Life.{MayFind, Holds, FoundAfter, FoundDuring}
+use Rattle.sessions.specs.FoundMaps.{MayFind, HoldsFound, FoundAfter, FoundDuring}
 use Rattle.sessions.specs.SessionStreams.{HubState, HubEvent, Choice, hub_step, run}
 use Rattle.sessions.specs.StandsFor.{Ghosts, Hub, StandsFor, device}
 
@@ -136,34 +136,34 @@ CountsNow D g = g.keeps_model → (d : D) (t : ℕ) (c : List (List ℕ)) → t 
 -- the device failed in; of a store that was stopped, what it could have left before.
 pub record Survives {D : Type 0} {g : Ghosts D} (old new : Hub D g) (h : HubState) (es : List (HubEvent × Choice)) : Type 0 where
   pub still : h.machine.stopped ≡ true → device new ≡ device old
-  pub leaves : h.machine.stopped ≡ false → LeavesOnly g.moment g.left_since (device old) (device new) (Holds h es zero)
+  pub leaves : h.machine.stopped ≡ false → LeavesOnly g.moment g.left_since (device old) (device new) (HoldsFound h es zero)
   pub now : (c : List (List ℕ)) → g.may_leave (device new) c
-      → ((h.machine.stopped ≡ false) × Holds h es (length es) c) ⊎ ((h.machine.stopped ≡ true) × g.may_leave (device old) c)
+      → ((h.machine.stopped ≡ false) × HoldsFound h es (length es) c) ⊎ ((h.machine.stopped ≡ true) × g.may_leave (device old) c)
 
 -- a run and another run
 module _ {D : Type 0} {g : Ghosts D} (old mid new : Hub D g) (h : HubState) (es fs : List (HubEvent × Choice)) (first : Survives old mid h es)
     (second : Survives mid new (run h es) fs) where
   abbrev All : List (List ℕ) → Type 0
-  All = Holds h (es ++ fs) zero
+  All = HoldsFound h (es ++ fs) zero
 
-  holds_first : (c : List (List ℕ)) → Holds h es zero c → All c
+  holds_first : (c : List (List ℕ)) → HoldsFound h es zero c → All c
   holds_first c x = (x.0, x.1, earlier h es fs zero x.0 (omega arith) x.2)
 
-  holds_second : (c : List (List ℕ)) → Holds (run h es) fs zero c → All c
+  holds_second : (c : List (List ℕ)) → HoldsFound (run h es) fs zero c → All c
   holds_second c x = (x.0, x.1, fewer h (es ++ fs) (length es) x.0 (later h es fs zero (length es) x.0 (omega arith) x.2))
 
   leaves_by : (b : Bool) → (run h es).machine.stopped ≡ b → h.machine.stopped ≡ false → LeavesOnly g.moment g.left_since (device old) (device new) All
   leaves_by b is up = grind (arith, common_steps, weaker, holds_first, joined, holds_second)
 
   now_by : (b : Bool) → (run h es).machine.stopped ≡ b → h.machine.stopped ≡ false → (c : List (List ℕ)) → g.may_leave (device new) c
-      → Holds h (es ++ fs) (length (es ++ fs)) c
+      → HoldsFound h (es ++ fs) (length (es ++ fs)) c
   now_by b is up c left = grind (arith, common_steps, rests, later, length-append)
 
   pub goes_on : Survives old new h (es ++ fs)
   goes_on = grind (arith, common_steps, stays_stopped, leaves_by (run h es).machine.stopped refl, now_by (run h es).machine.stopped refl)
 
   pub law_loses_nothing : OnlyNow D g → g.keeps_model → h.machine.stopped ≡ false → (c : List (List ℕ)) → g.left_since (device new) (g.moment (device mid)) c
-      → Holds h (es ++ fs) (length es) c
+      → HoldsFound h (es ++ fs) (length es) c
   law_loses_nothing only_now keeps up c left = grind (arith, common_steps, cases_Bool (run h es).machine.stopped, first.now, second.now, earlier, later)
 
 -- no event
@@ -177,14 +177,14 @@ module _ {D : Type 0} {g : Ghosts D} (old new : Hub D g) (h : HubState) (e : Hub
   abbrev one : List (HubEvent × Choice)
   one = (e, n) ∷ []
 
-  during : (c : List (List ℕ)) → HoldsBeforeOrAfter h e c → Holds h one zero c
+  during : (c : List (List ℕ)) → HoldsBeforeOrAfter h e c → HoldsFound h one zero c
   during c x = elim x [
     | inl a ↦ (committed_map h.machine, a, inl refl)
     | inr y ↦ (_, y.2, inr (inl (y.0, y.1, refl)))
   ]
 
   now_after : (b : Bool) → (hub_step h e n).0.machine.stopped ≡ b → h.machine.stopped ≡ false → (c : List (List ℕ)) → g.may_leave (device new) c
-      → Holds h one (suc zero) c
+      → HoldsFound h one (suc zero) c
   now_after false runs up c left =
       (committed_map (hub_step h e n).0.machine, sound.stored keeps (hub_step h e n).0 (steps.leads h stands).1 runs c left, inr refl)
   now_after true stop up c left =

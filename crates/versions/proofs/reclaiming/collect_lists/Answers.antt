@@ -1,19 +1,19 @@
-use Rattle.versions.proofs.reclaiming.settle_lists.Goals as goal
+use Rattle.versions.proofs.reclaiming.collect_lists.Goals as goal
 use Rattle.std.proofs.Common.{◌≡◌, ◌≤◌, ◌+◌, ◌++◌, length, sym, ap, subst, ◌∙◌, arith}
 use Rattle.std.proofs.lemmas.List.{length-drop, append-nil, length-append}
 use Rattle.std.specs.List.{AllByRecursion}
 use Rattle.sorted_pages.specs.Pages.{entries}
-use Rattle.versions.proofs.Lists.{in-append, in-empty, in-none, in-some, settled-list}
-use Rattle.versions.proofs.reclaiming.settle_lists.Goals.{then-not-are_empty, else-not-are_empty}
+use Rattle.versions.proofs.Lists.{in-append, in-empty, in-none, in-some, collected-list}
+use Rattle.versions.proofs.reclaiming.collect_lists.Goals.{then-not-are_empty, else-not-are_empty}
 use Rattle.versions.specs.Listings.{AreKept, AreSeenFrom, versions_in}
 use Rattle.versions.specs.Pins.{IsUnderPin}
 
-pub settle_first-requires-clause-kept : goal.settle_first-requires-clause-kept
-settle_first-requires-clause-kept c = (c.requires.kept.0, c.loop.invariant.settled.kept c.requires.kept.0 c.requires.kept.1)
+pub collect_first-requires-clause-kept : goal.collect_first-requires-clause-kept
+collect_first-requires-clause-kept c = (c.requires.kept.0, c.loop.invariant.collected.kept c.requires.kept.0 c.requires.kept.1)
 
 pub loop-preserved : goal.loop-preserved
 loop-preserved c =
-    let left = c.settle_first.new.lists in
+    let left = c.collect_first.new.lists in
     let shorter : length c.take_front-first.new.lists + 1 ≡ length c.loop.rest =
     omega (arith, ap length c.take_front-first.ensures.rest, length-drop 1 c.loop.rest) in
     let is : versions_in c.if-not-are_empty.lists ≡ versions_in c.loop.lists ++ versions_in left = elim c.if-not-are_empty.branch [
@@ -22,7 +22,7 @@ loop-preserved c =
           ∙ ap (λ l. versions_in c.loop.lists ++ l) (sym (in-empty left (sym w.if-not-are_empty.ensures)))
     ] in
     let counted : length c.if-not-are_empty.lists ≤ length c.loop.lists + 1 = elim c.if-not-are_empty.branch [
-      | then-not-are_empty w ↦ omega (arith, ap length (w.lists-is ∙ w.append.ensures), length-append c.loop.lists left, c.settle_first.ensures.one)
+      | then-not-are_empty w ↦ omega (arith, ap length (w.lists-is ∙ w.append.ensures), length-append c.loop.lists left, c.collect_first.ensures.one)
       | else-not-are_empty w ↦ omega (arith, ap length w.lists-is)
     ] in
     let filled : length c.if-not-are_empty.lists ≤ length c.loop.lists + length (versions_in left) = elim c.if-not-are_empty.branch [
@@ -30,7 +30,7 @@ loop-preserved c =
         arith,
         ap length (w.lists-is ∙ w.append.ensures),
         length-append c.loop.lists left,
-        c.settle_first.ensures.one,
+        c.collect_first.ensures.one,
         in-some left (sym w.if-not-are_empty.ensures),
       )
       | else-not-are_empty w ↦ omega (arith, ap length w.lists-is)
@@ -39,18 +39,18 @@ loop-preserved c =
       left = omega (arith, shorter);
       counted = omega (arith, shorter, counted);
       filled = omega (arith, filled, ap length is, length-append (versions_in c.loop.lists) (versions_in left), c.loop.invariant.filled);
-      settled = settled-list c.args.begins.now (entries c.args.chains.now) (entries c.loop.chains) (entries c.settle_first.new.chains)
+      collected = collected-list c.args.begins.now (entries c.args.chains.now) (entries c.loop.chains) (entries c.collect_first.new.chains)
           (versions_in c.args.lists.now) c.loop.lists c.if-not-are_empty.lists c.loop.rest c.take_front-first.result left c.take_front-first.new.lists
-          c.requires.kept.0 c.requires.kept.1 c.take_front-first.ensures.front c.take_front-first.ensures.rest is c.settle_first.ensures.chains
-          c.settle_first.ensures.versions c.loop.invariant.settled;
+          c.requires.kept.0 c.requires.kept.1 c.take_front-first.ensures.front c.take_front-first.ensures.rest is c.collect_first.ensures.chains
+          c.collect_first.ensures.versions c.loop.invariant.collected;
     }
 
 pub returns-clause-versions : goal.returns-clause-versions
 returns-clause-versions c =
     let all = in-none (versions_in c.loop.lists) c.loop.rest (omega arith) in
-    let s = c.loop.invariant.settled in
+    let s = c.loop.invariant.collected in
     record {
-      settled = s.settled;
+      collected = s.collected;
       left = subst (λ vs. AreKept (versions_in c.args.lists.now) vs (entries c.loop.chains)) all s.left_out;
       seen = λ n h. subst (AreSeenFrom n) all (s.seen n h);
       each = λ active v w h. subst (AllByRecursion (IsUnderPin active v w)) all (s.each active v w h);

@@ -1,4 +1,4 @@
-use Rattle.event_loop.proofs.server.EventLoop.give_back.Goals as goal
+use Rattle.event_loop.proofs.server.EventLoop.collect_garbage.Goals as goal
 use Rattle.std.proofs.Common.{ap, subst, sym, ◌∙◌}
 use denote.Struct.Props.{props}
 use Rattle.sessions.proofs.EventSteps.{status_seen}

@@ -6,31 +6,31 @@ ghost use Rattle.std.specs.VecDeque.{deque_len};
 use std::collections::VecDeque;
 
 /// Elements of which nothing is asked any more. Each may have memory of its own, so that they aren't dropped at once.
-pub trait GiveBack: Drop {
+pub trait FreePart: Drop {
     /// How many are left.
     ghost left: { Self → ℕ };
 
     /// Drops so many at most: how many more may be dropped, which are none while one is left. Takes no memory.
-    fn give_back(&mut self, most: usize) -> usize
+    fn free_part(&mut self, most: usize) -> usize
         ensures most { result ≤ most }
         ensures left { left self.old + result ≡ left self.new + most }
         ensures ended { 0 < result → left self.new ≡ 0 };
 }
 
-impl<T: Drop> GiveBack for Vec<T> {
+impl<T: Drop> FreePart for Vec<T> {
     ghost left = { vec_len };
 
-    fn give_back(&mut self, most: usize) -> usize {
+    fn free_part(&mut self, most: usize) -> usize {
         let count = self.len().min(most);
         self.truncate(self.len() - count);
         most - count
     }
 }
 
-impl<T: Drop> GiveBack for VecDeque<T> {
+impl<T: Drop> FreePart for VecDeque<T> {
     ghost left = { deque_len };
 
-    fn give_back(&mut self, most: usize) -> usize {
+    fn free_part(&mut self, most: usize) -> usize {
         let count = self.len().min(most);
         self.truncate(self.len() - count);
         most - count
@@ -38,12 +38,12 @@ impl<T: Drop> GiveBack for VecDeque<T> {
 }
 
 // what is left of the two runs that one is made of, and what was made of them
-impl<L: GiveBack> GiveBack for (L, L, L) {
+impl<L: FreePart> FreePart for (L, L, L) {
     ghost left = { λ parts. L.left parts.0 + L.left parts.1 + L.left parts.2 };
 
-    fn give_back(&mut self, most: usize) -> usize {
-        let more = self.0.give_back(most);
-        let still_more = self.1.give_back(more);
-        self.2.give_back(still_more)
+    fn free_part(&mut self, most: usize) -> usize {
+        let more = self.0.free_part(most);
+        let still_more = self.1.free_part(more);
+        self.2.free_part(still_more)
     }
 }
