@@ -70,7 +70,9 @@ fn commit_into<R: Files<File = File> + Net + Clock + Abort + AllocGlobal>(rt: &R
     let device = FileSectors::open(rt, name).expect(rt, "a file");
     let hub = open_hub(rt.alloc(), device).expect(rt, "a hub");
     let anywhere = SocketAddr::from((Ipv4Addr::LOCALHOST, 0));
-    let mut events = EventLoop::bind(rt, rt.alloc(), anywhere, hub).expect(rt, "a loop");
+    let mut events = EventLoop::bind(rt, rt.alloc(), anywhere, hub)
+        .ok()
+        .expect(rt, "a loop");
     commit_over(rt, &mut events);
 }
 

@@ -40,7 +40,9 @@ pub(crate) fn asks<D: Sectors, R: Abort, S: Read + Write>(
 pub(crate) fn new_loop<R: Net + Abort + AllocGlobal>(rt: &R) -> EventLoop<MemSectors> {
     let hub = new_hub(rt.alloc(), 4096).expect(rt, "a hub");
     let anywhere = SocketAddr::from((Ipv4Addr::LOCALHOST, 0));
-    EventLoop::bind(rt, rt.alloc(), anywhere, hub).expect(rt, "a loop")
+    EventLoop::bind(rt, rt.alloc(), anywhere, hub)
+        .ok()
+        .expect(rt, "a loop")
 }
 
 /// A client of the loop, which doesn't wait.
