@@ -21,7 +21,7 @@ impl<'a, R> SystemPorts<'a, R> {
 }
 
 impl<R: Net> Ports<Hub<FileSectors>> for SystemPorts<'_, R> {
-    ghost use Rattle.std.specs.Prelude.{IfOk};
+    ghost use Rattle.std.specs.Prelude.{◌≡◌, IfErr, IfOk};
     ghost use Rattle.system.specs.SystemTurns.{ServesAt};
     ghost use Rattle.sessions.specs.Restarts.{IsOpened};
 
@@ -38,7 +38,8 @@ impl<R: Net> Ports<Hub<FileSectors>> for SystemPorts<'_, R> {
         hub: Hub<FileSectors>,
     ) -> Result<SystemServer, Unbound<Hub<FileSectors>>>
         requires { IsOpened hub }
-        ensures { IfOk result (λ server. ServesAt server.events address hub) }
+        ensures listens { IfOk result (λ server. ServesAt server.events address hub) }
+        ensures back { IfErr result (λ unbound. unbound.hub ≡ hub) }
     {
         match EventLoop::bind(self.rt, alloc, address, hub) {
             Ok(events) => Ok(SystemServer { events }),
