@@ -54,11 +54,9 @@ pub(crate) fn client<R: Net + Abort, D: Sectors>(rt: &R, events: &EventLoop<D>) 
 }
 
 /// Two clients, each request with its reply.
-#[test]
-fn write_skew(rt: HostRuntime) {
-    let mut events = new_loop(&rt);
-    let mut one = client(&rt, &events);
-    let mut other = client(&rt, &events);
+fn skews<D: Sectors, R: Net + Abort>(rt: &R, events: &mut EventLoop<D>) {
+    let mut one = client(rt, events);
+    let mut other = client(rt, events);
     let begin =
         b"*1\r\n$5\r\nBEGIN\r\n*2\r\n$3\r\nGET\r\n$1\r\nx\r\n*2\r\n$3\r\nGET\r\n$1\r\ny\r\n";
     let begun = b"+OK\r\n$-1\r\n$-1\r\n".as_slice();
@@ -81,9 +79,16 @@ fn write_skew(rt: HostRuntime) {
     ];
     for (is_first, request, reply) in lines {
         let client = if is_first { &mut one } else { &mut other };
-        assert!(rt; asks(&rt, &mut events, client, request, reply), "{reply:?}");
+        assert!(rt; asks(rt, events, client, request, reply), "{reply:?}");
     }
     assert!(rt; !events.stopped());
+}
+
+/// So it is of a loop over memory.
+#[test]
+fn write_skew(rt: HostRuntime) {
+    let mut events = new_loop(&rt);
+    skews(&rt, &mut events);
 }
 
 const PING: &[u8] = b"*1\r\n$4\r\nPING\r\n";
@@ -92,26 +97,28 @@ const PONG: &[u8] = b"+PONG\r\n";
 
 /// One leaves, and another comes to its place. The poll reports each under its own key, so who came is answered again and again, and so is
 /// who stayed.
-#[test]
-fn one_leaves_and_another_comes(rt: HostRuntime) {
-    let mut events = new_loop(&rt);
-    let mut first = client(&rt, &events);
-    let mut second = client(&rt, &events);
-    assert!(rt; asks(&rt, &mut events, &mut first, PING, PONG));
-    assert!(rt; asks(&rt, &mut events, &mut second, PING, PONG));
+fn another_comes<D: Sectors, R: Net + Abort>(rt: &R, events: &mut EventLoop<D>) {
+    let mut first = client(rt, events);
+    let mut second = client(rt, events);
+    assert!(rt; asks(rt, events, &mut first, PING, PONG));
+    assert!(rt; asks(rt, events, &mut second, PING, PONG));
     drop(first);
     for _ in 0..20u32 {
         let turned = events.turn(Some(Duration::from_millis(10)));
-        turned.expect(&rt, "a turn");
+        turned.expect(rt, "a turn");
     }
-    let mut third = client(&rt, &events);
+    let mut third = client(rt, events);
     for _ in 0..3u32 {
-        assert!(rt; asks(&rt, &mut events, &mut third, PING, PONG), "who came");
-        assert!(rt;
-            asks(&rt, &mut events, &mut second, PING, PONG),
-            "who stayed"
-        );
+        assert!(rt; asks(rt, events, &mut third, PING, PONG), "who came");
+        assert!(rt; asks(rt, events, &mut second, PING, PONG), "who stayed");
     }
+}
+
+/// So it is of a loop over memory.
+#[test]
+fn one_leaves_and_another_comes(rt: HostRuntime) {
+    let mut events = new_loop(&rt);
+    another_comes(&rt, &mut events);
 }
 
 /// Reads what is there, at most 1 MiB, and says how many bytes that was.

@@ -11,6 +11,8 @@ invariant_of-events g c =
       entries = after.entries;
       numbers = after.numbers;
       places = after.places;
+      peers = after.peers;
+      rested = after.rested;
       next_place = after.next_place;
       beside_place = after.beside_place;
     }
