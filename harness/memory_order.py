@@ -69,6 +69,8 @@ def read_much(client):
         reply = client.ask(frame("RANGE", b"0", b"", b"%d" % limit))
         expect(reply.startswith(b"*%d\r\n" % (2 * limit)), f"RANGE was answered {reply[:60]!r}")
     expect(client.ask(ABORT) == OK, "ABORT was refused")
+    # a reply comes before the call that sent it is written down: that of ABORT is by the next one
+    expect(client.ask(PING) == b"+PONG\r\n", "PING was refused")
 
 
 def traced(trace, act):
