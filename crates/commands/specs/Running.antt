@@ -28,7 +28,7 @@ of_played (Ok done) = Ok done
 of_played (Err fault) = Err (of_script fault)
 
 module _ {F P S O E D V : Type 0} {g : Ghosts D} (files : DataFiles F D) (ports : Ports P (Hub D g) V)
-    (server : Turns V) where
+    (server : Turns V (Hub D g)) where
   module _ (player : Scripts S O) (out : Lines O) (err : Lines E) where
     -- what was asked for is done, and nothing else is called
     abbrev pub Does : S → Around F P O E → Asked → Result (Unit {0}) Fault → Around F P O E → Type 0

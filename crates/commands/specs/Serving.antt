@@ -20,7 +20,7 @@ use Rattle.commands.specs.declared.system.DataFiles.{Ghosts as DataFiles}
 use Rattle.commands.specs.declared.system.Lines.{Ghosts as Lines}
 use Rattle.commands.specs.declared.system.Ports.{Ghosts as Ports}
 use Rattle.commands.specs.declared.system.Turns.{Ghosts as Turns}
-use Rattle.commands.specs.declared.system.Unbound.{Unbound}
+use Rattle.commands.specs.declared.system.Unserved.{Unserved}
 
 -- each hub that was opened is taken
 abbrev pub TakesOpened : {D : Type 0} {g : Ghosts D} → (Hub D g → Type 0) → Type 0
@@ -38,7 +38,7 @@ Starts {D = D} {g = g} device result =
 -- fault, and no later call is made but to close the file as the opening of its store left it. A text that spells no
 -- address ends it before any call.
 pub data Opening {F P D V : Type 0} {g : Ghosts D} (files : DataFiles F D) (listens : P → SocketAddr → Hub D g
-    → Result V (Unbound (Hub D g)) → P → Type 0)
+    → Result V (Unserved (Hub D g)) → P → Type 0)
     (name listen : List ℕ) (old : F) (ports : P) : Result V Fault → F → P → Type 0 where
   NoAddress : ((address : SocketAddr) → IsSocketText listen address → ⊥)
       → Opening files listens name listen old ports (Err Listen) old ports
@@ -49,10 +49,10 @@ pub data Opening {F P D V : Type 0} {g : Ghosts D} (files : DataFiles F D) (list
       → IsSocketText listen address → files.opens old name (Ok device) opened
       → Starts {D = D} {g = g} device (Err unopened) → files.closes opened unopened.device closed
       → Opening files listens name listen old ports (Err (of_log unopened.fault)) closed ports
-  NoPort : (address : SocketAddr) (dev : D) (hub : Hub D g) (unbound : Unbound (Hub D g)) (fault : Fault)
+  NoPort : (address : SocketAddr) (dev : D) (hub : Hub D g) (unserved : Unserved (Hub D g)) (fault : Fault)
       (opened closed : F) (listened : P) → IsSocketText listen address
       → files.opens old name (Ok dev) opened → Starts dev (Ok hub)
-      → listens ports address hub (Err unbound) listened → IsReportedAs unbound.error Listen fault
+      → listens ports address hub (Err unserved) listened → IsReportedAs unserved.error Listen fault
       → files.closes opened (device hub) closed
       → Opening files listens name listen old ports (Err fault) closed listened
   Opened : (address : SocketAddr) (device : D) (hub : Hub D g) (server : V) (opened : F) (listened : P)
@@ -94,34 +94,35 @@ pub data EndsTurns {V E : Type 0} (turns : V → Result (Unit {0}) Error → V �
       → TakesTurns turns stops writes first err (2 ^ 64 - 1) last reported err'
       → EndsTurns turns stops writes first err (Ok done) last err'
 
--- Serving: a file is opened and an address listened at, the address that the server has is printed, and turns are taken
--- until one fails, or all that are counted were taken. The first of these that fails ends it, with its fault, and
--- nothing is done behind it.
+-- What is done with a server: the address that it has is printed, and turns are taken until one fails, or all that are
+-- counted were taken. The first of these that fails ends it, with its fault.
+pub data RunsServer {V H O E : Type 0} (server : Turns V H) (out : Lines O) (err : Lines E) (first : V)
+    (old_out : O) (old_err : E) : Result (Unit {0}) Fault → V → O → E → Type 0 where
+  Nowhere : (error : Error) → server.is_at first (Err error)
+      → RunsServer server out err first old_out old_err (Err Listen) first old_out old_err
+  NotPrinted : (address : SocketAddr) (error : Error) (fault : Fault) (printed : O)
+      → server.is_at first (Ok address)
+      → Prints out.writes (listening_line address) old_out (Err error) printed → IsReportedAs error File fault
+      → RunsServer server out err first old_out old_err (Err fault) first printed old_err
+  Printed : (address : SocketAddr) (done : Unit {0}) (result : Result (Unit {0}) Fault) (printed : O) (last : V)
+      (reported : E) → server.is_at first (Ok address)
+      → Prints out.writes (listening_line address) old_out (Ok done) printed
+      → EndsTurns server.turns server.stops err.writes first old_err result last reported
+      → RunsServer server out err first old_out old_err result last printed reported
+
+-- Serving: a file is opened and an address listened at, the server runs, and once that has ended, the hub is taken back
+-- and the file closed as the hub left it. Nothing is done behind it.
 pub data EndsServing {F P D V O E : Type 0} {g : Ghosts D} (files : DataFiles F D) (ports : Ports P (Hub D g) V)
-    (server : Turns V)
-    (out : Lines O) (err : Lines E) (name listen : List ℕ) (old : Around F P O E) : Result (Unit {0}) Fault
-    → Around F P O E → Type 0 where
+    (server : Turns V (Hub D g)) (out : Lines O) (err : Lines E) (name listen : List ℕ) (old : Around F P O E)
+    : Result (Unit {0}) Fault → Around F P O E → Type 0 where
   NotOpened : (fault : Fault) (opened : F) (listened : P)
       → Opening files ports.listens name listen old.files old.ports (Err fault) opened listened
       → EndsServing files ports server out err name listen old (Err fault)
       (record old { files = opened; ports = listened })
-  Nowhere : (serving : V) (error : Error) (opened : F) (listened : P)
-      → Opening files ports.listens name listen old.files old.ports (Ok serving) opened listened
-      → server.is_at serving (Err error)
-      → EndsServing files ports server out err name listen old (Err Listen)
-      (record old { files = opened; ports = listened })
-  NotPrinted : (serving : V) (address : SocketAddr) (error : Error) (fault : Fault) (opened : F) (listened : P)
-      (printed : O)
-      → Opening files ports.listens name listen old.files old.ports (Ok serving) opened listened
-      → server.is_at serving (Ok address)
-      → Prints out.writes (listening_line address) old.out (Err error) printed → IsReportedAs error File fault
-      → EndsServing files ports server out err name listen old (Err fault)
-      (record old { files = opened; ports = listened; out = printed })
-  Served : (serving : V) (address : SocketAddr) (done : Unit {0}) (result : Result (Unit {0}) Fault) (opened : F)
-      (listened : P) (printed : O) (last : V) (reported : E)
-      → Opening files ports.listens name listen old.files old.ports (Ok serving) opened listened
-      → server.is_at serving (Ok address)
-      → Prints out.writes (listening_line address) old.out (Ok done) printed
-      → EndsTurns server.turns server.stops err.writes serving old.err result last reported
+  Served : (first last : V) (hub : Hub D g) (result : Result (Unit {0}) Fault) (opened closed : F) (listened : P)
+      (printed : O) (reported : E)
+      → Opening files ports.listens name listen old.files old.ports (Ok first) opened listened
+      → RunsServer server out err first old.out old.err result last printed reported
+      → server.gives_back last hub → files.closes opened (device hub) closed
       → EndsServing files ports server out err name listen old result
-      (record old { files = opened; ports = listened; out = printed; err = reported })
+      (record old { files = closed; ports = listened; out = printed; err = reported })

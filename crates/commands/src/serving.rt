@@ -1,7 +1,7 @@
 //! `serve`: opens a data file, listens, prints the address, and takes turns until one fails.
 ghost use Rattle.commands.specs.Notices.{listening_line};
 ghost use Rattle.commands.specs.Printing.{Prints};
-ghost use Rattle.commands.specs.Serving.{EndsServing, EndsTurns, Opening, TakesOpened, ReportsStop};
+ghost use Rattle.commands.specs.Serving.{EndsServing, EndsTurns, Opening, ReportsStop, RunsServer, TakesOpened};
 
 use crate::faults::{Fault, or_memory};
 use crate::system::{Around, DataFiles, Lines, Ports, Turns};
@@ -11,8 +11,9 @@ use std::io;
 use std::net::SocketAddr;
 
 /// Opens a data file, listens at an address, prints `listening` and the address that the system gave, and takes turns until one fails. It
-/// reports once, on the error output, that the store has stopped. It does nothing else: its contract names each call of the files, the
-/// ports, the server and the outputs, in their order. It ends without a fault once it has taken 2^64 - 1 turns, as `serve_turns` does.
+/// reports once, on the error output, that the store has stopped. Whatever ends it, it closes the file that it opened, as the hub of its
+/// server left it. It does nothing else: its contract names each call of the files, the ports, the server and the outputs, in their order.
+/// It ends without a fault once it has taken 2^64 - 1 turns, as `serve_turns` does.
 ///
 /// A fault is `Listen`, which for a text that is no address comes before the file is opened, `File`, the log's, `Poll`, or `Memory`.
 /// It takes the memory of the log's map and of the sessions and their requests.
@@ -26,11 +27,25 @@ pub fn serve<F: DataFiles, P: Ports<Hub<F::Device>>, O: Lines, E: Lines>(
     ensures { EndsServing F.DataFiles P.Ports P.Server.Turns O.Lines E.Lines data.now listen.now around.old result around.new }
 {
     let mut server = open(alloc, &mut around.files, &mut around.ports, data, listen)?;
+    let served = run_server(alloc, &mut server, &mut around.out, &mut around.err);
+    around.files.close(server.into_hub().into_device());
+    served
+}
+
+// Prints the line of the address that a server has, and takes its turns until one fails.
+fn run_server<S: Turns, O: Lines, E: Lines>(
+    alloc: Global,
+    server: &mut S,
+    out: &mut O,
+    err: &mut E,
+) -> Result<(), Fault>
+    ensures { RunsServer S.Turns O.Lines E.Lines server.old out.old err.old result server.new out.new err.new }
+{
     let Ok(address) = server.address() else {
         return Err(Fault::Listen);
     };
-    print_listening(alloc, address, &mut around.out)?;
-    serve_turns(&mut server, &mut around.err)
+    print_listening(alloc, address, out)?;
+    serve_turns(server, err)
 }
 
 /// Takes turns until one fails, and reports once, on `err`, that the store has stopped: after the first turn that leaves it so. Where that
@@ -95,9 +110,9 @@ pub(crate) fn open<F: DataFiles, P: Ports<Hub<F::Device>>>(
     };
     match ports.listen(alloc, address, hub) {
         Ok(server) => Ok(server),
-        Err(unbound) => {
-            files.close(unbound.hub.into_device());
-            Err(or_memory(&unbound.error, Fault::Listen))
+        Err(unserved) => {
+            files.close(unserved.hub.into_device());
+            Err(or_memory(&unserved.error, Fault::Listen))
         }
     }
 }

@@ -78,6 +78,9 @@ pub trait Turns {
     ghost use Rattle.std.specs.declared.io.Error.{Error};
     ghost use Rattle.std.specs.declared.net.socket_addr.SocketAddr.{SocketAddr};
 
+    /// The hub whose sessions it serves.
+    type Hub;
+
     /// `turns before result after`: one call of `next_turn`.
     ghost turns: { Self → Result (Unit {0}) Error → Self → Type 0 } = { λ _ _ _. ⊤ };
 
@@ -86,6 +89,9 @@ pub trait Turns {
 
     /// `is_at server result`: one call of `address`.
     ghost is_at: { Self → Result SocketAddr Error → Type 0 } = { λ _ _. ⊤ };
+
+    /// `gives_back server hub`: one call of `into_hub`.
+    ghost gives_back: { Self → Self.Hub → Type 0 } = { λ _ _. ⊤ };
 
     /// One turn: it waits until there is something to do, and does it. An error is the wait's.
     fn next_turn(&mut self) -> io::Result<()>
@@ -98,11 +104,17 @@ pub trait Turns {
     /// The address that it listens at.
     fn address(&self) -> io::Result<SocketAddr>
         ensures { is_at self.now result };
+
+    /// Ends serving, and gives the hub back.
+    fn into_hub(self) -> Self::Hub
+    where
+        Self: Sized,
+        ensures { gives_back self result };
 }
 
-/// A hub for whose sessions nobody listens, and why.
+/// A hub that no server took, and why.
 #[derive(Drop)]
-pub struct Unbound<H> {
+pub struct Unserved<H> {
     /// Why: the system's error, or out of memory.
     pub error: io::Error,
     /// The hub, as it was.
@@ -113,16 +125,16 @@ pub struct Unbound<H> {
 pub trait Ports<H> {
     ghost use Rattle.std.specs.Prelude.{⊤, ◌≡◌, IfErr, Result};
     ghost use Rattle.std.specs.declared.net.socket_addr.SocketAddr.{SocketAddr};
-    ghost use Rattle.commands.specs.declared.system.Unbound.{Unbound};
+    ghost use Rattle.commands.specs.declared.system.Unserved.{Unserved};
 
     /// What serves a hub at an address.
-    type Server: Turns + Drop;
+    type Server: Turns<Hub = H> + Drop;
 
     /// The hubs that it takes.
     ghost takes: { H → Type 0 } = { λ _. ⊤ };
 
     /// `listens before address hub result after`: one call of `listen`.
-    ghost listens: { Self → SocketAddr → H → Result Self.Server (Unbound H) → Self → Type 0 } = { λ _ _ _ _ _. ⊤ };
+    ghost listens: { Self → SocketAddr → H → Result Self.Server (Unserved H) → Self → Type 0 } = { λ _ _ _ _ _. ⊤ };
 
     /// Listens at an address for the sessions of a hub. Where that fails, the hub is returned as it was.
     fn listen(
@@ -130,10 +142,10 @@ pub trait Ports<H> {
         alloc: Global,
         address: SocketAddr,
         hub: H,
-    ) -> Result<Self::Server, Unbound<H>>
+    ) -> Result<Self::Server, Unserved<H>>
         requires { takes hub }
         ensures listens { listens self.old address hub result self.new }
-        ensures back { IfErr result (λ unbound. unbound.hub ≡ hub) };
+        ensures back { IfErr result (λ unserved. unserved.hub ≡ hub) };
 }
 
 /// What plays scripts, and prints to such an output.

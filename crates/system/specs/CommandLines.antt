@@ -13,7 +13,7 @@ use Rattle.commands.specs.declared.system.Scripts.{Ghosts as Scripts}
 use Rattle.commands.specs.declared.system.Turns.{Ghosts as Turns}
 
 module _ {F P S O E D V : Type 0} {g : Ghosts D} (files : DataFiles F D) (ports : Ports P (Hub D g) V)
-    (server : Turns V) where
+    (server : Turns V (Hub D g)) where
   module _ (player : Scripts S (MutBor O)) (out : Lines (MutBor O)) (err : Lines (MutBor E)) where
     -- what the words ask for is done, the outputs were these before, and the status is that of the ending
     abbrev pub RunsWords : List (Bor (List ℕ)) → S → O → E → ℕ → Type 0

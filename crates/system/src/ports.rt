@@ -1,5 +1,5 @@
 //! Listening at addresses of the operating system, and the server that takes the turns of the loop.
-use commands::{Lines, Ports, Turns, Unbound};
+use commands::{Lines, Ports, Turns, Unserved};
 use event_loop::EventLoop;
 use sector::FileSectors;
 use sessions::Hub;
@@ -36,14 +36,14 @@ impl<R: Net> Ports<Hub<FileSectors>> for SystemPorts<'_, R> {
         alloc: Global,
         address: SocketAddr,
         hub: Hub<FileSectors>,
-    ) -> Result<SystemServer, Unbound<Hub<FileSectors>>>
+    ) -> Result<SystemServer, Unserved<Hub<FileSectors>>>
         requires { IsOpened hub }
         ensures listens { IfOk result (λ server. ServesAt server.events address hub) }
-        ensures back { IfErr result (λ unbound. unbound.hub ≡ hub) }
+        ensures back { IfErr result (λ unserved. unserved.hub ≡ hub) }
     {
         match EventLoop::bind(self.rt, alloc, address, hub) {
             Ok(events) => Ok(SystemServer { events }),
-            Err(unbound) => Err(Unbound {
+            Err(unbound) => Err(Unserved {
                 error: unbound.error,
                 hub: unbound.hub,
             }),
@@ -72,8 +72,8 @@ impl SystemServer {
 }
 
 impl Turns for SystemServer {
-    ghost use Rattle.std.specs.Prelude.{IfOk};
-    ghost use Rattle.event_loop.specs.Loops.{HasAddress};
+    ghost use Rattle.std.specs.Prelude.{◌≡◌, IfOk};
+    ghost use Rattle.event_loop.specs.Loops.{HasAddress, hub_of};
     ghost use Rattle.system.specs.SystemTurns.{HasStopped, TurnedSo};
 
     ghost turns = { λ old result new. TurnedSo old.events result new.events };
@@ -81,6 +81,10 @@ impl Turns for SystemServer {
     ghost stops = { λ server stopped. HasStopped server.events stopped };
 
     ghost is_at = { λ server result. IfOk result (λ address. HasAddress server.events address) };
+
+    ghost gives_back = { λ server hub. hub ≡ hub_of server.events };
+
+    type Hub = Hub<FileSectors>;
 
     fn next_turn(&mut self) -> io::Result<()> {
         self.events.turn(None)
@@ -92,5 +96,9 @@ impl Turns for SystemServer {
 
     fn address(&self) -> io::Result<SocketAddr> {
         self.events.address()
+    }
+
+    fn into_hub(self) -> Hub<FileSectors> {
+        self.events.into_hub()
     }
 }

@@ -440,50 +440,57 @@ const SERVE_LISTEN: &[&str] = &[
     "127.0.0.1:0",
 ];
 
-/// An address that another listens at is a fault, and so is an output that fails before the first turn.
-#[test]
-fn listening_fails(rt: HostRuntime) -> Result<(), Fail> {
-    let _ = fs::remove_file(&rt, "listen.data");
-    assert!(rt;
-        is_met(
-            &rt,
-            rt.alloc(),
-            refused(CREATE_LISTEN, DONE, Expected::Nothing)
-        )
-    );
-    let taken = TcpListener::bind(&rt, "127.0.0.1:0")?;
-    let address = format!(in rt.alloc(); "{}", taken.local_addr()?)?;
+/// Does serving at the address end with the fault of listening, and nothing printed?
+fn listening_is_refused<R: Files<File = File> + Net + Clock>(
+    rt: &R,
+    alloc: Global,
+    address: &str,
+) -> bool {
     let words = [
         "ssikvd",
         "serve",
         "--data",
         "listen.data",
         "--listen",
-        address.as_str(),
+        address,
     ];
-    let mut out = Vec::new(rt.alloc());
-    let mut err = Vec::new(rt.alloc());
+    let mut out = Vec::new(alloc);
+    let mut err = Vec::new(alloc);
     let status = run(
-        &rt,
-        rt.alloc(),
+        rt,
+        alloc,
         words.as_slice(),
         b"".as_slice(),
         &mut out,
         &mut err,
     );
-    assert!(rt;
-        status == FAULT && out.is_empty() && err.as_slice() == b"ssikvd: listen fault\n".as_slice()
-    );
-    let mut err = Vec::new(rt.alloc());
+    status == FAULT && out.is_empty() && err.as_slice() == b"ssikvd: listen fault\n".as_slice()
+}
+
+/// Does serving end with the fault of a file, where its output fails?
+fn printing_is_refused<R: Files<File = File> + Net + Clock>(rt: &R, alloc: Global) -> bool {
+    let mut err = Vec::new(alloc);
     let status = run(
-        &rt,
-        rt.alloc(),
+        rt,
+        alloc,
         SERVE_LISTEN,
         b"".as_slice(),
         &mut Broken,
         &mut err,
     );
-    assert!(rt; status == FAULT && err.as_slice() == b"ssikvd: file fault\n".as_slice());
+    status == FAULT && err.as_slice() == b"ssikvd: file fault\n".as_slice()
+}
+
+/// An address that another listens at is a fault, and so is an output that fails before the first turn.
+#[test]
+fn listening_fails(rt: HostRuntime) -> Result<(), Fail> {
+    let _ = fs::remove_file(&rt, "listen.data");
+    let made = refused(CREATE_LISTEN, DONE, Expected::Nothing);
+    assert!(rt; is_met(&rt, rt.alloc(), made));
+    let taken = TcpListener::bind(&rt, "127.0.0.1:0")?;
+    let address = format!(in rt.alloc(); "{}", taken.local_addr()?)?;
+    assert!(rt; listening_is_refused(&rt, rt.alloc(), &address));
+    assert!(rt; printing_is_refused(&rt, rt.alloc()));
     fs::remove_file(&rt, "listen.data")?;
     Ok(())
 }
@@ -656,6 +663,8 @@ fn stopping_server(stops_at: u64, fails_at: u64, kind: ErrorKind) -> Turning {
 }
 
 impl Turns for Turning {
+    type Hub = ();
+
     fn next_turn(&mut self) -> io::Result<()> {
         self.turns = self.turns.saturating_add(1);
         if self.turns == self.fails_at {
@@ -671,6 +680,8 @@ impl Turns for Turning {
     fn address(&self) -> io::Result<SocketAddr> {
         Err(ErrorKind::Other.into())
     }
+
+    fn into_hub(self) {}
 }
 
 /// That the store has stopped is reported once, whether it stops at the first turn or later, or not at all where the poll fails before.

@@ -65,7 +65,7 @@ fn commit_over<D: Sectors, R: Net + Clock + Abort>(rt: &R, events: &mut EventLoo
     assert!(rt; got.starts_with(b"+OK\r\n+OK\r\n:1\r\n"));
 }
 
-/// The same, through the loop over the file of this name.
+/// The same, through the loop over the file of this name, which is closed once the loop has given its hub back.
 fn commit_into<R: Files<File = File> + Net + Clock + Abort + AllocGlobal>(rt: &R, name: &str) {
     let device = FileSectors::open(rt, name).expect(rt, "a file");
     let hub = open_hub(rt.alloc(), device).expect(rt, "a hub");
@@ -74,6 +74,7 @@ fn commit_into<R: Files<File = File> + Net + Clock + Abort + AllocGlobal>(rt: &R
         .ok()
         .expect(rt, "a loop");
     commit_over(rt, &mut events);
+    events.into_hub().into_device().close();
 }
 
 /// One commit through the loop into a file of four sectors.

@@ -27,7 +27,7 @@ returns-in-Ok-listen g c =
 pub returns-in-Err-listen : goal.returns-in-Err-listen
 returns-in-Err-listen g c =
     let closed = c.into_device.ensures ∙ ap (λ hub. device hub) c.in-Err-listen.ensures.back in
-    NoPort c.in-Ok.address c.in_ok-device.device c.in-Ok-open.hub c.in-Err-listen.unbound c.or_memory.result c.open.new.self c.close-in-Err-listen.new.self
+    NoPort c.in-Ok.address c.in_ok-device.device c.in-Ok-open.hub c.in-Err-listen.unserved c.or_memory.result c.open.new.self c.close-in-Err-listen.new.self
     c.listen.new.self c.in-Ok.ensures.value c.in_ok-device.ensures
     (c.in-Ok-open.ensures.reports, (c.in-Ok-open.ensures.begins, c.in-Ok-open.ensures.opens)) c.in-Err-listen.ensures.listens c.or_memory.ensures
     (subst (λ dev. g.F.DataFiles.closes c.open.new.self dev c.close-in-Err-listen.new.self) closed c.close-in-Err-listen.ensures)
