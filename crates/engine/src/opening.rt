@@ -7,14 +7,11 @@ use std::alloc::Global;
 use std::collections::BTreeMap;
 
 impl<D: Sectors> Engine<D> {
-    ghost use Rattle.std.specs.Prelude.{◌≡◌, ◌⊎◌, ◌<◌, ℕ, [], false, IfOk, IfErr, IsErrAnd};
-    ghost use Rattle.model.specs.Map.{KeyMap, IsInBounds};
-    ghost use Rattle.model.specs.Machine.{State, opened};
+    ghost use Rattle.std.specs.Prelude.{◌≡◌, ◌⊎◌, ◌<◌, false, IfOk, IfErr, IsErrAnd};
     ghost use Rattle.sector.specs.Failures.{Stayed};
     ghost use Rattle.commit_log.specs.OpenedLog.{Finds, OpeningIsRefused, OpeningLeavesAsBefore};
-    ghost use Rattle.engine.specs.Meaning.{StandsFor, device_of, failures_of, has_engine_stopped};
-    ghost use Rattle.engine.specs.Opening.{IsStoreOf};
-    ghost use Rattle.engine.specs.Recovery.{committed_map};
+    ghost use Rattle.engine.specs.Meaning.{device_of, failures_of, has_engine_stopped};
+    ghost use Rattle.engine.specs.Opening.{IsJustOpened, IsStoreOf};
 
     /// Opens the store whose log a device holds. Nothing is open in it, and nothing has committed since. Its keys and values have lengths
     /// in bounds.
@@ -22,9 +19,7 @@ impl<D: Sectors> Engine<D> {
     /// Faults are those of `Log::open_or_return`, and `Memory` where the memory for the map is refused. The device is returned with the
     /// fault.
     pub fn open(alloc: Global, dev: D) -> Result<Engine<D>, Unopened<D>>
-        ensures opens { IfOk result (λ e. (base : KeyMap) × (used : ℕ) × StandsFor e (opened base used (D.size dev))) }
-        ensures idle { IfOk result (λ e. (m : State) → StandsFor e m → m.running ≡ []) }
-        ensures in_bounds { IfOk result (λ e. (m : State) → StandsFor e m → IsInBounds (committed_map m)) }
+        ensures opens { IfOk result (IsJustOpened (D.size dev)) }
         ensures runs { IfOk result (λ e. (has_engine_stopped e ≡ false) × Stayed (D.failures dev) (failures_of e)) }
         ensures refused { IfErr result (OpeningIsRefused D.Sectors dev) }
         ensures short { D.size dev < 2 → IsErrAnd result (λ u. (u.fault ≡ LogFault.NotALog) ⊎ (u.fault ≡ LogFault.Device)) }

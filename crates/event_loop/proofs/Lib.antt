@@ -17,3 +17,4 @@ mod Departing
 mod AllThatLeft
 mod Peers
 mod Shorts
+mod Progress

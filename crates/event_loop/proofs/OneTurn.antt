@@ -4,6 +4,7 @@ use Rattle.mio.specs.Events.{items}
 use Rattle.mio.specs.declared.event.event.Event.{Event}
 use Rattle.sector.specs.declared.device.Sectors.{Ghosts}
 use Rattle.sessions.specs.StandsFor.{device}
+use Rattle.socket_calls.specs.HappenedCalls.{WasReported}
 use Rattle.stream_driver.specs.Buffers.{traffic_through}
 use Rattle.stream_driver.specs.Entries.{DrivenAll}
 use Rattle.stream_driver.specs.Sessions.{Adds, Leads, Point}
@@ -26,7 +27,8 @@ module _ {D : Type 0} {g : Ghosts D} (reports : Type 0) (traffic : Socket
     → Traffic) (old driven accepted new : EventLoop D g) (turns_are : new.turns ≡ driven.turns) (next_is : driven.next ≡ old.next) (port_is : driven.port
     ≡ old.port) (backlog_is : driven.backlog ≡ old.backlog)
     (refused_is : driven.refused ≡ old.refused) (lingerers_are : lingers_in accepted.lingering
-    ≡ unless_failed accepted.backlog (lingers_in driven.lingering)) (received : CollectsGarbage accepted new) where
+    ≡ unless_failed accepted.backlog (lingers_in driven.lingering)) (received : CollectsGarbage accepted new) (ended_with : WasReported old.poller.poll
+    (items new.poller.events)) where
   abbrev Drives : Poller → Type 0
   Drives poller = DrivesReady reports traffic (items poller.events) old.turns old.hub old.table.slots driven.turns driven.hub driven.table.slots
 
@@ -47,6 +49,7 @@ module _ {D : Type 0} {g : Ghosts D} (reports : Type 0) (traffic : Socket
       → (accepts : Accepted b driven accepted) → IsRun poller drives b accepts → IsTurn reports traffic old new) same
       (λ drives linger accepts run. subst (λ (b : Bool). (accepts : Accepted b driven accepted) → IsRun new.poller drives b accepts
       → IsTurn reports traffic old new) due (λ accepts run. record {
+        reported = ended_with;
         driven = driven;
         drives = drives;
         turns_are = turns_are;

@@ -26,13 +26,14 @@ use Rattle.stream_driver.specs.declared.entries.EntryState.TheVariants.{Idle, Go
 use Rattle.event_loop.proofs.Entries.{Remain, no_entry}
 use Rattle.event_loop.proofs.Polled.{answered_as_it_was}
 use Rattle.event_loop.proofs.Slots.{Slots}
-use Rattle.event_loop.specs.Numbers.{HavePlaces}
+use Rattle.event_loop.specs.Numbers.{HasPlace, HavePlaces, WasRegisteredAs}
 use Rattle.event_loop.specs.Order.{after_turn, behind, is_passed, is_ready_slot, waits_as, AreNext, HasNextTurn}
 use Rattle.event_loop.specs.Order.{ComesNearer}
 use Rattle.event_loop.specs.Order.{in_turn, is_of_kind, writes_in}
 use Rattle.event_loop.specs.declared.order.Kind.{Kind}
 use Rattle.event_loop.specs.declared.order.Kind.TheVariants.{Any, Reader, Writer}
 use Rattle.event_loop.specs.declared.order.Turns.{Turns}
+use Rattle.event_loop.specs.Sockets.{IsNewSocket}
 use Rattle.event_loop.specs.Tables.{AdmitsEach, EndsTurn, after_poll, slot_at, is_ready}
 use Rattle.event_loop.specs.Tables.AdmitsEach.{Nobody, OneMore}
 use Rattle.event_loop.specs.Turns.{Accepted, IsDrivenSoon, IsTurn, accepts_now}
@@ -77,22 +78,31 @@ module _ {T D : Type 0} {g : Ghosts D} (hub : Hub D g) (last next : Turns) (old 
 
 -- ---- the places of the table
 
+-- a stream that was just made is registered under the key of its place
+pub new_registered : (accepted : AcceptedSocket) (key session : ℕ) (b : BufferedStream Socket) → IsNewSocket accepted key session b
+    → WasRegisteredAs key session
+new_registered accepted key session b new = (new.0.socket, new.1.counts.5, new.4)
+
 module _ {T : Type 0} where
   pub remain_places : (old new : Slots T) → Remain old new → HavePlaces old → HavePlaces new
-  remain_places old new remain places key entry e = let b = remain key entry e in places key b.0 b.1
+  remain_places old new remain places key entry e = let b = remain key entry e in subst (HasPlace key) b.2 (places key b.0 b.1)
 
   pub places_after : (old new : Slots T) → KeepSessions old new → HavePlaces old → HavePlaces new
-  places_after old new keep places key entry e = let b = keep key entry e in places key b.0 b.1
+  places_after old new keep places key entry e = let b = keep key entry e in subst (HasPlace key) (sym b.2) (places key b.0 b.1)
 
   module _ {D : Type 0} {g : Ghosts D} {IsNew : AcceptedSocket → ℕ → ℕ → T → Type 0} {hub : Hub D g} {next : ℕ} {slots : Slots T} where
     pub each_placed : {came : List AcceptedSocket} {later : Hub D g} {then : ℕ} {new : Slots T} → AdmitsEach IsNew hub next slots came later then new
+        → ((accepted : AcceptedSocket) (key session : ℕ) (stream : T) → IsNew accepted key session stream → WasRegisteredAs key session)
         → HavePlaces slots → HavePlaces new
-    each_placed Nobody places key entry e = places key entry e
-    each_placed (OneMore came accepted mid later number then between new each (inl away)) places key entry e =
-        each_placed each places key entry (ap (λ l. slot_at l key) (sym away.slots_are) ∙ e)
-    each_placed (OneMore came accepted mid later number then between new each (inr l)) places key entry e = elim (cases_eq key l.key) [
-      | inl same ↦ subst (λ k. k < 128) (sym same) l.key_is
-      | inr differs ↦ each_placed each places key entry (sym (l.others key differs) ∙ e)
+    each_placed Nobody begins places key entry e = places key entry e
+    each_placed (OneMore came accepted mid later number then between new each (inl away)) begins places key entry e =
+        each_placed each begins places key entry (ap (λ l. slot_at l key) (sym away.slots_are) ∙ e)
+    each_placed (OneMore came accepted mid later number then between new each (inr l)) begins places key entry e = elim (cases_eq key l.key) [
+      | inl same ↦
+          let which : l.entry ≡ entry = some_same (sym l.changed ∙ ap (slot_at new) (sym same) ∙ e) in
+          subst (λ k. HasPlace k entry.session) (sym same) (subst (λ (x : Entry T). HasPlace l.key x.session) which
+          (record { place = l.key_is; registered = ∣ begins accepted l.key l.entry.session l.entry.stream l.fresh ∣₁ }))
+      | inr differs ↦ each_placed each begins places key entry (sym (l.others key differs) ∙ e)
     ]
 
     -- who is there stays as connections come
@@ -231,7 +241,7 @@ module _ {D : Type 0} {g : Ghosts D} (reports : Type 0) (traffic : Socket
   polled_place : (entry : Entry (BufferedStream Socket)) → polled ≡ Some entry → key < 128
   polled_place entry is =
       let before = was_answered_then (items new.poller.events) key (slot_at old.table.slots key) entry is in
-      old.places key before.0 before.1
+      (old.places key before.0 before.1).place
 
   pub each_soon : ((waits : ℕ → Bool) (last next key : ℕ) → ComesNearer waits last next key) → is_ready_slot polled ≡ true
       → IsDrivenSoon reports traffic old new turn key

@@ -18,12 +18,13 @@ use Rattle.sessions.specs.declared.hub.Hub.{Hub}
 use Rattle.socket_calls.specs.declared.counted.AcceptedSocket.{AcceptedSocket}
 use Rattle.stream_driver.proofs.Carry.{run_then}
 use Rattle.stream_driver.proofs.States.{at_point, point_of}
-use Rattle.stream_driver.specs.Buffers.{buffered_in, fresh, has_had_share, traffic_through}
+use Rattle.stream_driver.specs.Appends.{UsesShare}
+use Rattle.stream_driver.specs.Buffers.{buffered_in, fresh, has_had_share, share_of, traffic_through}
 use Rattle.stream_driver.specs.Drives.{LeavesIfGone, Why}
 use Rattle.stream_driver.specs.Entries.{DrivenAll, DrivenEntry, DrivenIn, EndsIn, entry_state_after, state_at_end}
 use Rattle.stream_driver.specs.Sessions.{AwaitsMore, Leads, Point, inbox_in, pending_at}
 use Rattle.stream_driver.specs.Traffic.{Traffic}
-use Rattle.stream_driver.specs.Waits.{EachWaits, IsSound, SaysWhyBlocked}
+use Rattle.stream_driver.specs.Waits.{EachEntry, IsSound, SaysWhyBlocked, WaitsSince}
 use Rattle.stream_driver.specs.declared.answers.Call.TheVariants.{Read, Write}
 use Rattle.stream_driver.specs.declared.answers.Progress.{Progress}
 use Rattle.stream_driver.specs.declared.answers.Progress.TheVariants.{Waiting}
@@ -42,7 +43,8 @@ use Rattle.event_loop.proofs.TableBytes.{was_alive}
 use Rattle.event_loop.proofs.Tables.{admits_table}
 use Rattle.event_loop.specs.Numbers.{SessionsAreBelow}
 use Rattle.event_loop.specs.Order.{after_turn, in_turn}
-use Rattle.event_loop.specs.Peers.{AreRested, IdleWait, LackNothing, WaitsForPeer}
+use Rattle.event_loop.specs.Peers.{AreRested, IdleWait, IsRested, LackNothing, WaitsForPeer}
+use Rattle.event_loop.specs.Progress.{UsesTurn}
 use Rattle.event_loop.specs.Sockets.{CameShort, IsNewSocket, SocketsReport, traffic_of}
 use Rattle.event_loop.specs.Tables.{Admits, AdmitsEach, EndsTurn, LetsIn, TableStands, after_event, after_poll}
 use Rattle.event_loop.specs.Tables.{join_of, join_tried, joins_of, reported_slot, slot_at}
@@ -52,7 +54,7 @@ use Rattle.event_loop.specs.declared.socket.Socket.{Socket}
 -- ---- what a drive that waits left
 
 -- its last call was a write or a read, which blocked
-abbrev WhyIdle : ℕ → HubState → Traffic → Type 0
+abbrev pub WhyIdle : ℕ → HubState → Traffic → Type 0
 WhyIdle s h after =
     ((after.last ≡ Some (Write WriteBlocked)) × (pending_at h s ≢ [])) ⊎ ((after.last ≡ Some (Read Blocked)) × AwaitsMore h s)
 
@@ -60,14 +62,14 @@ why_idle : (s : ℕ) (h : HubState) (before after : Traffic) (served : ℕ) → 
 why_idle s h before after served (inl why) = inl (why.0.1, why.1)
 why_idle s h before after served (inr why) = inr (why.0.1, why.1)
 
-idle_as : (s : ℕ) (last later : Point) (before after : Traffic) (served : ℕ) (answer : Progress) → entry_state_after answer ≡ Idle
+pub idle_as : (s : ℕ) (last later : Point) (before after : Traffic) (served : ℕ) (answer : Progress) → entry_state_after answer ≡ Idle
     → LeavesIfGone s last later answer → Why s last.hub before after served answer → WhyIdle s later.hub after
 idle_as s last later before after served Waiting e ends why =
     subst (λ (p : Point). WhyIdle s p.hub after) (sym ends) (why_idle s last.hub before after served why)
 idle_as s last later before after served _ e ends why = absurd (cc)
 
 -- so it is of a session that stands as it did
-awaits_same : (h k : HubState) (s : ℕ) → stream_of k s ≡ stream_of h s → AwaitsMore h s → AwaitsMore k s
+pub awaits_same : (h k : HubState) (s : ℕ) → stream_of k s ≡ stream_of h s → AwaitsMore h s → AwaitsMore k s
 awaits_same h k s same awaits = (
   ap status_in same ∙ awaits.0,
   ap pending_in same ∙ awaits.1,
@@ -173,6 +175,11 @@ module _ {T : Type 0} where
   RestsIn None = Unit {0}
   RestsIn (Some entry) = (entry.stream.is_short ≡ false) × (entry.stream.is_drained ≡ false)
 
+  -- a whole share is left of its next turn
+  abbrev WholeIn : Option (Entry (BufferedStream T)) → Type 0
+  WholeIn None = Unit {0}
+  WholeIn (Some entry) = entry.stream.share ≡ 262144
+
   event_rests : (b on : Bool) (slot : Option (Entry (BufferedStream T))) → RestsIn slot → RestsIn (reported_slot b on slot)
   event_rests true on (Some entry) rests = rests
   event_rests true on None rests = tt
@@ -197,21 +204,63 @@ module _ {T : Type 0} where
   slot_rests : (slots : Slots (BufferedStream T)) (key : ℕ) → AreRested slots → (slot : Option (Entry (BufferedStream T))) → slot_at slots key ≡ slot
       → RestsIn slot
   slot_rests slots key rested None is = tt
-  slot_rests slots key rested (Some entry) is = rested key entry is
+  slot_rests slots key rested (Some entry) is = let r = rested key entry is in (r.short, r.drained)
 
-  polled_rested : (slots ready : Slots (BufferedStream T)) (events : List Event) → TakesTurns slots ready events → AreRested slots → AreRested ready
+  event_whole : (b on : Bool) (slot : Option (Entry (BufferedStream T))) → WholeIn slot → WholeIn (reported_slot b on slot)
+  event_whole true on (Some entry) whole = whole
+  event_whole true on None whole = tt
+  event_whole false on slot whole = whole
+
+  poll_whole : (events : List Event) (key : ℕ) (slot : Option (Entry (BufferedStream T))) → WholeIn slot → WholeIn (after_poll events key slot)
+  poll_whole [] key slot whole = whole
+  poll_whole (event ∷ events) key slot whole =
+      poll_whole events key (after_event event key slot)
+      (event_whole ((event_token event).0 == key) (is_priority event || is_read_closed event) slot whole)
+
+  -- who has a turn has a whole share of it
+  in_turn_whole : (state : EntryState) (passed : Bool) (x entry : Entry (BufferedStream T)) → x.state ≡ state → in_turn state passed x ≡ entry
+      → entry.state ≡ Ready → x.stream.share ≡ 262144 → entry.stream.share ≡ 262144
+  in_turn_whole Ready true x entry is e ready whole =
+      absurd (let bad : Idle ≡ Ready = ap (λ (y : Entry (BufferedStream T)). y.state) e ∙ ready in cc)
+  in_turn_whole Ready false x entry is e ready whole = ap (λ (y : Entry (BufferedStream T)). y.stream.share) (sym e) ∙ whole
+  in_turn_whole Idle passed x entry is e ready whole =
+      absurd (let bad : Idle ≡ Ready = sym is ∙ ap (λ (y : Entry (BufferedStream T)). y.state) e ∙ ready in cc)
+  in_turn_whole Gone passed x entry is e ready whole =
+      absurd (let bad : Gone ≡ Ready = sym is ∙ ap (λ (y : Entry (BufferedStream T)). y.state) e ∙ ready in cc)
+
+  turn_whole : (passed : Bool) (slot : Option (Entry (BufferedStream T))) (entry : Entry (BufferedStream T)) → after_turn passed slot ≡ Some entry
+      → entry.state ≡ Ready → WholeIn slot → entry.stream.share ≡ 262144
+  turn_whole passed None entry e ready whole = absurd (let bad : None ≡ Some entry = e in cc)
+  turn_whole passed (Some x) entry e ready whole = in_turn_whole x.state passed x entry refl (some_same e) ready whole
+
+  slot_whole : (slots : Slots (BufferedStream T)) (key : ℕ) → AreRested slots → (slot : Option (Entry (BufferedStream T))) → slot_at slots key ≡ slot
+      → WholeIn slot
+  slot_whole slots key rested None is = tt
+  slot_whole slots key rested (Some entry) is = (rested key entry is).share
+
+  polled_whole : (slots ready : Slots (BufferedStream T)) (events : List Event) → TakesTurns slots ready events → AreRested slots → (key : ℕ)
+      → (entry : Entry (BufferedStream T)) → slot_at ready key ≡ Some entry → entry.state ≡ Ready → entry.stream.share ≡ 262144
+  polled_whole slots ready events polled rested key entry e is =
+      turn_whole (polled key).0 (after_poll events key (slot_at slots key)) entry (sym (polled key).1 ∙ e) is
+      (poll_whole events key (slot_at slots key) (slot_whole slots key rested (slot_at slots key) refl))
+
+  polled_rested : (slots ready : Slots (BufferedStream T)) (events : List Event) → TakesTurns slots ready events → AreRested slots → (key : ℕ)
+      → (entry : Entry (BufferedStream T)) → slot_at ready key ≡ Some entry → (entry.stream.is_short ≡ false) × (entry.stream.is_drained ≡ false)
   polled_rested slots ready events polled rested key entry e =
       subst RestsIn (sym (polled key).1 ∙ e)
       (turn_rests (polled key).0 (after_poll events key (slot_at slots key))
       (poll_rests events key (slot_at slots key) (slot_rests slots key rested (slot_at slots key) refl)))
 
+  rested_as : (old new : BufferedStream T) → new ≡ old → IsRested old → IsRested new
+  rested_as old new same rests = subst (λ (b : BufferedStream T). IsRested b) (sym same) rests
+
   module _ (reports : Type 0) (traffic : T → Traffic) (moment : ℕ) where
     end_rests : (state : EntryState) (old new : BufferedStream T) → EndsIn reports traffic moment state old new
-        → (new.is_short ≡ false) × (new.is_drained ≡ false)
-    end_rests Idle old new ends = (ap (λ (b : BufferedStream T). b.is_short) ends, ap (λ (b : BufferedStream T). b.is_drained) ends)
+        → IsRested new
+    end_rests Idle old new ends = rested_as (fresh old) new ends (record { short = refl; drained = refl; share = refl })
     end_rests _ old new ends = elim ends [
-      | inl same ↦ (ap (λ (b : BufferedStream T). b.is_short) same.1, ap (λ (b : BufferedStream T). b.is_drained) same.1)
-      | inr y ↦ (y.2.kept.short, y.2.kept.drained)
+      | inl same ↦ rested_as (fresh old) new same.1 (record { short = refl; drained = refl; share = refl })
+      | inr y ↦ record { short = y.2.kept.short; drained = y.2.kept.drained; share = y.2.kept.turn.share }
     ]
 
     pub ended_rested : (driven new : Slots (BufferedStream T)) → ((key : ℕ) → EndsTurn reports traffic moment (slot_at driven key) (slot_at new key))
@@ -221,6 +270,25 @@ module _ {T : Type 0} where
         end_rests entry.state b.0.stream entry.stream b.2.stream
 
 -- ---- the drives of a turn
+
+-- one of which no drive is under way has noted nothing
+sound_rested : {T : Type 0} (short : T → Type 0) (b : BufferedStream T) → (b.is_short ≡ false) × (b.is_drained ≡ false) → IsSound short b
+sound_rested short b rests = record {
+  short = λ yes. absurd (let no = rests.0 in cc);
+  drained = λ yes. absurd (let no = rests.1 in cc);
+}
+
+module _ {T : Type 0} (traffic : T → Traffic) (short : T → Type 0) (reports : Type 0) where
+  -- each entry that was ready used its turn
+  pub drives_use : (slots ready driven : Slots (BufferedStream T)) (events : List Event) → TakesTurns slots ready events → AreRested slots
+      → EachEntry (WaitsSince (IsSound short) (SaysWhyBlocked short traffic)) ready driven
+      → EachEntry (UsesShare reports (traffic_through traffic) share_of) ready driven → EachEntry (UsesTurn reports traffic) ready driven
+  drives_use slots ready driven events polled rested since uses key was entry e f = record {
+    whole = polled_whole slots ready events polled rested key was e;
+    uses = uses key was entry e f;
+    blocked = λ is idle last.
+        since key was entry e f is idle (sound_rested short was.stream (polled_rested slots ready events polled rested key was e)) (Write WriteBlocked) last;
+  }
 
 module _ {T : Type 0} (traffic : T → Traffic) (short : T → Type 0) where
   -- so it is of an entry whose stream and session stand as they did
@@ -245,7 +313,7 @@ module _ {T : Type 0} (traffic : T → Traffic) (short : T → Type 0) where
 
   module _ (reports : Type 0) (slots ready driven new : Slots (BufferedStream T)) (events : List Event) (polled : TakesTurns slots ready events)
       (own : AreOwn ready) (moment : ℕ) (ended : (key : ℕ) → EndsTurn reports traffic moment (slot_at driven key) (slot_at new key))
-      (since : EachWaits (IsSound short) (SaysWhyBlocked short traffic) ready driven) (rested : AreRested slots) where
+      (since : EachEntry (WaitsSince (IsSound short) (SaysWhyBlocked short traffic)) ready driven) (rested : AreRested slots) where
     pub drives_wait : (h k : Point) → DrivenAll reports (traffic_through traffic) h ready k driven → IdleWait traffic short h.hub slots
         → IdleWait traffic short k.hub new
     drives_wait h k d has key entry e idle =
@@ -259,10 +327,7 @@ module _ {T : Type 0} (traffic : T → Traffic) (short : T → Type 0) where
         let stays = one_waits reports (traffic_through traffic) h ready k driven d key was x w.1 b.1
         (λ other another g too same. own key other was another w.1 g alive too same) at.0 in
         let rests = polled_rested slots ready events polled rested key was w.1 in
-        let sound : IsSound short was.stream = record {
-          short = λ yes. absurd (let no = rests.0 in cc);
-          drained = λ yes. absurd (let no = rests.1 in cc);
-        } in
+        let sound = sound_rested short was.stream rests in
         let waits : WaitsForPeer traffic short k.hub x.session x.stream = elim stays [
           | inl why ↦ waits_driven k.hub x.session x.stream left why.1 (since key was x w.1 b.1 why.0 at.0 sound)
           | inr same ↦ elim (turn_idle (polled key).0 (after_poll events key (slot_at slots key)) x
@@ -334,7 +399,7 @@ module _ {T D : Type 0} {g : Ghosts D} (traffic : T → Traffic) (short : T → 
 
   -- no drive of theirs is under way
   module _ (begins : (accepted : AcceptedSocket) (key s : ℕ) (b : BufferedStream T) → IsNew accepted key s b
-      → (b.is_short ≡ false) × (b.is_drained ≡ false)) where
+      → IsRested b) where
     each_rested : {hub : Hub D g} {next : ℕ} {slots : Slots (BufferedStream T)} {came : List AcceptedSocket} {later : Hub D g} {then : ℕ}
         {new : Slots (BufferedStream T)} → AdmitsEach IsNew hub next slots came later then new → AreRested slots → AreRested new
     each_rested Nobody rested key entry e = rested key entry e
@@ -343,7 +408,7 @@ module _ {T D : Type 0} {g : Ghosts D} (traffic : T → Traffic) (short : T → 
     each_rested (OneMore came accepted mid later number then between new each (inr l)) rested key entry e = elim (cases_eq key l.key) [
       | inl at ↦
           let which : l.entry ≡ entry = some_same (sym l.changed ∙ ap (slot_at new) (sym at) ∙ e) in
-          subst (λ (x : Entry (BufferedStream T)). (x.stream.is_short ≡ false) × (x.stream.is_drained ≡ false)) which
+          subst (λ (x : Entry (BufferedStream T)). IsRested x.stream) which
           (begins accepted l.key l.entry.session l.entry.stream l.fresh)
       | inr differs ↦ each_rested each rested key entry (sym (l.others key differs) ∙ e)
     ]
@@ -361,7 +426,9 @@ module _ {D : Type 0} {g : Ghosts D} where
 
   pub accepted_rested : {hub : Hub D g} {next : ℕ} {slots : Slots (BufferedStream Socket)} {came : List AcceptedSocket} {later : Hub D g} {then : ℕ}
       {new : Slots (BufferedStream Socket)} → AdmitsEach IsNewSocket hub next slots came later then new → AreRested slots → AreRested new
-  accepted_rested each rested = each_rested traffic_of CameShort IsNewSocket (λ accepted key s b n. (n.2.short, n.2.drained)) each rested
+  accepted_rested each rested =
+      each_rested traffic_of CameShort IsNewSocket (λ accepted key s b n. record { short = n.2.short; drained = n.2.drained; share = n.2.share })
+      each rested
 
   -- what leads from one hub to another, and keeps what is idle waiting
   pub leads_lack : (hub later : Hub D g) {P : Point → Point → Type 0} → Leads hub later P → (slots new : Slots (BufferedStream Socket))

@@ -15,3 +15,4 @@ pub mod TableBytes
 pub mod Turns
 pub mod Waits
 pub mod Peers
+pub mod Progress

@@ -1,6 +1,7 @@
 -- What one turn of the loop does to its hub and its table.
 use Rattle.std.specs.List.{list_any}
-use Rattle.std.specs.Prelude.{◌≡◌, ◌==◌, ◌||◌, ◌⊎◌, ℕ, ◌+◌, ◌<◌, ◌≤◌, Bool, true, false, List, [], Option, Result}
+use Rattle.std.specs.Prelude.{◌≡◌, ◌≢◌, ◌==◌, ◌||◌, ◌⊎◌, ℕ, ◌+◌, ◌<◌, ◌≤◌, Bool, true, false, List, [], Option, Some}
+use Rattle.std.specs.Prelude.{Result}
 use Rattle.std.specs.declared.io.Error.{Error}
 use Rattle.std.specs.declared.time.Duration.{Duration}
 use Rattle.mio.specs.Event.{event_token}
@@ -9,23 +10,30 @@ use Rattle.mio.specs.declared.event.event.Event.{Event}
 use Rattle.mio.specs.declared.token.Token.{Token}
 use Rattle.sector.specs.declared.device.Sectors.{Ghosts}
 use Rattle.sessions.specs.Laws.{CollectsStep, HasRun}
-use Rattle.sessions.specs.SessionStreams.{HubEvent, Choice}
-use Rattle.sessions.specs.StandsFor.{device}
+use Rattle.sessions.specs.SessionStreams.{HubEvent, HubState, Choice}
+use Rattle.sessions.specs.StandsFor.{StandsFor, device}
 use Rattle.sessions.specs.declared.hub.Hub.{Hub}
+use Rattle.socket_calls.specs.HappenedCalls.{WasRegistered, WasReported}
+use Rattle.socket_calls.specs.OpenFacts.{BecameReady}
+use Rattle.socket_calls.specs.declared.counted.CountedSocket.{CountedSocket}
+use Rattle.socket_calls.specs.declared.polled.CountedPoll.{CountedPoll}
 use Rattle.stream_driver.specs.Appends.{AppendsAtMost, ready_count}
 use Rattle.stream_driver.specs.Buffers.{traffic_through}
 use Rattle.stream_driver.specs.Entries.{DrivenAll}
 use Rattle.stream_driver.specs.Sends.{DrivesAnswering}
 use Rattle.stream_driver.specs.Sessions.{Adds, Leads, Point}
 use Rattle.stream_driver.specs.Traffic.{Traffic}
+use Rattle.stream_driver.specs.Waits.{EachEntry}
 use Rattle.stream_driver.specs.declared.buffered.BufferedStream.{BufferedStream}
 use Rattle.stream_driver.specs.declared.entries.Entry.{Entry}
+use Rattle.stream_driver.specs.declared.entries.EntryState.TheVariants.{Gone, Ready}
 use Rattle.event_loop.specs.Accepts.{Accepts, AsksOnce}
 use Rattle.event_loop.specs.Leavings.{EndAll, LingerOn}
 use Rattle.event_loop.specs.Lingerings.{lingers_in, unless_failed}
 use Rattle.event_loop.specs.Order.{AreNext, after_turn, behind, is_passed, is_ready_slot}
+use Rattle.event_loop.specs.Progress.{GetsOn, UsesTurn}
 use Rattle.event_loop.specs.Polls.{WasAskedOnce, after_wait, polls_of}
-use Rattle.event_loop.specs.Sockets.{IsNewSocket}
+use Rattle.event_loop.specs.Sockets.{IsNewSocket, SocketsReport, all_interests}
 use Rattle.event_loop.specs.Tables.{AcceptsInto, EndsTurn, after_poll, is_any_ready, joins_of, slot_at}
 use Rattle.event_loop.specs.Waits.{nanos_of, own_limit, shorter}
 use Rattle.event_loop.specs.declared.connections.Backlog.{Backlog}
@@ -45,8 +53,8 @@ IsTurnOf hub turns key polled ready = ready ≡ after_turn (is_passed hub turns 
 -- The drives of a turn in which the poll reported these events. The entries that waited and that it reported became
 -- ready. Of those that are ready and take turns, one that writes and one that reads at most have this one, and the
 -- others are passed over. Each other that is ready was driven once, by rising key, and no other event came to the hub.
--- Each of these drives appended one record to the log at most. What their streams buffered was written, and those that
--- are over were taken out.
+-- Each of these drives appended one record to the log at most, and used its share of the turn. What their streams
+-- buffered was written, and those that are over were taken out.
 pub record DrivesReady {T D : Type 0} {g : Ghosts D} (reports : Type 0) (traffic : T
     → Traffic) (events : List Event) (last : Turns) (hub : Hub D g) (slots : List (Option (Entry (BufferedStream T))))
     (next : Turns) (later : Hub D g) (new : List (Option (Entry (BufferedStream T)))) : Type 0 where
@@ -57,6 +65,7 @@ pub record DrivesReady {T D : Type 0} {g : Ghosts D} (reports : Type 0) (traffic
   pub drives : DrivesAnswering (traffic_through traffic) reports hub ready later driven
       (λ h k. DrivenAll reports (traffic_through traffic) h ready k driven)
   pub appends : AppendsAtMost (ready_count ready) hub later
+  pub uses : EachEntry (UsesTurn reports traffic) ready driven
   pub ended : (key : ℕ) → EndsTurn reports traffic (g.moment (device later)) (slot_at driven key) (slot_at new key)
 
 -- what the listener has answered so far
@@ -120,12 +129,13 @@ accepts_now Empty events = is_reported_of LISTENER events
 accepts_now More events = true
 accepts_now Failed events = true
 
--- One turn: the drives, by the events that the poll reported, then the accepts, and then a step of what no open
+-- One turn: a poll, the drives, by the events that it reported, then the accepts, and then a step of what no open
 -- transaction needs is freed. The events of these drives, followed by the joins of these accepts, are one run of the
 -- hub: lawful at each moment, with the device's failures counted, and what a crash leaves known. After the drives it
 -- turned those that linger; they were closed where an accept failed.
 pub record IsTurn {D : Type 0} {g : Ghosts D} (reports : Type 0) (traffic : Socket
     → Traffic) (old new : EventLoop D g) : Type 0 where
+  pub reported : WasReported old.poller.poll (items new.poller.events)
   pub driven : EventLoop D g
   pub drives : DrivesReady reports traffic (items new.poller.events) old.turns old.hub old.table.slots driven.turns
       driven.hub driven.table.slots
@@ -164,6 +174,31 @@ EachHasItsTurn {D} {g} reports traffic events =
     (old new : EventLoop D g) (turn : IsTurn reports traffic old new) (key : ℕ)
     → is_ready_slot (after_poll (items new.poller.events) key (slot_at old.table.slots key)) ≡ true
     → IsDrivenSoon reports traffic old new turn key
+
+-- The premise on the poll, over the open facts of connections and the waits that were really made: the events of a wait
+-- report each connection that became ready meanwhile, under the token under which it was registered. Connections are
+-- told apart by their numbers, as those of one loop are. It is neither claimed nor denied.
+pub record PollReports : Type 0 where
+  pub reports : (poll : CountedPoll) (events : List Event) (first now : CountedSocket) (token : Token)
+      → WasReported poll events → WasRegistered first token all_interests → first.connection ≡ now.connection
+      → BecameReady poll now → is_reported_of token events ≡ true
+
+-- Under both premises each connection of a session that is there and that became ready as a turn polled is to be driven
+-- in it.
+abbrev pub EachBecomesReady : {D : Type 0} {g : Ghosts D} → Type 0 → (Socket → Traffic) → EventLoop D g → Type 0
+EachBecomesReady {D} {g} reports traffic events =
+    SocketsReport → PollReports → (old new : EventLoop D g) → IsTurn reports traffic old new → (key : ℕ)
+    (entry : Entry (BufferedStream Socket)) → slot_at old.table.slots key ≡ Some entry → entry.state ≢ Gone
+    → BecameReady old.poller.poll entry.stream.inner.socket
+    → is_ready_slot (after_poll (items new.poller.events) key (slot_at old.table.slots key)) ≡ true
+
+-- In a turn each session whose turn it is gets on, from whatever state the hub stands for at its beginning.
+abbrev pub EachGetsOn : {D : Type 0} {g : Ghosts D} → Type 0 → (Socket → Traffic) → EventLoop D g → Type 0
+EachGetsOn {D} {g} reports traffic events =
+    (old new : EventLoop D g) (turn : IsTurn reports traffic old new) (h : HubState) → StandsFor old.hub h
+    → (k : HubState) × StandsFor turn.driven.hub k
+    × ((key : ℕ) (was : Entry (BufferedStream Socket)) → slot_at turn.drives.ready key ≡ Some was → was.state ≡ Ready
+    → GetsOn reports traffic h k key was turn.drives.driven)
 
 -- does the loop know of work: of garbage, of input to drop, of a session that is ready?
 abbrev pub has_work : {D : Type 0} {g : Ghosts D} → EventLoop D g → Bool

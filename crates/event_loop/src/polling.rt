@@ -1,7 +1,8 @@
 //! The system's poll, with its last events and counts of how often it succeeded and failed.
 ghost use Rattle.std.specs.Prelude.{◌≡◌};
-ghost use Rattle.std.specs.Prelude.{IfOk};
-ghost use Rattle.mio.specs.Events.{capacity as events_capacity};
+ghost use Rattle.std.specs.Prelude.{IfOk, OnOk};
+ghost use Rattle.mio.specs.Events.{capacity as events_capacity, items};
+ghost use Rattle.socket_calls.specs.HappenedCalls.{WasReported};
 ghost use Rattle.event_loop.specs.Polls.{WasAskedOnce, after_wait, polls_of};
 
 use mio::Events;
@@ -63,6 +64,7 @@ impl Poller {
         ensures polls { polls_of self.new ≡ after_wait result (polls_of self.old) }
         ensures waited { self.new.waited ≡ timeout }
         ensures asked { WasAskedOnce self.old.poll self.new.waited self.new.poll }
+        ensures reported { OnOk result (WasReported self.old.poll (items self.new.events)) }
         ensures room { events_capacity self.new.events ≡ events_capacity self.old.events }
     {
         self.waited = timeout;

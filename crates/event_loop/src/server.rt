@@ -80,7 +80,7 @@ impl<D: Sectors> EventLoop<D> {
     ghost use Rattle.event_loop.specs.Sockets.{SocketsReport, traffic_of};
     ghost use Rattle.event_loop.specs.TableBytes.{KeepBytes};
     ghost use Rattle.event_loop.specs.Turns.{Accepted, DrivesAndEnds, CollectsGarbage, IsTurn, IsUntouched};
-    ghost use Rattle.event_loop.specs.Turns.{EachHasItsTurn, TurnsAreRuns, Waits};
+    ghost use Rattle.event_loop.specs.Turns.{EachBecomesReady, EachGetsOn, EachHasItsTurn, TurnsAreRuns, Waits};
     ghost use Rattle.event_loop.specs.Turns.{accepts_now, has_work, is_reported_of, turn_waits};
     ghost use Rattle.event_loop.specs.Waits.{nanos_of};
 
@@ -210,9 +210,16 @@ impl<D: Sectors> EventLoop<D> {
     {}
 
     /// Does nothing, and takes no memory. Its contract says that a session that is ready is driven within as many turns as the table has
-    /// places: in each turn it is driven, or it is ready still and comes nearer.
+    /// places: in each turn it is driven, or it is ready still and comes nearer. And one that is driven gets on: it is served each request
+    /// that had come in whole, or `REQUESTS_MAX`, or what it has had of the turn is a whole share of bytes or the reply to a request that
+    /// appended a record; or its peer takes no more; or it leaves.
+    ///
+    /// Under the premise that a poll reports what was registered with it and became ready, and that on sockets, a session over whose
+    /// connection something came is ready in the turn whose poll ended then.
     pub fn law_each_has_its_turn(&self)
         ensures soon { EachHasItsTurn ⟦<Socket as Stream>⟧.reports ⟦<Socket as Stream>⟧.traffic self.now }
+        ensures ready { EachBecomesReady ⟦<Socket as Stream>⟧.reports ⟦<Socket as Stream>⟧.traffic self.now }
+        ensures gets_on { EachGetsOn ⟦<Socket as Stream>⟧.reports ⟦<Socket as Stream>⟧.traffic self.now }
     {
         law_each_comes_nearer();
     }
@@ -344,5 +351,12 @@ impl<D: Sectors> EventLoop<D> {
             .events()
             .iter()
             .any(|event| event.token() == token)
+    }
+
+    /// Gives the hub back, and drops the rest: the listener and the connections are closed. Takes no memory.
+    pub fn into_hub(self) -> Hub<D>
+        ensures { result ≡ hub_of self }
+    {
+        self.hub
     }
 }

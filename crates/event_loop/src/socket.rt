@@ -163,11 +163,9 @@ impl Stream for Socket {
 
     ghost reports = { SocketsReport };
 
-    ghost takes_at_most = { λ most s. Unit {0} };
-
     ghost keeps_share = { ⊥ };
 
-    ghost has_ended_share = { λ s. false };
+    ghost share = { λ s. record { left = 0; ended = false } };
 
     ghost came_short = { CameShort };
 

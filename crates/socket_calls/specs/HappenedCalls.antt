@@ -1,10 +1,11 @@
 -- The calls that a run of the program really made of a connection, of a poll and of a socket that listens. They are
 -- left open, as the facts of a connection are. The lemmas are to be cited only of the call that a proof is about, by
 -- the answers in `proofs/` of this crate.
-use Rattle.std.specs.Prelude.{ℕ, List, Option, Result, Ok, Err, IfErr, IfOk}
+use Rattle.std.specs.Prelude.{ℕ, List, Option, Result, Ok, Err, IfErr, IfOk, OnOk}
 use Rattle.std.specs.declared.io.Error.{Error}
 use Rattle.std.specs.declared.net.SocketAddr.{SocketAddr}
 use Rattle.std.specs.declared.time.Duration.{Duration}
+use Rattle.mio.specs.declared.event.event.Event.{Event}
 use Rattle.mio.specs.declared.interest.Interest.{Interest}
 use Rattle.mio.specs.declared.token.Token.{Token}
 use Rattle.socket_calls.specs.declared.counted.AcceptedSocket.{AcceptedSocket}
@@ -49,6 +50,10 @@ EndedWriting socket = Unit {0}
 -- its next wait was asked to be so long, without end where none is given
 pub WasAskedToWait : CountedPoll → Option Duration → Type 0
 WasAskedToWait poll timeout = Unit {0}
+
+-- its next wait ended with these events
+pub WasReported : CountedPoll → List Event → Type 0
+WasReported poll events = Unit {0}
 
 -- it was made to listen at this address
 pub ListensAt : ListeningSocket → SocketAddr → Type 0
@@ -105,6 +110,12 @@ real_end_writing socket = tt
 pub real_wait : (poll : CountedPoll) (timeout : Option Duration) → WasAskedToWait poll timeout
 unfolding WasAskedToWait
 real_wait poll timeout = tt
+
+pub real_report : {A : Type 0} (poll : CountedPoll) (answer : Result A Error) (events : List Event)
+    → OnOk answer (WasReported poll events)
+unfolding WasReported
+real_report poll (Ok done) events = tt
+real_report poll (Err error) events = tt
 
 pub real_listen : (listener : ListeningSocket) (address : SocketAddr) → ListensAt listener address
 unfolding ListensAt

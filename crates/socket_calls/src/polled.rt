@@ -1,6 +1,6 @@
 //! The system's poll, with its waits counted.
-ghost use Rattle.std.specs.Prelude.{◌≡◌, ◌+◌, ◌-◌, ◌^◌, max, min, IfOk};
-ghost use Rattle.mio.specs.Events.{capacity as events_capacity};
+ghost use Rattle.std.specs.Prelude.{◌≡◌, ◌+◌, ◌-◌, ◌^◌, max, min, IfOk, OnOk};
+ghost use Rattle.mio.specs.Events.{capacity as events_capacity, items};
 
 use mio::{Events, Poll, Registry};
 use std::io;
@@ -15,7 +15,7 @@ pub struct CountedPoll {
 }
 
 impl CountedPoll {
-    ghost use Rattle.socket_calls.specs.HappenedCalls.{WasAskedToWait};
+    ghost use Rattle.socket_calls.specs.HappenedCalls.{WasAskedToWait, WasReported};
 
     /// A poll of which no wait was asked. Answers the system's error. Takes no memory.
     pub fn new<R: Net>(rt: &R) -> io::Result<CountedPoll>
@@ -37,6 +37,7 @@ impl CountedPoll {
     pub fn wait(&mut self, events: &mut Events, timeout: Option<Duration>) -> io::Result<()>
         ensures asked { WasAskedToWait self.old timeout }
         ensures once { self.new.waits ≡ max self.old.waits (min (self.old.waits + 1) (2 ^ 64 - 1)) }
+        ensures reported { OnOk result (WasReported self.old (items events.new)) }
         ensures room { events_capacity events.new ≡ events_capacity events.old }
     {
         self.waits = self.waits.saturating_add(1);

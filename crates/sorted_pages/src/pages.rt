@@ -7,7 +7,7 @@ ghost use Rattle.std.specs.FinMap.Entries.{find, put, is_sorted};
 ghost use Rattle.model.specs.Map.{Bytes};
 ghost use Rattle.sorted_pages.specs.Pages.{AreFull, AreLoose, IsCrowded, StaysTight, entries, places_in, pushed};
 ghost use Rattle.sorted_pages.specs.Pages.{IsInsertionPoint, room_at};
-ghost use Rattle.sorted_pages.specs.Rooms.{MakesOnePage, SplitsPage};
+ghost use Rattle.sorted_pages.specs.Rooms.{MakesOnePage, MakesRoom, SplitsPage};
 
 use crate::aging::Aging;
 use crate::changing::{self, look_again};
@@ -174,11 +174,9 @@ impl<V: Aging + Drop> SortedPages<V> {
         n: usize,
     ) -> Result<(), AllocError>
         requires { IsInsertionPoint self.old key.bytes.now at.page at.entry }
-        ensures entries { entries self.new ≡ entries self.old }
-        ensures rooms { (q : Bytes) → room_at q self.old ≤ room_at q self.new }
+        ensures room { MakesRoom n self.old self.new }
         ensures made { OnOk result (n ≤ room_at key.entry.bytes.now self.new) }
         ensures known { n ≤ room_at key.entry.bytes.now self.old → IsOk result }
-        ensures tight { StaysTight (n + 191) self.old self.new }
         ensures split { OnOk result (IsCrowded key.entry.bytes.now n self.old → SplitsPage key.entry.bytes.now self.old self.new) }
         ensures pages { MakesOnePage key.entry.bytes.now n self.old self.new }
     {

@@ -1,13 +1,13 @@
 -- A drive adds one record to the log at most.
 use denote.Struct.Props.{props}
-use Rattle.std.proofs.Common.{◌≡◌, ◌≢◌, ◌⊎◌, ◌↔◌, inl, inr, ℕ, zero, suc, ◌+◌, ◌-◌, Bool, true, false, List, [], ◌∷◌}
-use Rattle.std.proofs.Common.{length, take, get_or, Option, None, refl, sym, ap, subst, ◌∙◌, arith}
+use Rattle.std.proofs.Common.{◌≡◌, ◌≢◌, ◌⊎◌, ◌↔◌, inl, inr, ℕ, zero, suc, ◌+◌, ◌≤◌, Bool, true, false, List, [], ◌∷◌}
+use Rattle.std.proofs.Common.{length, length-append, take, get_or, Option, None, refl, sym, ap, subst, ◌∙◌, arith}
 use Rattle.std.proofs.Math.Bool.{Bool-set}
 use Rattle.std.proofs.Math.Logic.{∥∥₁_elim}
 use Rattle.std.proofs.Math.Nat.{ℕ_set}
 use Rattle.std.proofs.lemmas.Bool.{both_ways, cases_eq}
 use Rattle.std.proofs.lemmas.Grind.{common_steps}
-use Rattle.std.proofs.lemmas.List.{nil_from_length}
+use Rattle.std.proofs.lemmas.List.{length-take-le, nil_from_length}
 use Rattle.engine.specs.Meaning.{IsReadOnly}
 use Rattle.sessions.proofs.EventSteps.{pending_seen}
 use Rattle.sessions.proofs.Reached.{reached}
@@ -17,13 +17,15 @@ use Rattle.sessions.specs.StandsFor.{HubLeads, CountsRecords, has_written, pendi
 use Rattle.sessions.specs.declared.events.Outcome.{Outcome}
 use Rattle.sessions.specs.declared.events.Outcome.TheVariants.{Done, Memory}
 use Rattle.stream_driver.proofs.States.{seen_after}
-use Rattle.stream_driver.specs.Appends.{AddsNone, AddsOne, IsReplied, KeepsShare, ServesOnce}
+use Rattle.stream_driver.specs.Appends.{AddsNone, AddsOne, IsReplied, KeepsShare, ServesOnce, Spends, Spent}
 use Rattle.stream_driver.specs.Appends.{AppendsAtMost, SpendsShare, ready_count, ready_in, count_if_ready}
 use Rattle.stream_driver.specs.Calls.{Flushes, WritesSome}
 use Rattle.stream_driver.specs.Sends.{LeadsAnswering}
 use Rattle.stream_driver.specs.Sessions.{Ghosts, Hub, Leads, Stands, pending_at, session_of}
-use Rattle.stream_driver.specs.Traffic.{KeepsTo, Traffic, bytes_written}
-use Rattle.stream_driver.specs.Types.{Empty, Exchange, WriteAnswer, Wrote, Entry, EntryState, Ready}
+use Rattle.stream_driver.specs.Traffic.{IsEnded, ReadsBytes, Share, TakesOf, Traffic, WritesBytes, WritesWithin}
+use Rattle.stream_driver.specs.Traffic.{bytes_written}
+use Rattle.stream_driver.specs.Types.{Empty, Exchange, WriteAnswer, Wrote, WriteBlocked, WriteFailed, Entry}
+use Rattle.stream_driver.specs.Types.{EntryState, Ready}
 
 -- ---- one event
 
@@ -123,26 +125,27 @@ pending_none {D} {g} {a} {b} {s} some p = seen_after (hlevel props) some p.leads
 pub none_none : {D : Type 0} {g : Ghosts D} (s : ℕ) (hub : Hub D g) → AddsNone s hub hub
 none_none s hub = record { records = refl; wrote = refl }
 
--- Since the drive began, with so many records and a stream whose share was ended so or not, none was added. Or one was, and the stream takes no more than the
--- reply to that request; or it takes nothing more, and the reply to the next one is pending.
-pub data SoFar {D : Type 0} {g : Ghosts D} {T : Type 0} (most : ℕ → T → Type 0) (is_over : T → Bool) (s records : ℕ) (was : Bool) (hub : Hub D g) (stream : T) :
-    Type 0 where
-  AddedNone : records_of hub ≡ records → is_over stream ≡ was → SoFar most is_over s records was hub stream
-  AddedOne : records_of hub ≡ records + 1 → has_written hub s ≡ false → most (length (pending_of hub s)) stream → is_over stream ≡ true
-      → SoFar most is_over s records was hub stream
-  TakesNone : records_of hub ≡ records + 1 → pending_of hub s ≢ [] → most 0 stream → is_over stream ≡ true → SoFar most is_over s records was hub stream
+-- as many records as before, and so much of the share that was left then was sent; or one more, with which the share was ended
+abbrev pub IsOnce : {T : Type 0} → Type 0 → (T → Traffic) → (T → Share) → ℕ → T → ℕ → T → Type 0
+IsOnce reports traffic share before was now is =
+    ((now ≡ before) × Spent reports traffic share was is) ⊎ ((now ≡ before + 1) × ((share is).ended ≡ true))
 
--- nothing is pending: no record was added, or one was, and the stream takes nothing more
-abbrev pub IsOut : {D : Type 0} {g : Ghosts D} {T : Type 0} → (ℕ → T → Type 0) → (T → Bool) → ℕ → ℕ → Bool → Hub D g → T → Type 0
-IsOut most is_over s records was hub stream =
-    ((records_of hub ≡ records) × (is_over stream ≡ was))
-    ⊎ ((records_of hub ≡ records + 1) × (has_written hub s ≡ false) × most 0 stream × (is_over stream ≡ true))
+module _ {D : Type 0} {g : Ghosts D} {T : Type 0} (reports : Type 0) (traffic : T → Traffic) (share : T → Share) (s records : ℕ) (was : T) where
+  -- Since the drive began, with so many records and a stream that stood so, none was added. Or one was, and no more is left of the share than the reply to
+  -- that request; or nothing is left of it, and the reply to the next one is pending.
+  pub data SoFar (hub : Hub D g) (stream : T) : Type 0 where
+    AddedNone : records_of hub ≡ records → Spent reports traffic share was stream → SoFar hub stream
+    AddedOne : records_of hub ≡ records + 1 → has_written hub s ≡ false → IsEnded (length (pending_of hub s)) (share stream) → SoFar hub stream
+    TakesNone : records_of hub ≡ records + 1 → pending_of hub s ≢ [] → IsEnded 0 (share stream) → SoFar hub stream
 
--- as many as before, or one more, with which the share was ended
-abbrev pub IsOnce : ℕ → Bool → ℕ → Bool → Type 0
-IsOnce before was now is = ((now ≡ before) × (is ≡ was)) ⊎ ((now ≡ before + 1) × (is ≡ true))
+  -- nothing is pending: no record was added, or one was, and nothing is left of the share
+  abbrev pub IsOut : Hub D g → T → Type 0
+  IsOut hub stream =
+      ((records_of hub ≡ records) × Spent reports traffic share was stream)
+      ⊎ ((records_of hub ≡ records + 1) × (has_written hub s ≡ false) × IsEnded 0 (share stream))
 
-pub once_then : {before now later : ℕ} {was is : Bool} → IsOnce before was now is → later ≡ now → IsOnce before was later is
+pub once_then : {T : Type 0} {reports : Type 0} {traffic : T → Traffic} {share : T → Share} {before now later : ℕ} {was is : T}
+    → IsOnce reports traffic share before was now is → later ≡ now → IsOnce reports traffic share before was later is
 once_then (inl x) e = inl (e ∙ x.0, x.1)
 once_then (inr x) e = inr (e ∙ x.0, x.1)
 
@@ -151,60 +154,84 @@ none_then p q = record { records = q.records ∙ p.records; wrote = q.wrote ∙ 
 
 -- ---- calls of the stream, one after another
 
+written_within : (answer : WriteAnswer) (from : List ℕ) → WritesWithin answer (length from) → bytes_written answer ≤ length from
+written_within (Wrote n) from within = within.1
+written_within WriteBlocked from within = omega arith
+written_within WriteFailed from within = omega arith
+
 pub none_written : (answer : WriteAnswer) → ((n : ℕ) → answer ≢ Wrote n) → bytes_written answer ≡ 0
 none_written (Wrote n) differs = absurd (differs n refl)
 none_written _ differs = refl
 
--- of the bytes that a stream takes at most, some are written, and then others
-keeps_to_none : {T : Type 0} {most : ℕ → T → Type 0} {is_over : T → Bool} (t : T) → KeepsTo most is_over t 0 t
-keeps_to_none {most = most} t = record {
-  takes = λ n m. (let same : n ≡ n - 0 = omega arith in (omega arith, subst (λ x. most x t) same m));
-  stays = refl;
+-- of what is left of a share some bytes are taken, and then others
+module _ {T : Type 0} {reports : Type 0} {traffic : T → Traffic} {share : T → Share} where
+  pub spends_zero : (t : T) → Spends reports traffic share t 0 t
+  spends_zero t = record { takes = record { left = omega arith; stays = refl }; sent = λ r. omega arith }
+
+  spends_both : {t u v : T} {a b c : ℕ} → a + b ≡ c → Spends reports traffic share t a u → Spends reports traffic share u b v
+      → Spends reports traffic share t c v
+  spends_both all p q = record {
+    takes = record { left = omega (arith, all, p.takes.left, q.takes.left); stays = q.takes.stays ∙ p.takes.stays };
+    sent = λ r. omega (arith, all, p.sent r, q.sent r);
+  }
+
+  spent_then : {t u v : T} {bytes : ℕ} → Spent reports traffic share t u → Spends reports traffic share u bytes v → Spent reports traffic share t v
+  spent_then {bytes = bytes} p q = (p.0 + bytes, spends_both refl p.1 q)
+
+  -- nothing is left once all was taken of no more than so many bytes
+  ended_then : {t u : T} {most bytes : ℕ} → most ≤ bytes → IsEnded most (share t) → Spends reports traffic share t bytes u → IsEnded 0 (share u)
+  ended_then le p q = record { few = omega (arith, le, p.few, q.takes.left); ended = q.takes.stays ∙ p.ended }
+
+-- what a read and a write did to it
+pub spends_read : {T : Type 0} {reports : Type 0} {traffic : T → Traffic} {share : T → Share} {moment : ℕ} {t u : T} {bytes : List ℕ}
+    → (reports → ReadsBytes moment (traffic t) bytes (traffic u)) → TakesOf (share t) 0 (share u) → Spends reports traffic share t 0 u
+spends_read {traffic = traffic} {t = t} moved takes = record { takes = takes; sent = λ r. omega (arith, ap length (moved r).sent) }
+
+pub spends_write : {T : Type 0} {reports : Type 0} {traffic : T → Traffic} {share : T → Share} {moment : ℕ} {t u : T} (answer : WriteAnswer) (from : List ℕ)
+    → WritesWithin answer (length from) → (reports → WritesBytes moment (traffic t) (take (bytes_written answer) from) (traffic u))
+    → TakesOf (share t) (bytes_written answer) (share u) → Spends reports traffic share t (bytes_written answer) u
+spends_write {traffic = traffic} {t = t} answer from within moved takes = record {
+  takes = takes;
+  sent = λ r. omega (
+    arith,
+    ap length (moved r).sent,
+    length-append (traffic t).sent (take (bytes_written answer) from),
+    length-take-le (bytes_written answer) from (written_within answer from within),
+  );
 }
 
-keeps_to_then : {T : Type 0} {most : ℕ → T → Type 0} {is_over : T → Bool} {t u v : T} (a b c : ℕ) → a + b ≡ c → KeepsTo most is_over t a u
-    → KeepsTo most is_over u b v → KeepsTo most is_over t c v
-keeps_to_then {most = most} {v = v} a b c all p q = record {
-  takes = λ n m.
-      let first = p.takes n m in
-      let then = q.takes (n - a) first.1 in
-      let less : (n - a) - b ≡ n - c = omega (arith, all) in
-      (omega (arith, first.0, then.0, all), subst (λ x. most x v) less then.1);
-  stays = q.stays ∙ p.stays;
-}
-
-module _ {D : Type 0} {g : Ghosts D} {T : Type 0} {keeps : Type 0} {most : ℕ → T → Type 0} {is_over : T → Bool} {s : ℕ} where
-  pub spends_none : (hub : Hub D g) (t : T) → SpendsShare keeps most is_over s hub t hub t
+module _ {D : Type 0} {g : Ghosts D} {T : Type 0} {keeps reports : Type 0} {traffic : T → Traffic} {share : T → Share} {s : ℕ} where
+  pub spends_none : (hub : Hub D g) (t : T) → SpendsShare keeps reports traffic share s hub t hub t
   spends_none hub t = record {
     sent = 0;
     pending = omega arith;
-    share = λ k. keeps_to_none t;
+    spends = λ k. spends_zero t;
     adds = none_none s hub;
   }
 
-  pub keeps_none : (hub : Hub D g) (t : T) → KeepsShare keeps most is_over s hub t hub t
-  keeps_none hub t = record { share = λ k. keeps_to_none t; adds = none_none s hub }
+  pub keeps_none : (hub : Hub D g) (t : T) → KeepsShare keeps reports traffic share s hub t hub t
+  keeps_none hub t = record { spends = λ k. spends_zero t; adds = none_none s hub }
 
-  pub spends_then : {a b c : Hub D g} {t u v : T} → SpendsShare keeps most is_over s a t b u → SpendsShare keeps most is_over s b u c v
-      → SpendsShare keeps most is_over s a t c v
+  pub spends_then : {a b c : Hub D g} {t u v : T} → SpendsShare keeps reports traffic share s a t b u → SpendsShare keeps reports traffic share s b u c v
+      → SpendsShare keeps reports traffic share s a t c v
   spends_then p q = record {
     sent = p.sent + q.sent;
     pending = omega (arith, p.pending, q.pending);
-    share = λ k. keeps_to_then p.sent q.sent (p.sent + q.sent) refl (p.share k) (q.share k);
+    spends = λ k. spends_both refl (p.spends k) (q.spends k);
     adds = none_then p.adds q.adds;
   }
 
   -- what was asked for was only the beginning of a request, and the stream was read
-  pub keeps_idle : {a b c d : Hub D g} {t u v : T} → KeepsShare keeps most is_over s a t b u → AddsNone s b c → KeepsShare keeps most is_over s c u d v
-      → KeepsShare keeps most is_over s a t d v
+  pub keeps_idle : {a b c d : Hub D g} {t u v : T} → KeepsShare keeps reports traffic share s a t b u → AddsNone s b c
+      → KeepsShare keeps reports traffic share s c u d v → KeepsShare keeps reports traffic share s a t d v
   keeps_idle p idle q =
-      record { share = λ k. keeps_to_then 0 0 0 refl (p.share k) (q.share k); adds = none_then (none_then p.adds idle) q.adds }
+      record { spends = λ k. spends_both refl (p.spends k) (q.spends k); adds = none_then (none_then p.adds idle) q.adds }
 
   -- and then a request was served
-  pub serves_then : {a b c : Hub D g} {t u : T} {answer : Exchange} → KeepsShare keeps most is_over s a t b u → AddsOne s b c
-      → IsReplied answer (pending_of c s) → ServesOnce keeps most is_over s a t answer c u
+  pub serves_then : {a b c : Hub D g} {t u : T} {answer : Exchange} → KeepsShare keeps reports traffic share s a t b u → AddsOne s b c
+      → IsReplied answer (pending_of c s) → ServesOnce keeps reports traffic share s a t answer c u
   serves_then p q replied = record {
-    share = λ k same. p.share k;
+    spends = λ k same. p.spends k;
     adds = record {
       none = λ none. q.none (p.adds.wrote ∙ none) ∙ p.adds.records;
       one = λ differs. q.one (λ same. differs (same ∙ p.adds.records)) ∙ ap (λ x. x + 1) p.adds.records;
@@ -214,35 +241,36 @@ module _ {D : Type 0} {g : Ghosts D} {T : Type 0} {keeps : Type 0} {most : ℕ �
   }
 
   -- none was served
-  pub serves_not : {a b : Hub D g} {t u : T} {answer : Exchange} → KeepsShare keeps most is_over s a t b u → IsReplied answer (pending_of b s)
-      → ServesOnce keeps most is_over s a t answer b u
+  pub serves_not : {a b : Hub D g} {t u : T} {answer : Exchange} → KeepsShare keeps reports traffic share s a t b u → IsReplied answer (pending_of b s)
+      → ServesOnce keeps reports traffic share s a t answer b u
   serves_not p replied = record {
-    share = λ k same. p.share k;
+    spends = λ k same. p.spends k;
     adds = record { none = λ none. p.adds.records; one = λ differs. absurd (differs p.adds.records); ended = λ differs. absurd (differs p.adds.records) };
     replied = replied;
   }
 
   -- so many bytes were written of what was pending
-  pub spends_some : {a b : Hub D g} {t u : T} {reports : Type 0} {before after : Traffic} (n : ℕ) → Stands a
-      → Leads a b (λ h k. WritesSome s reports h before (Wrote n) k after) → (keeps → KeepsTo most is_over t n u) → AddsNone s a b
-      → SpendsShare keeps most is_over s a t b u
+  pub spends_some : {a b : Hub D g} {t u : T} {before after : Traffic} (n : ℕ) → Stands a
+      → Leads a b (λ h k. WritesSome s reports h before (Wrote n) k after) → (keeps → Spends reports traffic share t n u) → AddsNone s a b
+      → SpendsShare keeps reports traffic share s a t b u
   spends_some {a} {b} n some leads takes adds = record {
     sent = n;
     pending = seen_after (hlevel ℕ_set) some leads
         (λ h k was is p. omega (arith, p.why.1, ap length (pending_seen a h.hub was s), ap length (pending_seen b k.hub is s)));
-    share = takes;
+    spends = takes;
     adds = adds;
   }
 
-  pub spends_not : {a : Hub D g} {t u : T} (answer : WriteAnswer) → ((n : ℕ) → answer ≢ Wrote n) → (keeps → KeepsTo most is_over t (bytes_written answer) u)
-      → SpendsShare keeps most is_over s a t a u
+  pub spends_not : {a : Hub D g} {t u : T} (answer : WriteAnswer) → ((n : ℕ) → answer ≢ Wrote n)
+      → (keeps → Spends reports traffic share t (bytes_written answer) u) → SpendsShare keeps reports traffic share s a t a u
   spends_not {a} answer differs takes =
-      record { sent = bytes_written answer; pending = omega (arith, none_written answer differs); share = takes; adds = none_none s a }
+      record { sent = bytes_written answer; pending = omega (arith, none_written answer differs); spends = takes; adds = none_none s a }
 
 -- ---- the entries of a table, one after another
 
-pub at_most_one : {D : Type 0} {g : Ghosts D} {old new : Hub D g} {state : EntryState} {was is : Bool} → state ≡ Ready
-    → IsOnce (records_of old) was (records_of new) is → AppendsAtMost (count_if_ready state) old new
+pub at_most_one : {D : Type 0} {g : Ghosts D} {T : Type 0} {reports : Type 0} {traffic : T → Traffic} {share : T → Share} {old new : Hub D g}
+    {state : EntryState} {was is : T} → state ≡ Ready → IsOnce reports traffic share (records_of old) was (records_of new) is
+    → AppendsAtMost (count_if_ready state) old new
 at_most_one e (inl x) = rw e (record { kept = omega (arith, x.0); few = omega (arith, x.0) })
 at_most_one e (inr x) = rw e (record { kept = omega (arith, x.0); few = omega (arith, x.0) })
 
@@ -267,49 +295,40 @@ appends_more key slots slot is p q =
 
 -- ---- between two requests
 
-once : {D : Type 0} {g : Ghosts D} {T : Type 0} {most : ℕ → T → Type 0} {is_over : T → Bool} {s records : ℕ} {was : Bool} {hub : Hub D g} {stream : T}
-    → SoFar most is_over s records was hub stream → IsOnce records was (records_of hub) (is_over stream)
-once (AddedNone same still) = inl (same, still)
-once (AddedOne one written takes on) = inr (one, on)
-once (TakesNone one some takes on) = inr (one, on)
-
-module _ {D : Type 0} {g : Ghosts D} {T : Type 0} {keeps : Type 0} {most : ℕ → T → Type 0} {is_over : T → Bool} {s records : ℕ} {was : Bool} {hub new : Hub D g}
-    {stream after : T} where
-  pub spent : keeps → SoFar most is_over s records was hub stream → SpendsShare keeps most is_over s hub stream new after
-      → IsOnce records was (records_of new) (is_over after)
-  spent k p q = elim (once p) [
-    | inl x ↦ inl (q.adds.records ∙ x.0, (q.share k).stays ∙ x.1)
-    | inr x ↦ inr (q.adds.records ∙ x.0, (q.share k).stays ∙ x.1)
-  ]
+module _ {D : Type 0} {g : Ghosts D} {T : Type 0} {keeps reports : Type 0} {traffic : T → Traffic} {share : T → Share} {s records : ℕ} {was : T}
+    {hub new : Hub D g} {stream after : T} where
+  pub spent : keeps → SoFar reports traffic share s records was hub stream → SpendsShare keeps reports traffic share s hub stream new after
+      → IsOnce reports traffic share records was (records_of new) after
+  spent k (AddedNone same so_far) q = inl (q.adds.records ∙ same, spent_then so_far (q.spends k))
+  spent k (AddedOne one written ends) q = inr (q.adds.records ∙ one, (q.spends k).takes.stays ∙ ends.ended)
+  spent k (TakesNone one some ends) q = inr (q.adds.records ∙ one, (q.spends k).takes.stays ∙ ends.ended)
 
   -- all that was pending was written
-  pub out : keeps → SoFar most is_over s records was hub stream → SpendsShare keeps most is_over s hub stream new after → pending_of new s ≡ []
-      → IsOut most is_over s records was new after
-  out k (AddedNone same still) q none = inl (q.adds.records ∙ same, (q.share k).stays ∙ still)
-  out k (AddedOne one written takes on) q none =
-      let left = (q.share k).takes (length (pending_of hub s)) takes in
-      let all : length (pending_of hub s) - q.sent ≡ 0 = omega (arith, q.pending, ap length none) in
-      inr (q.adds.records ∙ one, q.adds.wrote ∙ written, subst (λ n. most n after) all left.1, (q.share k).stays ∙ on)
-  out k (TakesNone one some takes on) q none =
-      let left = (q.share k).takes 0 takes in
-      absurd (some (nil_from_length (pending_of hub s) (omega (arith, q.pending, ap length none, left.0))))
+  pub out : keeps → SoFar reports traffic share s records was hub stream → SpendsShare keeps reports traffic share s hub stream new after
+      → pending_of new s ≡ [] → IsOut reports traffic share s records was new after
+  out k (AddedNone same so_far) q none = inl (q.adds.records ∙ same, spent_then so_far (q.spends k))
+  out k (AddedOne one written ends) q none =
+      inr (q.adds.records ∙ one, q.adds.wrote ∙ written, ended_then (omega (arith, q.pending, ap length none)) ends (q.spends k))
+  out k (TakesNone one some ends) q none =
+      absurd (some (nil_from_length (pending_of hub s) (omega (arith, q.pending, ap length none, ends.few, (q.spends k).takes.left))))
 
-  -- a request was looked for, and where that added a record the share was ended, and the stream takes no more than the reply
-  pub served : {answer : Exchange} → keeps → IsOut most is_over s records was hub stream → ServesOnce keeps most is_over s hub stream answer new after
-      → (records_of new ≢ records_of hub → most (length (pending_of new s)) after) → (records_of new ≢ records_of hub → is_over after ≡ true)
-      → pending_of new s ≢ [] → SoFar most is_over s records was new after
-  served k (inl x) q ends on some = elim (cases_eq (records_of new) (records_of hub)) [
-    | inl still ↦ AddedNone (still ∙ x.0) ((q.share k still).stays ∙ x.1)
-    | inr differs ↦ AddedOne (q.adds.one differs ∙ ap (λ n. n + 1) x.0) (q.adds.ended differs) (ends differs) (on differs)
+  -- a request was looked for, and where that added a record the share was ended, and no more is left of it than the reply
+  pub served : {answer : Exchange} → keeps → IsOut reports traffic share s records was hub stream
+      → ServesOnce keeps reports traffic share s hub stream answer new after
+      → (records_of new ≢ records_of hub → IsEnded (length (pending_of new s)) (share after)) → pending_of new s ≢ []
+      → SoFar reports traffic share s records was new after
+  served k (inl x) q ends some = elim (cases_eq (records_of new) (records_of hub)) [
+    | inl still ↦ AddedNone (still ∙ x.0) (spent_then x.1 (q.spends k still))
+    | inr differs ↦ AddedOne (q.adds.one differs ∙ ap (λ n. n + 1) x.0) (q.adds.ended differs) (ends differs)
   ]
-  served k (inr x) q ends on some =
-      let still = q.adds.none x.1 in
-      TakesNone (still ∙ x.0) some ((q.share k still).takes 0 x.2).1 ((q.share k still).stays ∙ x.3)
+  served k (inr x) q ends some = let still = q.adds.none x.1 in TakesNone (still ∙ x.0) some (ended_then (omega arith) x.2 (q.spends k still))
 
-  pub served_once : {answer : Exchange} → keeps → IsOut most is_over s records was hub stream → ServesOnce keeps most is_over s hub stream answer new after
-      → (records_of new ≢ records_of hub → is_over after ≡ true) → IsOnce records was (records_of new) (is_over after)
-  served_once k (inl x) q on = elim (cases_eq (records_of new) (records_of hub)) [
-    | inl still ↦ inl (still ∙ x.0, (q.share k still).stays ∙ x.1)
-    | inr differs ↦ inr (q.adds.one differs ∙ ap (λ n. n + 1) x.0, on differs)
+  pub served_once : {answer : Exchange} → keeps → IsOut reports traffic share s records was hub stream
+      → ServesOnce keeps reports traffic share s hub stream answer new after
+      → (records_of new ≢ records_of hub → IsEnded (length (pending_of new s)) (share after))
+      → IsOnce reports traffic share records was (records_of new) after
+  served_once k (inl x) q ends = elim (cases_eq (records_of new) (records_of hub)) [
+    | inl still ↦ inl (still ∙ x.0, spent_then x.1 (q.spends k still))
+    | inr differs ↦ inr (q.adds.one differs ∙ ap (λ n. n + 1) x.0, (ends differs).ended)
   ]
-  served_once k (inr x) q on = let still = q.adds.none x.1 in inr (still ∙ x.0, (q.share k still).stays ∙ x.3)
+  served_once k (inr x) q ends = let still = q.adds.none x.1 in inr (still ∙ x.0, (q.spends k still).takes.stays ∙ x.2.ended)

@@ -1,6 +1,6 @@
 -- Why a stream that blocked did so, and that its notes of short reads stay sound.
-use Rattle.std.proofs.Common.{◌≡◌, ◌≢◌, ◌⊎◌, ◌+◌, ◌<◌, ◌≤◌, inl, inr, ℕ, true, false, List, [], length, set, get_or}
-use Rattle.std.proofs.Common.{Option, Some, None, refl, sym, ap, subst, ◌∙◌, arith}
+use Rattle.std.proofs.Common.{◌≡◌, ◌≢◌, ◌⊎◌, ◌↔◌, ◌+◌, ◌<◌, ◌≤◌, inl, inr, ℕ, true, false, List, [], length, set}
+use Rattle.std.proofs.Common.{get_or, Option, Some, None, refl, sym, ap, subst, ◌∙◌, arith}
 use Rattle.std.proofs.lemmas.Bool.{cases_eq}
 use Rattle.std.proofs.lemmas.Grind.{common_steps}
 use Rattle.model.proofs.Lookups.{some_same}
@@ -9,8 +9,7 @@ use Rattle.stream_driver.specs.Buffers.{ShortAfter, WhyTook, buffered_in}
 use Rattle.stream_driver.specs.Traffic.{Traffic}
 use Rattle.stream_driver.specs.Types.{BufferedStream, Call, Entry, Read, Write, ReadAnswer, Moved, Blocked, Failed}
 use Rattle.stream_driver.specs.Types.{Ended, CallCounts, WriteAnswer, Wrote, WriteBlocked, WriteFailed}
-use Rattle.stream_driver.specs.Waits.{ComesShort, EachWaits, IsSound, StaysSound, SaysWhyBlocked, WaitsSince}
-use Rattle.stream_driver.specs.Waits.{WhyBlocked}
+use Rattle.stream_driver.specs.Waits.{ComesShort, EachEntry, IsSound, StaysSound, SaysWhyBlocked, WhyBlocked}
 use Rattle.stream_driver.specs.Waits.{WhyReadBlocked, WhyWriteBlocked}
 
 -- several calls, of which the last may have blocked
@@ -24,50 +23,52 @@ module _ {T : Type 0} (is_sound waits : T → Type 0) {blocked : Type 0} (old mi
 
 -- ---- a walk over a table
 
-module _ {T : Type 0} (is_sound waits : T → Type 0) where
+module _ {T : Type 0} (P : Entry T → Entry T → Type 0) where
   -- so it is of the entries below a key
-  abbrev pub WaitBelow : ℕ → List (Option (Entry T)) → List (Option (Entry T)) → Type 0
-  WaitBelow key slots new =
-      (other : ℕ) (was entry : Entry T) → other < key → get_or slots other None ≡ Some was → get_or new other None ≡ Some entry
-      → WaitsSince is_sound waits was entry
+  abbrev pub EntriesBelow : ℕ → List (Option (Entry T)) → List (Option (Entry T)) → Type 0
+  EntriesBelow key slots new =
+      (other : ℕ) (was entry : Entry T) → other < key → get_or slots other None ≡ Some was → get_or new other None ≡ Some entry → P was entry
 
-  module _ (key : ℕ) (slots new : List (Option (Entry T))) (so_far : WaitBelow key slots new) where
-    pub waits_driven : (old entry : Entry T) → get_or slots key None ≡ Some old → key < length new → WaitsSince is_sound waits old entry
-        → WaitBelow (key + 1) slots (set new key (Some entry))
-    waits_driven old entry is lt since = λ other was now below e d. elim (get_set new key other entry now lt d) [
+  module _ (key : ℕ) (slots new : List (Option (Entry T))) (so_far : EntriesBelow key slots new) where
+    pub below_driven : (old entry : Entry T) → get_or slots key None ≡ Some old → key < length new → P old entry
+        → EntriesBelow (key + 1) slots (set new key (Some entry))
+    below_driven old entry is lt since = λ other was now below e d. elim (get_set new key other entry now lt d) [
       | inl (same, which) ↦
           let which_was : was ≡ old = some_same (sym e ∙ ap (λ k. get_or slots k None) same ∙ is) in
-          subst (λ (x : Entry T). WaitsSince is_sound waits was x) (sym which)
-          (subst (λ (x : Entry T). WaitsSince is_sound waits x entry) (sym which_was) since)
+          subst (λ (x : Entry T). P was x) (sym which) (subst (λ (x : Entry T). P x entry) (sym which_was) since)
       | inr (differs, there) ↦ so_far other was now (omega (arith, below, differs)) e there
     ]
 
-    pub waits_vacant : get_or new key None ≡ None → WaitBelow (key + 1) slots new
-    waits_vacant none = λ other was now below e d. elim (cases_eq other key) [
+    pub below_vacant : get_or new key None ≡ None → EntriesBelow (key + 1) slots new
+    below_vacant none = λ other was now below e d. elim (cases_eq other key) [
       | inl same ↦ absurd (let bad : None ≡ Some now = sym none ∙ ap (λ k. get_or new k None) (sym same) ∙ d in cc)
       | inr differs ↦ so_far other was now (omega (arith, below, differs)) e d
     ]
 
-  pub waits_all : (key : ℕ) (slots new : List (Option (Entry T))) → length slots ≤ key → WaitBelow key slots new → EachWaits is_sound waits slots new
-  waits_all key slots new le so_far = λ other was now e d. so_far other was now (let lt = below slots other was e in omega arith) e d
+  pub below_all : (key : ℕ) (slots new : List (Option (Entry T))) → length slots ≤ key → EntriesBelow key slots new → EachEntry P slots new
+  below_all key slots new le so_far = λ other was now e d. so_far other was now (let lt = below slots other was e in omega arith) e d
 
 -- ---- a stream that buffers
 
+-- calls one after another left whether a read came short
+pub short_then : {P Q R : Type 0} → P ↔ Q → Q ↔ R → P ↔ R
+short_then p q = (λ x. q.0 (p.0 x), λ x. p.1 (q.1 x))
+
 module _ {T : Type 0} (short : T → Type 0) where
   -- a read that moved nothing leaves whether one came short
-  pub comes_not : (old new : T) (len : ℕ) (answer : ReadAnswer) → ((n : ℕ) → answer ≢ Moved n) → ComesShort short old len answer new → short old → short new
-  comes_not old new len (Moved n) differs comes was = absurd (differs n refl)
-  comes_not old new len Blocked differs comes was = comes was
-  comes_not old new len Failed differs comes was = comes was
-  comes_not old new len Ended differs comes was = comes was
+  pub comes_not : (old new : T) (len : ℕ) (answer : ReadAnswer) → ((n : ℕ) → answer ≢ Moved n) → ComesShort short old len answer new → short old ↔ short new
+  comes_not old new len (Moved n) differs comes = absurd (differs n refl)
+  comes_not old new len Blocked differs comes = comes
+  comes_not old new len Failed differs comes = comes
+  comes_not old new len Ended differs comes = comes
 
   -- so it is after calls that left whether one came short
-  pub comes_since : (old mid new : BufferedStream T) (len : ℕ) (answer : ReadAnswer) → ((n : ℕ) → answer ≢ Moved n) → (short old.inner → short mid.inner)
+  pub comes_since : (old mid new : BufferedStream T) (len : ℕ) (answer : ReadAnswer) → ((n : ℕ) → answer ≢ Moved n) → (short old.inner ↔ short mid.inner)
       → ComesShort short mid.inner len answer new.inner → ComesShort (λ (b : BufferedStream T). short b.inner) old len answer new
   comes_since old mid new len (Moved n) differs since comes = absurd (differs n refl)
-  comes_since old mid new len Blocked differs since comes = λ was. comes (since was)
-  comes_since old mid new len Failed differs since comes = λ was. comes (since was)
-  comes_since old mid new len Ended differs since comes = λ was. comes (since was)
+  comes_since old mid new len Blocked differs since comes = short_then since comes
+  comes_since old mid new len Failed differs since comes = short_then since comes
+  comes_since old mid new len Ended differs since comes = short_then since comes
 
   -- and once the call was counted
   pub comes_counted : (old mid : BufferedStream T) (counts : CallCounts) (len : ℕ) (answer : ReadAnswer)

@@ -3,16 +3,30 @@ use Rattle.std.specs.Prelude.{◌≡◌, ◌≢◌, ◌⊎◌, ℕ, ◌+◌, ◌
 use Rattle.std.specs.Prelude.{None}
 use Rattle.sessions.specs.StandsFor.{has_written, pending_of, records_of}
 use Rattle.stream_driver.specs.Sessions.{Ghosts, Hub}
-use Rattle.stream_driver.specs.Traffic.{KeepsTo}
+use Rattle.stream_driver.specs.Traffic.{Share, TakesOf, Traffic}
 use Rattle.stream_driver.specs.Types.{Exchange, Served, Broke, Starved, ExchangeBlocked, ExchangeFailed}
 use Rattle.stream_driver.specs.Types.{ExchangeEnded, EntryState, Idle, Ready, EntryGone, Entry}
 
--- The log has as many records as before, and whether the stream's share was ended stays. Or it has one more, and the
--- share was ended.
-abbrev pub AppendsOnce : {D : Type 0} {g : Ghosts D} {T : Type 0} → (T → Bool) → Hub D g → T → Hub D g → T → Type 0
-AppendsOnce ended old before new after =
-    ((records_of new ≡ records_of old) × (ended after ≡ ended before))
-    ⊎ ((records_of new ≡ records_of old + 1) × (ended after ≡ true))
+module _ {T : Type 0} (reports : Type 0) (traffic : T → Traffic) (share : T → Share) where
+  -- so many bytes of the share were taken, and as many were sent
+  pub record Spends (old : T) (bytes : ℕ) (new : T) : Type 0 where
+    pub takes : TakesOf (share old) bytes (share new)
+    pub sent : reports → length (traffic new).sent ≡ length (traffic old).sent + bytes
+
+  -- what is gone of the share was sent
+  abbrev pub Spent : T → T → Type 0
+  Spent old new = (bytes : ℕ) × Spends old bytes new
+
+  -- The log has as many records as before, and what is gone of the stream's share was sent. Or it has one more, and the
+  -- share was ended.
+  abbrev pub AppendsOnce : {D : Type 0} {g : Ghosts D} → Hub D g → T → Hub D g → T → Type 0
+  AppendsOnce old before new after =
+      ((records_of new ≡ records_of old) × Spent before after)
+      ⊎ ((records_of new ≡ records_of old + 1) × ((share after).ended ≡ true))
+
+  -- since an entry was ready: what is gone of its stream's share was sent, or the share was ended
+  abbrev pub UsesShare : Entry T → Entry T → Type 0
+  UsesShare old new = old.state ≡ Ready → Spent old.stream new.stream ⊎ ((share new.stream).ended ≡ true)
 
 -- the log has as many records as before, or up to so many more
 pub record AppendsAtMost {D : Type 0} {g : Ghosts D} (count : ℕ) (old new : Hub D g) : Type 0 where
@@ -53,23 +67,23 @@ IsReplied ExchangeBlocked pending = Unit {0}
 IsReplied ExchangeFailed pending = Unit {0}
 IsReplied ExchangeEnded pending = Unit {0}
 
--- of a stream that keeps to what it takes at most
-module _ {D : Type 0} {g : Ghosts D} {T : Type 0} (keeps : Type 0) (most : ℕ → T → Type 0) (ended : T → Bool) (s : ℕ)
-  where
-    -- nothing was written
-    pub record KeepsShare (old : Hub D g) (before : T) (new : Hub D g) (after : T) : Type 0 where
-      pub share : keeps → KeepsTo most ended before 0 after
-      pub adds : AddsNone s old new
+-- of a stream that keeps to its share
+module _ {D : Type 0} {g : Ghosts D} {T : Type 0} (keeps reports : Type 0) (traffic : T → Traffic) (share : T → Share)
+    (s : ℕ) where
+  -- nothing was written
+  pub record KeepsShare (old : Hub D g) (before : T) (new : Hub D g) (after : T) : Type 0 where
+    pub spends : keeps → Spends reports traffic share before 0 after
+    pub adds : AddsNone s old new
 
-    -- so many of the pending bytes were written
-    pub record SpendsShare (old : Hub D g) (before : T) (new : Hub D g) (after : T) : Type 0 where
-      pub sent : ℕ
-      pub pending : length (pending_of old s) ≡ length (pending_of new s) + sent
-      pub share : keeps → KeepsTo most ended before sent after
-      pub adds : AddsNone s old new
+  -- so many of the pending bytes were written
+  pub record SpendsShare (old : Hub D g) (before : T) (new : Hub D g) (after : T) : Type 0 where
+    pub sent : ℕ
+    pub pending : length (pending_of old s) ≡ length (pending_of new s) + sent
+    pub spends : keeps → Spends reports traffic share before sent after
+    pub adds : AddsNone s old new
 
-    -- a request was looked for
-    pub record ServesOnce (old : Hub D g) (before : T) (answer : Exchange) (new : Hub D g) (after : T) : Type 0 where
-      pub share : keeps → records_of new ≡ records_of old → KeepsTo most ended before 0 after
-      pub adds : AddsOne s old new
-      pub replied : IsReplied answer (pending_of new s)
+  -- a request was looked for
+  pub record ServesOnce (old : Hub D g) (before : T) (answer : Exchange) (new : Hub D g) (after : T) : Type 0 where
+    pub spends : keeps → records_of new ≡ records_of old → Spends reports traffic share before 0 after
+    pub adds : AddsOne s old new
+    pub replied : IsReplied answer (pending_of new s)

@@ -2,7 +2,7 @@
 use Rattle.std.specs.Prelude.{◌≡◌, ◌⊎◌, ◌+◌, ◌-◌, ◌<◌, ◌≤◌, ◌==◌, ◌++◌, ◌||◌, ◌≢◌, ◌↔◌, ℕ, Bool, true, false, List}
 use Rattle.std.specs.Prelude.{[], ◌∷◌, take, drop, length, min, nat_lt, vec_len}
 use Rattle.stream_driver.specs.Counts.{counted, counted_with}
-use Rattle.stream_driver.specs.Traffic.{AllMoved, DepartAt, CountsLast, Traffic, ReadsWithin, WritesWithin}
+use Rattle.stream_driver.specs.Traffic.{AllMoved, DepartAt, CountsLast, Share, Traffic, ReadsWithin, WritesWithin}
 use Rattle.stream_driver.specs.Traffic.{bytes_read, bytes_written, untouched}
 use Rattle.stream_driver.specs.Types.{Call, Read, Write, ReadAnswer, Moved, Blocked, Failed, Ended, WriteAnswer}
 use Rattle.stream_driver.specs.Types.{Wrote, WriteBlocked, WriteFailed, BufferedBytes, Flushed, All}
@@ -51,10 +51,9 @@ module _ {T : Type 0} where
   abbrev pub share_ended : ℕ → BufferedStream T → BufferedStream T
   share_ended reply b = record b { share = min b.share reply; appended = true }
 
-  -- it takes no more than so many bytes until the next drive, as a record was appended
-  pub record TakesAtMost (most : ℕ) (b : BufferedStream T) : Type 0 where
-    pub share : b.share ≤ most
-    pub appended : b.appended ≡ true
+  -- what is left of its share, which a drive that appends a record ends
+  abbrev pub share_of : BufferedStream T → Share
+  share_of b = record { left = b.share; ended = b.appended }
 
   -- No share is left, and nothing happens: the inner stream isn't called, and what is buffered stays so.
   pub record Pauses (old new : BufferedStream T) : Type 0 where
@@ -81,19 +80,6 @@ module _ {T : Type 0} where
   traffic_through traffic b =
       counted_with b.counts (traffic b.inner).received ((traffic b.inner).sent
       ++ buffered_in b.buffered) (traffic b.inner).departed (traffic b.inner).connection
-
-  -- over the stream these bytes more were received
-  abbrev pub GivesMore : (T → Traffic) → BufferedStream T → List ℕ → BufferedStream T → Type 0
-  GivesMore traffic old bytes new = (traffic_through traffic new).received ≡ (traffic_through traffic old).received
-      ++ bytes
-
-  -- and these more were sent
-  abbrev pub TakesMore : (T → Traffic) → BufferedStream T → List ℕ → BufferedStream T → Type 0
-  TakesMore traffic old bytes new = (traffic_through traffic new).sent ≡ (traffic_through traffic old).sent ++ bytes
-
-  -- what has left since left at this moment
-  abbrev pub LeavesAt : ℕ → (T → Traffic) → BufferedStream T → BufferedStream T → Type 0
-  LeavesAt moment traffic old new = DepartAt moment (traffic_through traffic old) (traffic_through traffic new)
 
   -- A read of fewer bytes than were asked for is short, unless such a read means nothing; where none came, whether the
   -- last read was short stays.

@@ -1,6 +1,7 @@
 -- What a stream has moved and answered so far.
 use Rattle.std.specs.List.{AllByRecursion}
-use Rattle.std.specs.Prelude.{◌≡◌, ℕ, Bool, ◌+◌, ◌<◌, ◌≤◌, ◌^◌, ◌-◌, min, max, List, [], ◌++◌, Option, Some, None}
+use Rattle.std.specs.Prelude.{◌≡◌, ℕ, Bool, true, ◌+◌, ◌<◌, ◌≤◌, ◌^◌, ◌-◌, min, max, List, [], ◌++◌, Option}
+use Rattle.std.specs.Prelude.{Some, None}
 use Rattle.stream_driver.specs.Types.{Call, Read, Write, ReadAnswer, Moved, Blocked, Failed, Ended, WriteAnswer}
 use Rattle.stream_driver.specs.Types.{Wrote, WriteBlocked, WriteFailed}
 
@@ -60,15 +61,20 @@ abbrev pub bytes_written : WriteAnswer → ℕ
 bytes_written (Wrote n) = n
 bytes_written _ = 0
 
--- where it takes at most some bytes, these were among them, and from now on it takes at most the others
-abbrev pub TakesOf : {T : Type 0} → (ℕ → T → Type 0) → T → ℕ → T → Type 0
-TakesOf most old bytes new = (n : ℕ) → most n old → (bytes ≤ n) × most (n - bytes) new
+-- a stream's share of a turn: how many bytes are left of it, and whether it was ended with a reply
+pub record Share : Type 0 where
+  pub left : ℕ
+  pub ended : Bool
 
--- and whether its share was ended stays
-pub record KeepsTo {T : Type 0} (most : ℕ → T → Type 0) (ended : T → Bool) (old : T) (bytes : ℕ) (new : T) : Type 0
-  where
-    pub takes : TakesOf most old bytes new
-    pub stays : ended new ≡ ended old
+-- so many bytes of it were taken
+pub record TakesOf (old : Share) (bytes : ℕ) (new : Share) : Type 0 where
+  pub left : new.left + bytes ≡ old.left
+  pub stays : new.ended ≡ old.ended
+
+-- it was ended, and no more than so many bytes are left of it
+pub record IsEnded (most : ℕ) (share : Share) : Type 0 where
+  pub few : share.left ≤ most
+  pub ended : share.ended ≡ true
 
 -- what the counts are after this answer; all else is the same
 abbrev pub counts_after_read : ReadAnswer → Traffic → Traffic
@@ -119,3 +125,15 @@ pub record DepartAt (moment : ℕ) (before after : Traffic) : Type 0 where
   pub departures : List Departure
   pub departed_are : after.departed ≡ before.departed ++ departures
   pub each : AllByRecursion (λ d. (d.moment ≡ moment) × IsBeginning d.bytes after.sent) departures
+
+-- these bytes were received, and none was sent; what left meanwhile, left at this moment
+pub record ReadsBytes (moment : ℕ) (before : Traffic) (bytes : List ℕ) (after : Traffic) : Type 0 where
+  pub received : after.received ≡ before.received ++ bytes
+  pub sent : after.sent ≡ before.sent
+  pub departed : DepartAt moment before after
+
+-- these bytes were sent, and none was received
+pub record WritesBytes (moment : ℕ) (before : Traffic) (bytes : List ℕ) (after : Traffic) : Type 0 where
+  pub received : after.received ≡ before.received
+  pub sent : after.sent ≡ before.sent ++ bytes
+  pub departed : DepartAt moment before after

@@ -1,5 +1,5 @@
 -- What a stream that blocks waits for.
-use Rattle.std.specs.Prelude.{◌≡◌, ◌≢◌, ◌⊎◌, ◌<◌, ℕ, true, false, List, [], Option, Some, None, slice_index_or}
+use Rattle.std.specs.Prelude.{◌≡◌, ◌≢◌, ◌⊎◌, ◌↔◌, ◌<◌, ℕ, true, false, List, [], Option, Some, None, slice_index_or}
 use Rattle.stream_driver.specs.Buffers.{buffered_in}
 use Rattle.stream_driver.specs.Traffic.{Traffic}
 use Rattle.stream_driver.specs.Types.{Call, Read, Write, ReadAnswer, Moved, Blocked, Failed, Ended, WriteAnswer}
@@ -7,10 +7,10 @@ use Rattle.stream_driver.specs.Types.{Wrote, WriteBlocked, WriteFailed, Buffered
 
 -- Whether the last read that moved bytes came short: fewer came than it asked for. Other reads leave that as it was.
 abbrev pub ComesShort : {T : Type 0} → (T → Type 0) → T → ℕ → ReadAnswer → T → Type 0
-ComesShort short old len (Moved n) new = n < len → short new
-ComesShort short old len Blocked new = short old → short new
-ComesShort short old len Failed new = short old → short new
-ComesShort short old len Ended new = short old → short new
+ComesShort short old len (Moved n) new = (n < len) ↔ short new
+ComesShort short old len Blocked new = short old ↔ short new
+ComesShort short old len Failed new = short old ↔ short new
+ComesShort short old len Ended new = short old ↔ short new
 
 -- of a stream that knows whether its last read came short, whose notes may be sound, and that can say why it blocked
 module _ {T : Type 0} (came_short is_sound waits : T → Type 0) where
@@ -22,7 +22,7 @@ module _ {T : Type 0} (came_short is_sound waits : T → Type 0) where
 
   -- after a write, which reads nothing
   pub record WriteStays (old new : T) : Type 0 where
-    pub short : came_short old → came_short new
+    pub short : came_short old ↔ came_short new
     pub sound : is_sound old → is_sound new
     pub why : is_sound old → waits new
 
@@ -36,10 +36,10 @@ abbrev pub WaitsSince : {T : Type 0} → (is_sound waits : T → Type 0) → Ent
 WaitsSince is_sound waits old new = old.state ≡ Ready → new.state ≡ Idle → is_sound old.stream → waits new.stream
 
 -- so it is of each entry of a table
-abbrev pub EachWaits : {T : Type 0} → (is_sound waits : T → Type 0) → (slots later : List (Option (Entry T))) → Type 0
-EachWaits {T} is_sound waits slots later =
+abbrev pub EachEntry : {T : Type 0} → (Entry T → Entry T → Type 0) → (slots later : List (Option (Entry T))) → Type 0
+EachEntry {T} P slots later =
     (key : ℕ) (was entry : Entry T) → slice_index_or slots key None ≡ Some was
-    → slice_index_or later key None ≡ Some entry → WaitsSince is_sound waits was entry
+    → slice_index_or later key None ≡ Some entry → P was entry
 
 module _ {T : Type 0} (traffic : T → Traffic) where
   -- the last call of the inner stream was this one

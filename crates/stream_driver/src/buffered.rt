@@ -64,7 +64,7 @@ pub struct BufferedStream<S: Stream> {
 }
 
 impl<S: Stream> BufferedStream<S> {
-    ghost use Rattle.std.specs.Prelude.{◌≡◌, ◌≢◌, ◌≤◌, ◌||◌, [], IfOk, length, true, false};
+    ghost use Rattle.std.specs.Prelude.{◌≡◌, ◌≢◌, ◌≤◌, ◌↔◌, ◌||◌, [], IfOk, length, true, false};
     ghost use Rattle.stream_driver.specs.Buffers.{IsNew, fresh, has_had_share, buffered_in, is_flushed_or_failed};
     ghost use Rattle.stream_driver.specs.Buffers.{Finishes, Flushes, KeepsBytes, RoomFails, WhyRoom, WritesBuffered};
     ghost use Rattle.stream_driver.specs.Buffers.{GivesSome, TakesSome, WhyGave, WhyGaveSome, WhyTook, WhyTookSome};
@@ -160,7 +160,7 @@ impl<S: Stream> BufferedStream<S> {
     fn write_buffered<D: Sectors>(&mut self, device: &D) -> WriteAnswer
         requires { buffered_in self.old.buffered ≢ [] }
         ensures wrote { WritesBuffered S.reports S.traffic (D.moment device.now) self.old result self.new }
-        ensures short { S.came_short self.old.inner → S.came_short self.new.inner }
+        ensures short { S.came_short self.old.inner ↔ S.came_short self.new.inner }
     {
         let answer = self.inner.write(device, self.buffered.as_slice());
         match answer {
@@ -178,7 +178,7 @@ impl<S: Stream> BufferedStream<S> {
     pub fn flush<D: Sectors>(&mut self, device: &D) -> Flushed
         ensures flushed { Flushes S.reports S.traffic (D.moment device.now) self.old result self.new }
         ensures some { result ≡ Flushed.Blocked → buffered_in self.new.buffered ≢ [] }
-        ensures short { S.came_short self.old.inner → S.came_short self.new.inner }
+        ensures short { S.came_short self.old.inner ↔ S.came_short self.new.inner }
     {
         while !self.buffered.is_empty() {
             match self.write_buffered(device) {
@@ -204,7 +204,7 @@ impl<S: Stream> BufferedStream<S> {
         ensures kept { KeepsBytes S.reports S.traffic (D.moment device.now) self.old self.new }
         ensures why { WhyRoom S.traffic self.old result self.new }
         ensures failed { RoomFails self.old result self.new }
-        ensures short { S.came_short self.old.inner → S.came_short self.new.inner }
+        ensures short { S.came_short self.old.inner ↔ S.came_short self.new.inner }
     {
         if self.buffered.room() > 0 {
             return Flushed::All;
@@ -217,7 +217,7 @@ impl<S: Stream> BufferedStream<S> {
         requires { from.now ≢ [] }
         ensures takes { TakesSome S.reports S.traffic (D.moment device.now) self.old from.now result self.new }
         ensures why { WhyTookSome S.traffic self.old result self.new }
-        ensures short { S.came_short self.old.inner → S.came_short self.new.inner }
+        ensures short { S.came_short self.old.inner ↔ S.came_short self.new.inner }
     {
         match self.make_room(device) {
             Flushed::All => {}
@@ -236,7 +236,7 @@ impl<S: Stream> BufferedStream<S> {
         ensures takes { TakesSome S.reports S.traffic (D.moment device.now) self.old from.now result self.new }
         ensures why { WhyTook S.traffic self.old result self.new }
         ensures share { bytes_written result ≤ self.old.share }
-        ensures short { S.came_short self.old.inner → S.came_short self.new.inner }
+        ensures short { S.came_short self.old.inner ↔ S.came_short self.new.inner }
     {
         let most = from.len().min(self.share);
         if most == 0 {
@@ -288,19 +288,17 @@ impl<S: Stream> BufferedStream<S> {
 }
 
 impl<S: Stream> Stream for BufferedStream<S> {
-    ghost use Rattle.std.specs.Prelude.{◌≡◌, ◌<◌, ◌++◌, length, take};
-    ghost use Rattle.stream_driver.specs.Traffic.{ReadsWithin, WritesWithin, bytes_read, bytes_written, CountsLast};
-    ghost use Rattle.stream_driver.specs.Buffers.{AfterRead, AfterWrite, GivesMore, LeavesAt, TakesAtMost, TakesMore};
-    ghost use Rattle.stream_driver.specs.Buffers.{share_ended, traffic_through};
+    ghost use Rattle.std.specs.Prelude.{◌≡◌, ◌<◌, length, take};
+    ghost use Rattle.stream_driver.specs.Traffic.{CountsLast, IsEnded, ReadsBytes, ReadsWithin, WritesBytes};
+    ghost use Rattle.stream_driver.specs.Traffic.{WritesWithin, bytes_read, bytes_written};
+    ghost use Rattle.stream_driver.specs.Buffers.{AfterRead, AfterWrite, share_ended, share_of, traffic_through};
     ghost use Rattle.stream_driver.specs.Waits.{IsSound, ReadStays, SaysWhyBlocked, WriteStays};
 
     ghost reports = { S.reports };
 
-    ghost takes_at_most = { TakesAtMost };
-
     ghost keeps_share = { Unit {0} };
 
-    ghost has_ended_share = { λ b. b.appended };
+    ghost share = { share_of };
 
     ghost came_short = { λ b. S.came_short b.inner };
 
@@ -313,9 +311,8 @@ impl<S: Stream> Stream for BufferedStream<S> {
     fn read<D: Sectors>(&mut self, device: &D, into: &mut [u8]) -> ReadAnswer
         requires { 0 < length into.old }
         ensures within { ReadsWithin result (length into.old) }
-        ensures received { S.reports → GivesMore S.traffic self.old (take (bytes_read result) into.new) self.new }
-        ensures sent { S.reports → (traffic_through S.traffic self.new).sent ≡ (traffic_through S.traffic self.old).sent }
-        ensures departed { S.reports → LeavesAt (D.moment device.now) S.traffic self.old self.new }
+        ensures moved { S.reports → ReadsBytes (D.moment device.now) (traffic_through S.traffic self.old)
+            (take (bytes_read result) into.new) (traffic_through S.traffic self.new) }
         ensures answered { CountsLast (Call.Read result) (traffic_through S.traffic self.old) (traffic_through S.traffic self.new) }
         ensures buffer { AfterRead S.traffic self.old (length into.old) result self.new }
         ensures stays { ReadStays (λ b. S.came_short b.inner) (IsSound S.came_short) (SaysWhyBlocked S.came_short S.traffic) self.old
@@ -329,9 +326,8 @@ impl<S: Stream> Stream for BufferedStream<S> {
     fn write<D: Sectors>(&mut self, device: &D, from: &[u8]) -> WriteAnswer
         requires { 0 < length from.now }
         ensures within { WritesWithin result (length from.now) }
-        ensures received { S.reports → (traffic_through S.traffic self.new).received ≡ (traffic_through S.traffic self.old).received }
-        ensures sent { S.reports → TakesMore S.traffic self.old (take (bytes_written result) from.now) self.new }
-        ensures departed { S.reports → LeavesAt (D.moment device.now) S.traffic self.old self.new }
+        ensures moved { S.reports → WritesBytes (D.moment device.now) (traffic_through S.traffic self.old)
+            (take (bytes_written result) from.now) (traffic_through S.traffic self.new) }
         ensures answered { CountsLast (Call.Write result) (traffic_through S.traffic self.old) (traffic_through S.traffic self.new) }
         ensures buffer { AfterWrite S.traffic self.old result self.new }
         ensures stays { WriteStays (λ b. S.came_short b.inner) (IsSound S.came_short) (SaysWhyBlocked S.came_short S.traffic)
@@ -348,7 +344,7 @@ impl<S: Stream> Stream for BufferedStream<S> {
     }
 
     fn end_share(&mut self, reply: usize)
-        ensures ended { TakesAtMost reply self.new }
+        ensures ended { IsEnded reply (share_of self.new) }
         ensures traffic { traffic_through S.traffic self.new ≡ traffic_through S.traffic self.old }
         ensures share { self.new ≡ share_ended reply self.old }
     {

@@ -6,7 +6,7 @@ ghost use Rattle.stream_driver.specs.Appends.{AppendsOnce, KeepsShare, ServesOnc
 ghost use Rattle.stream_driver.specs.Sends.{LeadsAs};
 ghost use Rattle.stream_driver.specs.Drives.{Drove, Departs};
 ghost use Rattle.stream_driver.specs.Calls.{ReadsInTurn, WritesSome, Flushes, Exchanges};
-ghost use Rattle.stream_driver.specs.Traffic.{ReadsWithin, WritesWithin};
+ghost use Rattle.stream_driver.specs.Traffic.{IsEnded, ReadsWithin, WritesWithin};
 ghost use Rattle.stream_driver.specs.Waits.{StaysSound};
 
 use crate::answers::{Progress, ReadAnswer, WriteAnswer};
@@ -45,7 +45,7 @@ fn write_some<D: Sectors, S: Stream>(hub: &mut Hub<D>, s: u64, stream: &mut S) -
     requires some { 0 < length (pending_of hub.old s) }
     ensures within { WritesWithin result (length (pending_of hub.old s)) }
     ensures written { LeadsAs s S.reports WritesSome result hub.old (S.traffic stream.old) hub.new (S.traffic stream.new) }
-    ensures spends { Stands hub.old → SpendsShare S.keeps_share S.takes_at_most S.has_ended_share s hub.old stream.old hub.new stream.new }
+    ensures spends { Stands hub.old → SpendsShare S.keeps_share S.reports S.traffic S.share s hub.old stream.old hub.new stream.new }
     ensures stays { StaysSound S.is_sound S.waits (result ≡ WriteAnswer.Blocked) stream.old stream.new }
 {
     hub.law_runs_follow();
@@ -66,7 +66,7 @@ fn write_out<D: Sectors, S: Stream>(
     requires present { IsPresent hub.old s }
     requires pending { pending ≡ length (pending_of hub.old s) }
     ensures written { LeadsAs s S.reports Flushes result hub.old (S.traffic stream.old) hub.new (S.traffic stream.new) }
-    ensures spends { SpendsShare S.keeps_share S.takes_at_most S.has_ended_share s hub.old stream.old hub.new stream.new }
+    ensures spends { SpendsShare S.keeps_share S.reports S.traffic S.share s hub.old stream.old hub.new stream.new }
     ensures stays { StaysSound S.is_sound S.waits (result ≡ OutputState.Blocked) stream.old stream.new }
 {
     hub.law_runs_follow();
@@ -92,7 +92,7 @@ fn read_some<D: Sectors, S: Stream>(
     requires { 0 < room }
     ensures within { ReadsWithin result room }
     ensures read { LeadsAs s S.reports (ReadsInTurn room) result hub.old (S.traffic stream.old) hub.new (S.traffic stream.new) }
-    ensures keeps { Stands hub.old → KeepsShare S.keeps_share S.takes_at_most S.has_ended_share s hub.old stream.old hub.new stream.new }
+    ensures keeps { Stands hub.old → KeepsShare S.keeps_share S.reports S.traffic S.share s hub.old stream.old hub.new stream.new }
     ensures stays { StaysSound S.is_sound S.waits (result ≡ ReadAnswer.Blocked) stream.old stream.new }
 {
     hub.law_runs_follow();
@@ -116,7 +116,7 @@ fn serve_one<D: Sectors, S: Stream>(
     requires opened { status_of hub.old s ≡ Status.Open }
     requires nothing { pending_of hub.old s ≡ [] }
     ensures served { LeadsAs s S.reports Exchanges result hub.old (S.traffic stream.old) hub.new (S.traffic stream.new) }
-    ensures once { ServesOnce S.keeps_share S.takes_at_most S.has_ended_share s hub.old stream.old result hub.new stream.new }
+    ensures once { ServesOnce S.keeps_share S.reports S.traffic S.share s hub.old stream.old result hub.new stream.new }
     ensures stays { StaysSound S.is_sound S.waits (result ≡ Exchange.Blocked) stream.old stream.new }
 {
     hub.law_runs_follow();
@@ -152,9 +152,8 @@ fn serve_in_share<D: Sectors, S: Stream>(
     requires opened { status_of hub.old s ≡ Status.Open }
     requires nothing { pending_of hub.old s ≡ [] }
     ensures served { LeadsAs s S.reports Exchanges result hub.old (S.traffic stream.old) hub.new (S.traffic stream.new) }
-    ensures ended { records_of hub.new ≢ records_of hub.old → S.takes_at_most (length (pending_of hub.new s)) stream.new }
-    ensures ends { S.keeps_share → records_of hub.new ≢ records_of hub.old → S.has_ended_share stream.new ≡ true }
-    ensures once { ServesOnce S.keeps_share S.takes_at_most S.has_ended_share s hub.old stream.old result hub.new stream.new }
+    ensures ended { S.keeps_share → records_of hub.new ≢ records_of hub.old → IsEnded (length (pending_of hub.new s)) (S.share stream.new) }
+    ensures once { ServesOnce S.keeps_share S.reports S.traffic S.share s hub.old stream.old result hub.new stream.new }
     ensures stays { StaysSound S.is_sound S.waits (result ≡ Exchange.Blocked) stream.old stream.new }
 {
     let records = hub.records();
@@ -184,7 +183,7 @@ pub(crate) fn drive_over<D: Sectors, S: Stream>(
 ) -> Progress
     requires { IsPresent hub.old s }
     ensures driven { LeadsAs s S.reports Drove result hub.old (S.traffic stream.old) hub.new (S.traffic stream.new) }
-    ensures appends { S.keeps_share → AppendsOnce S.has_ended_share hub.old stream.old hub.new stream.new }
+    ensures appends { S.keeps_share → AppendsOnce S.reports S.traffic S.share hub.old stream.old hub.new stream.new }
     ensures stays { StaysSound S.is_sound S.waits (result ≡ Progress.Waiting) stream.old stream.new }
 {
     hub.law_runs_follow();
@@ -229,7 +228,8 @@ pub(crate) fn drive_over<D: Sectors, S: Stream>(
 /// is written. Other sessions are unchanged.
 ///
 /// Where a request appends a record to the log, which syncs, the stream's share of the turn is ended with the reply (`Stream::end_share`).
-/// A stream that keeps to that takes no other reply in this drive, so a drive appends one record at most.
+/// A stream that keeps to that takes no other reply in this drive, so a drive appends one record at most. Where it appended none, what is
+/// gone of the share was sent.
 ///
 /// Its events are a run of the hub: lawful at each moment, with the device's failures counted, and what a crash leaves known.
 ///
@@ -242,7 +242,7 @@ pub(crate) fn drive_over<D: Sectors, S: Stream>(
 pub fn drive<D: Sectors, S: Stream>(hub: &mut Hub<D>, s: u64, stream: &mut S) -> Progress
     requires { IsPresent hub.old s }
     ensures driven { LeadsAs s S.reports Drove result hub.old (S.traffic stream.old) hub.new (S.traffic stream.new) }
-    ensures appends { S.keeps_share → AppendsOnce S.has_ended_share hub.old stream.old hub.new stream.new }
+    ensures appends { S.keeps_share → AppendsOnce S.reports S.traffic S.share hub.old stream.old hub.new stream.new }
     ensures stays { StaysSound S.is_sound S.waits (result ≡ Progress.Waiting) stream.old stream.new }
 {
     let mut buffer = [0u8; READ_MAX];

@@ -1,11 +1,11 @@
 //! The table of connections: drives each that is ready once.
 ghost use Rattle.std.specs.Prelude.{◌≡◌, ◌≢◌};
-ghost use Rattle.stream_driver.specs.Appends.{AppendsAtMost, ready_count, count_if_ready};
+ghost use Rattle.stream_driver.specs.Appends.{AppendsAtMost, UsesShare, ready_count, count_if_ready};
 ghost use Rattle.stream_driver.specs.Sessions.{IsPresent};
 ghost use Rattle.stream_driver.specs.Buffers.{has_had_share};
 ghost use Rattle.stream_driver.specs.Entries.{LeadsAll, LeadsEntry, HaveSessions, KeepSessions, EndsDrive, is_over};
 ghost use Rattle.stream_driver.specs.Entries.{state_at_end};
-ghost use Rattle.stream_driver.specs.Waits.{EachWaits, WaitsSince};
+ghost use Rattle.stream_driver.specs.Waits.{EachEntry, WaitsSince};
 
 use crate::answers::Progress;
 use crate::buffered::BufferedStream;
@@ -45,6 +45,7 @@ fn drive_entry<D: Sectors, S: Stream>(
     ensures session { entry.new.session ≡ entry.old.session }
     ensures gone { entry.old.state ≡ EntryState.Gone → entry.new.state ≡ EntryState.Gone }
     ensures appends { S.keeps_share → AppendsAtMost (count_if_ready entry.old.state) hub.old hub.new }
+    ensures shares { S.keeps_share → UsesShare S.reports S.traffic S.share entry.old entry.new }
     ensures waits { WaitsSince S.is_sound S.waits entry.old entry.new }
 {
     hub.law_runs_follow();
@@ -60,7 +61,8 @@ fn drive_entry<D: Sectors, S: Stream>(
 /// Drives each entry that is `Ready` once, by rising key, and leaves the others as they are. After `Waiting` an entry is `Idle`, after
 /// `Again` it stays `Ready`, after `Gone` it is `Gone`.
 ///
-/// Where the streams keep to what they take at most, each of these drives appends one record to the log at most.
+/// Where the streams keep to their shares, each of these drives appends one record to the log at most, and what is gone of a share was
+/// sent, unless the share was ended with the reply to a request that appended a record.
 ///
 /// The session of each entry that isn't `Gone` is present, and no other entry has it. The stream of each that was driven and is `Idle` can
 /// say why its last call blocked.
@@ -72,7 +74,8 @@ pub fn drive_ready<D: Sectors, S: Stream>(hub: &mut Hub<D>, table: &mut Slab<Ent
     ensures sessions { HaveSessions hub.new table.new.slots }
     ensures numbers { KeepSessions table.old.slots table.new.slots }
     ensures appends { S.keeps_share → AppendsAtMost (ready_count table.old.slots) hub.old hub.new }
-    ensures waits { EachWaits S.is_sound S.waits table.old.slots table.new.slots }
+    ensures shares { S.keeps_share → EachEntry (UsesShare S.reports S.traffic S.share) table.old.slots table.new.slots }
+    ensures waits { EachEntry (WaitsSince S.is_sound S.waits) table.old.slots table.new.slots }
 {
     hub.law_runs_follow();
     let mut buffer = [0u8; READ_MAX];

@@ -12,22 +12,19 @@ use sector::Sectors;
 /// Each call is shown the device of the store. It can't be copied or changed by the call, so this is how the device stands as the call is
 /// made: what leaves for the peer in the call leaves at that moment of the device.
 pub trait Stream: Drop {
-    ghost use Rattle.std.specs.Prelude.{◌≡◌, ◌<◌, ◌++◌, ℕ, Bool, true, length, take};
-    ghost use Rattle.stream_driver.specs.Traffic.{Traffic, DepartAt, ReadsWithin, WritesWithin, bytes_read};
-    ghost use Rattle.stream_driver.specs.Traffic.{bytes_written, CountsLast, KeepsTo};
+    ghost use Rattle.std.specs.Prelude.{◌≡◌, ◌<◌, length, take};
+    ghost use Rattle.stream_driver.specs.Traffic.{CountsLast, IsEnded, ReadsBytes, ReadsWithin, Share, TakesOf};
+    ghost use Rattle.stream_driver.specs.Traffic.{Traffic, WritesBytes, WritesWithin, bytes_read, bytes_written};
     ghost use Rattle.stream_driver.specs.Waits.{ReadStays, WriteStays};
 
     /// The bytes of `traffic` are those that the calls moved: said of each call where this holds.
     ghost reports: { Type 0 };
 
-    /// It takes no more than so many bytes until its next drive. A stream that keeps to a share of each turn says what this means for it.
-    ghost takes_at_most: { ℕ → Self → Type 0 };
-
-    /// It keeps to what it takes at most, and to whether its share was ended: said of each call where this holds.
+    /// It keeps to its share of a turn: said of each call where this holds.
     ghost keeps_share: { Type 0 };
 
-    /// Its share of a turn was ended with a reply (`end_share`), and it has kept that since.
-    ghost has_ended_share: { Self → Bool };
+    /// How many bytes are left of that share, and whether it was ended with a reply (`end_share`).
+    ghost share: { Self → Share };
 
     /// The last of its reads that moved bytes gave fewer than it asked for.
     ghost came_short: { Self → Type 0 };
@@ -46,29 +43,26 @@ pub trait Stream: Drop {
     fn read<D: Sectors>(&mut self, device: &D, into: &mut [u8]) -> ReadAnswer
         requires { 0 < length into.old }
         ensures within { ReadsWithin result (length into.old) }
-        ensures received { reports → (traffic self.new).received ≡ (traffic self.old).received ++ take (bytes_read result) into.new }
-        ensures sent { reports → (traffic self.new).sent ≡ (traffic self.old).sent }
-        ensures departed { reports → DepartAt (D.moment device.now) (traffic self.old) (traffic self.new) }
+        ensures moved { reports
+            → ReadsBytes (D.moment device.now) (traffic self.old) (take (bytes_read result) into.new) (traffic self.new) }
         ensures answered { CountsLast (Call.Read result) (traffic self.old) (traffic self.new) }
-        ensures share { keeps_share → KeepsTo takes_at_most has_ended_share self.old 0 self.new }
+        ensures taken { keeps_share → TakesOf (share self.old) 0 (share self.new) }
         ensures stays { ReadStays came_short is_sound waits self.old (length into.old) result self.new };
 
     /// Writes at least one byte from the front of `from`, or answers why none went. Takes no memory that a caller sees.
     fn write<D: Sectors>(&mut self, device: &D, from: &[u8]) -> WriteAnswer
         requires { 0 < length from.now }
         ensures within { WritesWithin result (length from.now) }
-        ensures received { reports → (traffic self.new).received ≡ (traffic self.old).received }
-        ensures sent { reports → (traffic self.new).sent ≡ (traffic self.old).sent ++ take (bytes_written result) from.now }
-        ensures departed { reports → DepartAt (D.moment device.now) (traffic self.old) (traffic self.new) }
+        ensures moved { reports
+            → WritesBytes (D.moment device.now) (traffic self.old) (take (bytes_written result) from.now) (traffic self.new) }
         ensures answered { CountsLast (Call.Write result) (traffic self.old) (traffic self.new) }
-        ensures share { keeps_share → KeepsTo takes_at_most has_ended_share self.old (bytes_written result) self.new }
+        ensures taken { keeps_share → TakesOf (share self.old) (bytes_written result) (share self.new) }
         ensures stays { WriteStays came_short is_sound waits self.old self.new };
 
     /// The drive has appended a record to the log, and a reply of so many bytes reports it: with these bytes the stream's share of the turn
     /// ends, so that others have theirs before this session is served again. It moves no byte. Takes no memory.
     fn end_share(&mut self, reply: usize)
-        ensures ended { takes_at_most reply self.new }
-        ensures ends { keeps_share → has_ended_share self.new ≡ true }
+        ensures ended { keeps_share → IsEnded reply (share self.new) }
         ensures traffic { traffic self.new ≡ traffic self.old }
         ensures sound { is_sound self.old → is_sound self.new }
         ensures waits { waits self.old → waits self.new };

@@ -25,6 +25,8 @@ pub struct Script {
     /// The calls that are left until there is trouble, this one included; 0 where there is none.
     left: u64,
     trouble: Trouble,
+    /// The last of its reads that moved bytes gave fewer than it asked for. Nothing but clauses reads it.
+    came_short: bool,
     counts: CallCounts,
     ghost within: { at ≤ vec_len input },
 }
@@ -39,6 +41,7 @@ impl Script {
             sent,
             left: nth,
             trouble,
+            came_short: false,
             counts: CallCounts::new(),
         }
     }
@@ -70,18 +73,16 @@ impl Script {
 }
 
 impl Stream for Script {
-    ghost use Rattle.std.specs.Prelude.{take, false, []};
+    ghost use Rattle.std.specs.Prelude.{◌≡◌, take, true, false, []};
     ghost use Rattle.stream_driver.specs.Counts.{counted_with};
 
     ghost reports = { Unit {0} };
 
-    ghost takes_at_most = { λ most s. Unit {0} };
-
     ghost keeps_share = { ⊥ };
 
-    ghost has_ended_share = { λ s. false };
+    ghost share = { λ s. record { left = 0; ended = false } };
 
-    ghost came_short = { λ s. Unit {0} };
+    ghost came_short = { λ s. s.came_short ≡ true };
 
     ghost is_sound = { λ s. Unit {0} };
 
@@ -110,6 +111,7 @@ impl Stream for Script {
         }
         into[..n].copy_from_slice(&self.input[self.at..self.at + n]);
         self.at += n;
+        self.came_short = n < into.len();
         self.counts.note_read(ReadAnswer::Moved(n));
         ReadAnswer::Moved(n)
     }

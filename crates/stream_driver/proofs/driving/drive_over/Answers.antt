@@ -1,7 +1,8 @@
 use Rattle.stream_driver.proofs.driving.drive_over.Goals as goal
 use Rattle.std.proofs.Common.{inl, inr, arith, refl, sym, ◌∙◌}
 use Rattle.sessions.proofs.EventSteps.{status_seen}
-use Rattle.stream_driver.proofs.Appends.{AddedNone, once_then, out, pending_none, served, served_once, spent}
+use Rattle.stream_driver.proofs.Appends.{AddedNone, once_then, out, pending_none, served, served_once, spends_zero}
+use Rattle.stream_driver.proofs.Appends.{spent}
 use Rattle.stream_driver.proofs.Loops.{again, driven_none, flushes_out, gone_closed, gone_serving, gone_writing}
 use Rattle.stream_driver.proofs.Loops.{leaves, out_broke, out_served, waits_to_read, waits_to_write}
 use Rattle.stream_driver.proofs.Sends.{reports_still, reports_three, reports_two_at}
@@ -12,7 +13,7 @@ pub requests-init : goal.requests-init
 requests-init g c =
     let was_answered = reports_still (leads_none c.args.hub.now c.law_runs_follow.ensures.none _
     (λ h stands. driven_none (present_in c.args.s stands.state c.requires.1))) in
-    record { was_answered = was_answered; adds = λ keeps. AddedNone refl refl; sound = λ sound. sound }
+    record { was_answered = was_answered; adds = λ keeps. AddedNone refl (0, spends_zero c.args.stream.now); sound = λ sound. sound }
 
 pub write_out-requires-clause-present : goal.write_out-requires-clause-present
 write_out-requires-clause-present g c =
@@ -70,7 +71,7 @@ returns-in-Blocked-serve_in_share g c =
           (λ h l m was stands p r. waits_to_read p (omega arith) r);
       appends = λ keeps. served_once keeps
           (out keeps (c.requests.invariant.adds keeps) c.in-Empty.ensures.spends (pending_none some c.in-Empty.ensures.written))
-          c.in-Blocked-serve_in_share.ensures.once (c.in-Blocked-serve_in_share.ensures.ends keeps);
+          c.in-Blocked-serve_in_share.ensures.once (c.in-Blocked-serve_in_share.ensures.ended keeps);
       stays = stays_last g.S.Stream.is_sound g.S.Stream.waits _ c.write_out.new.stream _
           (λ sound. c.in-Empty.ensures.stays.sound (c.requests.invariant.sound sound)) c.in-Blocked-serve_in_share.ensures.stays
           (λ waiting. refl);
@@ -91,7 +92,7 @@ returns-in_default-serve_in_share g c =
           c.in_default-serve_in_share.not-Blocked r t));
       appends = λ keeps. once_then
           (served_once keeps (out keeps (c.requests.invariant.adds keeps) c.in-Empty.ensures.spends (pending_none some c.in-Empty.ensures.written))
-          c.serve_in_share.ensures.once (c.serve_in_share.ensures.ends keeps))
+          c.serve_in_share.ensures.once (c.serve_in_share.ensures.ended keeps))
           (c.depart-in_default-serve_in_share.ensures.records (stands_after (stands_after some c.in-Empty.ensures.written.leads)
           c.serve_in_share.ensures.served.leads));
       stays = stays_still g.S.Stream.is_sound g.S.Stream.waits _ c.serve_in_share.new.stream _
@@ -161,15 +162,15 @@ requests-preserved g c =
       | inl e ↦ record {
         was_answered = reports_two_at c.law_runs_follow.ensures.follow flushed (rw e at c.serve_in_share.ensures.served) (λ h l p. p.0.driven.carried)
             (λ h l m stands last p r. out_served p (sym (c.in-Open.ensures ∙ status_seen _ _ stands c.args.s)) r);
-        adds = λ keeps. served keeps (ready keeps) (rw e at c.serve_in_share.ensures.once) c.serve_in_share.ensures.ended
-            (c.serve_in_share.ensures.ends keeps) (rw e at c.serve_in_share.ensures.once).replied;
+        adds = λ keeps. served keeps (ready keeps) (rw e at c.serve_in_share.ensures.once) (c.serve_in_share.ensures.ended keeps)
+            (rw e at c.serve_in_share.ensures.once).replied;
         sound = λ sound. c.serve_in_share.ensures.stays.sound (c.in-Empty.ensures.stays.sound (c.requests.invariant.sound sound));
       }
       | inr e ↦ record {
         was_answered = reports_two_at c.law_runs_follow.ensures.follow flushed (rw e at c.serve_in_share.ensures.served) (λ h l p. p.0.driven.carried)
             (λ h l m stands last p r. out_broke p r);
-        adds = λ keeps. served keeps (ready keeps) (rw e at c.serve_in_share.ensures.once) c.serve_in_share.ensures.ended
-            (c.serve_in_share.ensures.ends keeps) (rw e at c.serve_in_share.ensures.once).replied;
+        adds = λ keeps. served keeps (ready keeps) (rw e at c.serve_in_share.ensures.once) (c.serve_in_share.ensures.ended keeps)
+            (rw e at c.serve_in_share.ensures.once).replied;
         sound = λ sound. c.serve_in_share.ensures.stays.sound (c.in-Empty.ensures.stays.sound (c.requests.invariant.sound sound));
       }
     ]

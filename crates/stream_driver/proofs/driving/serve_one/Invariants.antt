@@ -8,7 +8,7 @@ invariant-loop-hub g l =
     record {
       was_answered : LeadsAnswering l.fn.s g.S.Stream.reports l.fn.hub (g.S.Stream.traffic l.fn.stream) l.hub (g.S.Stream.traffic l.stream)
           (λ h k. ReadSoFar l.fn.s g.S.Stream.reports h (g.S.Stream.traffic l.fn.stream) k (g.S.Stream.traffic l.stream) l.room);
-      keeps : KeepsShare g.S.Stream.keeps_share g.S.Stream.takes_at_most g.S.Stream.has_ended_share l.fn.s l.fn.hub l.fn.stream l.hub l.stream;
+      keeps : KeepsShare g.S.Stream.keeps_share g.S.Stream.reports g.S.Stream.traffic g.S.Stream.share l.fn.s l.fn.hub l.fn.stream l.hub l.stream;
       sound : g.S.Stream.is_sound l.fn.stream → g.S.Stream.is_sound l.stream;
     }
 

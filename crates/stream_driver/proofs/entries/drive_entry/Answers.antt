@@ -1,5 +1,5 @@
 use Rattle.stream_driver.proofs.entries.drive_entry.Goals as goal
-use Rattle.std.proofs.Common.{◌≡◌, sym, ap, ◌∙◌}
+use Rattle.std.proofs.Common.{◌≡◌, inl, inr, sym, ap, ◌∙◌}
 use Rattle.stream_driver.proofs.Appends.{at_most_none, at_most_one}
 use Rattle.stream_driver.proofs.Sends.{reports_map}
 use Rattle.stream_driver.proofs.Turns.{driven_once, left_alone}
@@ -24,6 +24,12 @@ returns-after-drive_over-clause-appends g c keeps = at_most_one c.in-Ready.is (c
 
 pub returns-in_default-clause-appends : goal.returns-in_default-clause-appends
 returns-in_default-clause-appends g c keeps = at_most_none c.args.hub.now _
+
+pub returns-after-drive_over-clause-shares : goal.returns-after-drive_over-clause-shares
+returns-after-drive_over-clause-shares g c keeps ready = elim (c.drive_over.ensures.appends keeps) [
+  | inl same ↦ inl same.1
+  | inr one ↦ inr one.1
+]
 
 pub returns-after-drive_over-clause-waits : goal.returns-after-drive_over-clause-waits
 returns-after-drive_over-clause-waits g c ready idle sound =

@@ -18,4 +18,4 @@ pub returns-in-Ok-clause-place : goal.returns-in-Ok-clause-place
 returns-in-Ok-clause-place c = grind (arith, common_steps, c.in-Ok.ensures.put c.reserve.new.self, find-put_itself, on_ok)
 
 pub returns-in-Err-clause-chains : goal.returns-in-Err-clause-chains
-returns-in-Err-clause-chains c = rw c.reserve-in-Err.ensures.entries (roomier-refl (entries c.args.chains.now))
+returns-in-Err-clause-chains c = rw c.reserve-in-Err.ensures.room.roomier.entries (roomier-refl (entries c.args.chains.now))

@@ -24,15 +24,6 @@ opened_stands : {D : Type 0} {g : Ghosts D} (e : Engine D g) (map : KeyMap) (use
     → e.running.entries ≡ [] → (g.keeps_model → IsStored e.log map) → StandsFor e (opened map used count)
 opened_stands e map used count running taken size h facts none stored = grind (arith, common_steps, reached_opened, both_ways)
 
-pub returns-in-Ok-over-clause-opens : goal.returns-in-Ok-over-clause-opens
-returns-in-Ok-over-clause-opens g c = (
-  c.in-Ok.opened.1,
-  used_sectors c.in-Ok.opened.0,
-  opened_stands _ c.in-Ok.opened.1 _ _ c.in-Ok.ensures.runs.running refl c.in-Ok.ensures.runs.size c.in-Ok-over.ensures.stands c.in-Ok-over.ensures.empty
-      c.new.ensures.empty
-      (λ keeps. let s = c.in-Ok.ensures.stands keeps in record { lists = s.0; stands = s.1; makes = sym s.2 }),
-)
-
 pub returns-in-Ok-over-clause-finds : goal.returns-in-Ok-over-clause-finds
 returns-in-Ok-over-clause-finds g c keeps =
     let finds = c.in-Ok.ensures.finds keeps in
@@ -47,9 +38,6 @@ returns-in-Ok-over-clause-finds g c keeps =
       undamaged = finds.undamaged;
     }
 
-pub returns-in-Ok-over-clause-idle : goal.returns-in-Ok-over-clause-idle
-returns-in-Ok-over-clause-idle g c m h = nil_from_length m.running (AllZip-long _ _ m.running h.running ∙ ap length c.new.ensures.empty)
-
 -- whichever state it stands for, the map that has committed is the one that was opened
 committed_first : {D : Type 0} {g : Ghosts D} (e : Engine D g) (map : KeyMap) (m : State) → HistoryStandsFor e.history (λ _. true) map [] → StandsFor e m
     → map ≡ committed_map m
@@ -58,6 +46,13 @@ committed_first e map m over h =
     let sees = or_right (h.active n) (nat_le e.history.versions.last n) (le-leb e.history.versions.last n h.history.versions.within) in
     sym (over.versions.maps n refl) ∙ h.history.versions.maps n sees
 
-pub returns-in-Ok-over-clause-in_bounds : goal.returns-in-Ok-over-clause-in_bounds
-returns-in-Ok-over-clause-in_bounds g c m h =
-    subst IsInBounds (committed_first _ c.in-Ok.opened.1 m c.in-Ok-over.ensures.stands h) c.over.ensures.in_bounds
+pub returns-in-Ok-over-clause-opens : goal.returns-in-Ok-over-clause-opens
+returns-in-Ok-over-clause-opens g c = record {
+  map = c.in-Ok.opened.1;
+  used = used_sectors c.in-Ok.opened.0;
+  stands = opened_stands _ c.in-Ok.opened.1 _ _ c.in-Ok.ensures.runs.running refl c.in-Ok.ensures.runs.size c.in-Ok-over.ensures.stands
+      c.in-Ok-over.ensures.empty c.new.ensures.empty
+      (λ keeps. let s = c.in-Ok.ensures.stands keeps in record { lists = s.0; stands = s.1; makes = sym s.2 });
+  idle = λ m h. nil_from_length m.running (AllZip-long _ _ m.running h.running ∙ ap length c.new.ensures.empty);
+  in_bounds = λ m h. subst IsInBounds (committed_first _ c.in-Ok.opened.1 m c.in-Ok-over.ensures.stands h) c.over.ensures.in_bounds;
+}

@@ -1,7 +1,7 @@
 use Rattle.event_loop.proofs.server.EventLoop.accept.Goals as goal
 use Rattle.std.proofs.Common.{ap}
 use Rattle.event_loop.proofs.Departing.{accepts_serve, closed_serves}
-use Rattle.event_loop.proofs.Ordering.{each_placed}
+use Rattle.event_loop.proofs.Ordering.{each_placed, new_registered}
 use Rattle.event_loop.proofs.Peers.{accepted_lack, accepted_rested}
 use Rattle.event_loop.specs.Lingerings.{Lingerers}
 
@@ -22,10 +22,10 @@ invariant_of-self-else-eq-clause-serving g c =
     c.accept_some-self.ensures.accepts.became c.args.self.now.serving
 
 pub invariant_of-self-clause-places : goal.invariant_of-self-clause-places
-invariant_of-self-clause-places g c = each_placed c.accept_some-self.ensures.accepts.became.0 c.args.self.now.places
+invariant_of-self-clause-places g c = each_placed c.accept_some-self.ensures.accepts.became.0 new_registered c.args.self.now.places
 
 pub invariant_of-self-else-eq-clause-places : goal.invariant_of-self-else-eq-clause-places
-invariant_of-self-else-eq-clause-places g c = each_placed c.accept_some-self.ensures.accepts.became.0 c.args.self.now.places
+invariant_of-self-else-eq-clause-places g c = each_placed c.accept_some-self.ensures.accepts.became.0 new_registered c.args.self.now.places
 
 pub invariant_of-self-clause-peers : goal.invariant_of-self-clause-peers
 invariant_of-self-clause-peers g c =

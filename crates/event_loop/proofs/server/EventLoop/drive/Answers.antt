@@ -7,7 +7,7 @@ use Rattle.event_loop.proofs.Departing.{drives_serve}
 use Rattle.event_loop.proofs.Entries.{driven_entries, ended_entries, ended_remain, polled_entries, polled_remain}
 use Rattle.event_loop.proofs.Entries.{polled_sessions, remain_numbers, remain_sessions}
 use Rattle.event_loop.proofs.Ordering.{places_after, polled_next, polled_turned, remain_places}
-use Rattle.event_loop.proofs.Peers.{drives_wait, ended_rested, leads_lack}
+use Rattle.event_loop.proofs.Peers.{drives_use, drives_wait, ended_rested, leads_lack}
 use Rattle.event_loop.proofs.Polled.{TakesTurns}
 use Rattle.event_loop.proofs.TableBytes.{drives_bytes}
 use Rattle.event_loop.proofs.Tables.{below_after}
@@ -50,6 +50,8 @@ invariant_of-self g c =
             driven = driven;
             drives = c.drive_ready.ensures.driven;
             appends = c.drive_ready.ensures.appends _;
+            uses = drives_use ghosts.traffic CameShort ghosts.reports old.table.slots ready driven events turns old.rested c.drive_ready.ensures.waits
+                (c.drive_ready.ensures.shares _);
             ended = rw c.device.ensures at ended;
           })
           old.sessions _ _ (rw c.device.ensures at c.end_drives.ensures.left) old.serving;
@@ -84,6 +86,8 @@ returns-clause-drives g c =
         driven = c.drive_ready.new.table.slots;
         drives = c.drive_ready.ensures.driven;
         appends = c.drive_ready.ensures.appends _;
+        uses = drives_use ghosts.traffic CameShort ghosts.reports old.table.slots c.take_turns.new.table.slots c.drive_ready.new.table.slots
+            (items old.poller.events) (λ key. (_, turned key)) old.rested c.drive_ready.ensures.waits (c.drive_ready.ensures.shares _);
         ended = rw c.device.ensures at c.end_drives.ensures.ended;
       },
       rw c.device.ensures at c.end_drives.ensures.left,

@@ -2,6 +2,7 @@ use Rattle.event_loop.proofs.server.EventLoop.turn.Goals as goal
 use Rattle.std.proofs.Common.{◌≡◌, ◌∙◌, sym, ap, subst}
 use Rattle.std.proofs.lemmas.Result.{err_from_is_err_and}
 use Rattle.mio.specs.Events.{items}
+use Rattle.socket_calls.specs.HappenedCalls.{WasReported}
 use Rattle.event_loop.proofs.Departing.{is_served, turns_serve}
 use Rattle.event_loop.proofs.OneTurn.{turned_by}
 use Rattle.event_loop.proofs.WholeTurns.{accepts_keep, rest_keeps, rest_leads, then_accepts}
@@ -26,10 +27,12 @@ returns-clause-turned g c =
     ap (λ (p : Poller). accepts_now c.args.self.now.backlog (items p.events)) (c.collect_garbage.ensures.poller ∙ c.accept_reported.ensures.poller)
     ∙ ap (λ backlog. accepts_now backlog (items c.drive.new.self.poller.events)) (sym c.drive.ensures.backlog)
     in
+    let same : c.collect_garbage.new.self.poller ≡ c.wait.new.self = c.collect_garbage.ensures.poller ∙ c.accept_reported.ensures.poller
+    ∙ c.drive.ensures.poller in
     turned_by ghosts.reports ghosts.traffic c.args.self.now _ c.accept_reported.new.self c.collect_garbage.new.self (c.collect_garbage.ensures.turns
     ∙ c.accept_reported.ensures.turns) c.drive.ensures.next c.drive.ensures.port c.drive.ensures.backlog
-    c.drive.ensures.refused c.accept_reported.ensures.lingerers c.collect_garbage.ensures.collects c.wait.new.self (c.collect_garbage.ensures.poller
-    ∙ c.accept_reported.ensures.poller ∙ c.drive.ensures.poller) _ due
+    c.drive.ensures.refused c.accept_reported.ensures.lingerers c.collect_garbage.ensures.collects
+    (subst (λ (p : Poller). WasReported c.args.self.now.poller.poll (items p.events)) (sym same) c.in_ok-wait.ensures.reported) c.wait.new.self same _ due
     c.is_reported-comes_more.result (c.is_reported-comes_more.ensures
     ∙ ap (λ (p : Poller). is_reported_of LINGERER (items p.events)) c.drive.ensures.poller) c.drive.ensures.drives.0
     (record { begun = lingers_in c.drive.new.self.lingering; left = c.drive.ensures.drives.1; turned = rw c.device.ensures at c.turn.ensures })

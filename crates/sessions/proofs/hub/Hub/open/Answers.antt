@@ -10,7 +10,7 @@ use Rattle.sessions.specs.StandsFor.{StandsFor}
 pub returns-in-Ok-clause-begins : goal.returns-in-Ok-clause-begins
 returns-in-Ok-clause-begins g c =
     let o = c.in-Ok.ensures.opens in
-    (o.0, record { used = o.1; stands = c.new.ensures.stands _ o.2 }, c.in-Ok.ensures.in_bounds _ o.2)
+    (o.map, record { used = o.used; stands = c.new.ensures.stands _ o.stands }, o.in_bounds _ o.stands)
 
 pub returns-in-Ok-clause-opens : goal.returns-in-Ok-clause-opens
 returns-in-Ok-clause-opens g c keeps = record {

@@ -1,16 +1,17 @@
 use Rattle.stream_driver.proofs.buffered.BufferedStream.flush.Goals as goal
 use Rattle.std.proofs.Common.{rules, ◌≢◌, [], sym, ◌∙◌}
 use Rattle.stream_driver.proofs.Buffering.{flushed_blocked, flushed_failed, flushed_more, flushed_none}
+use Rattle.stream_driver.proofs.Waiting.{short_then}
 use Rattle.stream_driver.specs.Buffers.{buffered_in}
 
 pub loop-self-init : goal.loop-self-init
-loop-self-init g c = record { so_far = flushed_none c.args.self.now; short = λ short. short }
+loop-self-init g c = record { so_far = flushed_none c.args.self.now; short = (λ short. short, λ short. short) }
 
 pub loop-self-preserved : goal.loop-self-preserved
 loop-self-preserved g c =
     record {
       so_far = flushed_more c.loop-self.invariant.so_far c.in-Moved.ensures.wrote;
-      short = λ short. c.in-Moved.ensures.short (c.loop-self.invariant.short short);
+      short = short_then c.loop-self.invariant.short c.in-Moved.ensures.short;
     }
 
 pub returns-in-Blocked : goal.returns-in-Blocked
@@ -19,7 +20,7 @@ returns-in-Blocked g c =
     record {
       flushed = flushed_blocked c.loop-self.invariant.so_far c.in-Blocked.ensures.wrote;
       some = λ blocked none. some (sym c.in-Blocked.ensures.wrote.why.0 ∙ none);
-      short = λ short. c.in-Blocked.ensures.short (c.loop-self.invariant.short short);
+      short = short_then c.loop-self.invariant.short c.in-Blocked.ensures.short;
     }
 
 pub returns-in-Failed : goal.returns-in-Failed
@@ -28,5 +29,5 @@ returns-in-Failed g c =
     record {
       flushed = flushed_failed c.loop-self.invariant.so_far some c.in-Failed.ensures.wrote;
       some = λ blocked none. some (sym c.in-Failed.ensures.wrote.why.0 ∙ none);
-      short = λ short. c.in-Failed.ensures.short (c.loop-self.invariant.short short);
+      short = short_then c.loop-self.invariant.short c.in-Failed.ensures.short;
     }

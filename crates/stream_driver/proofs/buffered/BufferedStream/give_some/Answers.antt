@@ -14,13 +14,14 @@ returns-after-n-into g c =
     ] in
     record {
       gives = gives_some c.if-n-into.self _ c.in-All.ensures.flushed
-          c.in-Moved.ensures.within c.in-Moved.ensures.received c.in-Moved.ensures.sent c.in-Moved.ensures.departed
+          c.in-Moved.ensures.within (λ r. (c.in-Moved.ensures.moved r).received) (λ r. (c.in-Moved.ensures.moved r).sent)
+          (λ r. (c.in-Moved.ensures.moved r).departed)
           (short_moved c.in-Moved.n (length c.args.into.now) c.args.self.now.reads_on c.flush.new.self.reads_on c.if-n-into.self
           c.in-All.ensures.flushed.kept.reads_on
           how);
       sound = record {
         short = c.in-Moved.ensures.stays.short;
-        sound = λ sound. sound_moved g.S.Stream.came_short c.args.self.now _ c.in-Moved.n (length c.args.into.now) c.in-Moved.ensures.stays.short
+        sound = λ sound. sound_moved g.S.Stream.came_short c.args.self.now _ c.in-Moved.n (length c.args.into.now) c.in-Moved.ensures.stays.short.0
             (short_moved c.in-Moved.n (length c.args.into.now) c.args.self.now.reads_on c.flush.new.self.reads_on c.if-n-into.self
             c.in-All.ensures.flushed.kept.reads_on
             how) c.if-self.false c.in-All.ensures.flushed.kept.reads_on;
@@ -32,7 +33,8 @@ returns-after-n-into g c =
 pub returns-in_default : goal.returns-in_default
 returns-in_default g c = record {
   gives = gives_some c.flush.new.self.is_short c.read-answer.result c.in-All.ensures.flushed
-      c.read-answer.ensures.within c.read-answer.ensures.received c.read-answer.ensures.sent c.read-answer.ensures.departed
+      c.read-answer.ensures.within (λ r. (c.read-answer.ensures.moved r).received) (λ r. (c.read-answer.ensures.moved r).sent)
+      (λ r. (c.read-answer.ensures.moved r).departed)
       (short_still c.args.self.now _ _ c.read-answer.result c.in_default.not-Moved c.in-All.ensures.flushed.kept.short);
   sound = (
       let since = comes_since g.S.Stream.came_short c.args.self.now c.flush.new.self (record c.flush.new.self { inner = c.read-answer.new.self })
@@ -41,8 +43,8 @@ returns-in_default g c = record {
       record {
         short = since;
         sound = sound_kept g.S.Stream.came_short c.args.self.now _
-            (λ was. comes_not g.S.Stream.came_short c.flush.new.self.inner c.read-answer.new.self (length c.args.into.now) c.read-answer.result
-            c.in_default.not-Moved c.read-answer.ensures.stays.short (c.in-All.ensures.short was)) c.in-All.ensures.flushed.kept.short
+            (λ was. (comes_not g.S.Stream.came_short c.flush.new.self.inner c.read-answer.new.self (length c.args.into.now) c.read-answer.result
+            c.in_default.not-Moved c.read-answer.ensures.stays.short).0 (c.in-All.ensures.short.0 was)) c.in-All.ensures.flushed.kept.short
             c.in-All.ensures.flushed.kept.drained c.in-All.ensures.flushed.kept.reads_on;
         why = λ sound. why_read g.S.Stream.came_short g.S.Stream.traffic _ c.read-answer.result c.in-All.ensures.flushed.why.0 c.read-answer.ensures.answered.1;
       }

@@ -18,7 +18,7 @@ returns-then-most-eq0 g c =
       takes = took_none c.args.self.now c.args.from.now;
       why = inl (record { none_left = none_left; inner_is = refl; buffered_is = refl }, refl);
       share = omega arith;
-      short = λ short. short;
+      short = (λ short. short, λ short. short);
     }
 
 pub returns : goal.returns

@@ -4,16 +4,19 @@ use Rattle.stream_driver.proofs.Buffering.{kept_buffered, wrote_buffered}
 
 pub returns-in-Moved-clause-wrote : goal.returns-in-Moved-clause-wrote
 returns-in-Moved-clause-wrote g c =
-    wrote_buffered c.in-Moved.ensures.received c.in-Moved.ensures.departed c.leave.new.self c.in-Moved.ensures.answered.0 c.as_slice.ensures
+    let moved = c.in-Moved.ensures.moved in
+    wrote_buffered (λ r. (moved r).received) (λ r. (moved r).departed) c.leave.new.self c.in-Moved.ensures.answered.0 c.as_slice.ensures
     c.in-Moved.ensures.within
-    c.leave.ensures.bytes c.in-Moved.ensures.sent
+    c.leave.ensures.bytes (λ r. (moved r).sent)
 
 pub returns-in-Blocked-clause-wrote : goal.returns-in-Blocked-clause-wrote
 returns-in-Blocked-clause-wrote g c =
-    let kept = kept_buffered c.in-Blocked.ensures.received c.in-Blocked.ensures.departed c.args.self.now.has_failed c.in-Blocked.ensures.sent in
+    let moved = c.in-Blocked.ensures.moved in
+    let kept = kept_buffered (λ r. (moved r).received) (λ r. (moved r).departed) c.args.self.now.has_failed (λ r. (moved r).sent) in
     rw c.in-Blocked.is (record { kept = kept; why = (refl, c.in-Blocked.ensures.answered, refl) })
 
 pub returns-in-Failed-clause-wrote : goal.returns-in-Failed-clause-wrote
 returns-in-Failed-clause-wrote g c =
-    let kept = kept_buffered c.in-Failed.ensures.received c.in-Failed.ensures.departed true c.in-Failed.ensures.sent in
+    let moved = c.in-Failed.ensures.moved in
+    let kept = kept_buffered (λ r. (moved r).received) (λ r. (moved r).departed) true (λ r. (moved r).sent) in
     rw c.in-Failed.is (record { kept = kept; why = (refl, c.in-Failed.ensures.answered, refl) })

@@ -1,5 +1,5 @@
 use Rattle.stream_driver.proofs.buffered.BufferedStreamStream.write.Goals as goal
-use Rattle.std.proofs.Common.{◌≡◌, ◌⊎◌, inl, inr, true, [], ◌∙◌, ap, refl, subst, sym, arith}
+use Rattle.std.proofs.Common.{◌≡◌, ◌⊎◌, ◌↔◌, inl, inr, true, [], ◌∙◌, ap, refl, subst, sym, arith}
 use Rattle.std.proofs.lemmas.List.{append-nil}
 use Rattle.std.proofs.lemmas.Grind.{common_steps}
 use Rattle.stream_driver.proofs.Buffering.{departed_and_sent, took_same}
@@ -10,13 +10,22 @@ use Rattle.stream_driver.specs.Counts.{Notes}
 use Rattle.stream_driver.specs.declared.answers.Call.TheVariants.{Write}
 use Rattle.stream_driver.specs.declared.answers.WriteAnswer.TheVariants.{Blocked as WriteBlocked}
 
-pub returns-clause-departed : goal.returns-clause-departed
-returns-clause-departed g c = λ t.
+pub returns-clause-moved : goal.returns-clause-moved
+returns-clause-moved g c = λ t.
     let inner : c.match-answer.self.inner ≡ c.take_in_share-answer.new.self.inner =
     elim c.match-answer.branch [ in-Moved w ↦ ap (λ b. b.inner) w.self-is | in_default w ↦ ap (λ b. b.inner) w.self-is ] in
     let buffered : c.match-answer.self.buffered ≡ c.take_in_share-answer.new.self.buffered =
     elim c.match-answer.branch [ in-Moved w ↦ ap (λ b. b.buffered) w.self-is | in_default w ↦ ap (λ b. b.buffered) w.self-is ] in
-    rw (inner, buffered) (departed_and_sent [] refl (sym (append-nil _)) (c.take_in_share-answer.ensures.takes.departed t))
+    let is : c.match-answer.answer ≡ c.take_in_share-answer.result = elim c.match-answer.branch [
+      | in-Moved w ↦ w.answer-is ∙ sym w.in-Moved.is
+      | in_default w ↦ w.answer-is
+    ] in
+    let takes = c.take_in_share-answer.ensures.takes in
+    rw (inner, buffered, is) (record {
+      received = takes.received t;
+      sent = takes.sent t;
+      departed = departed_and_sent [] refl (sym (append-nil _)) (takes.departed t);
+    })
 
 pub returns-clause-answered : goal.returns-clause-answered
 returns-clause-answered g c =
@@ -56,10 +65,12 @@ returns-clause-stays g c =
       | in-Moved w ↦ absurd (grind (arith, common_steps))
       | in_default w ↦ ap (λ b. b.share) w.self-is ∙ takes.turn.share
     ] in
-    let short = λ (was : g.S.Stream.came_short c.args.self.now.inner). subst g.S.Stream.came_short (sym inner) (c.take_in_share-answer.ensures.short was) in
+    let kept = c.take_in_share-answer.ensures.short in
+    let short : g.S.Stream.came_short c.args.self.now.inner ↔ g.S.Stream.came_short c.match-answer.self.inner =
+    (λ was. subst g.S.Stream.came_short (sym inner) (kept.0 was), λ is. kept.1 (subst g.S.Stream.came_short inner is)) in
     record {
       short = short;
-      sound = sound_drained g.S.Stream.came_short c.args.self.now _ short (shorter ∙ takes.short) drained (on ∙ takes.reads_on);
+      sound = sound_drained g.S.Stream.came_short c.args.self.now _ short.0 (shorter ∙ takes.short) drained (on ∙ takes.reads_on);
       why = λ was. waits_as g.S.Stream.came_short g.S.Stream.traffic _ (Write c.match-answer.answer) (c.note_write.ensures [] [] [] [] [] [] 0 0 refl).1
           (why_wrote g.S.Stream.came_short g.S.Stream.traffic c.args.self.now taken _ c.match-answer.answer
           (subst (λ a. WhyTook g.S.Stream.traffic c.args.self.now a taken) (sym is) c.take_in_share-answer.ensures.why) share inner);

@@ -6,12 +6,18 @@ use Rattle.stream_driver.specs.declared.answers.Call.TheVariants.{Read}
 use Rattle.stream_driver.specs.declared.answers.ReadAnswer.TheVariants.{Moved, Blocked, Failed, Ended}
 use Rattle.test_hubs.proofs.Copies.{copied_more}
 
-pub returns-clause-received : goal.returns-clause-received
-returns-clause-received g c = λ _.
+pub returns-clause-moved : goal.returns-clause-moved
+returns-clause-moved g c = λ _.
     let fits : c.next_trouble.new.self.at + c.min-n.result ≤ length c.next_trouble.new.self.input.items = grind (arith, common_steps) in
-    copied_more c.next_trouble.new.self.input.items c.next_trouble.new.self.at c.min-n.result c.copy_from_slice.new.self (drop c.min-n.result c.args.into.now)
-    c.deref.result.now c.deref.ensures.value fits c.copy_from_slice.ensures.after
-    ∙ ap (λ s. take s.at s.input.items ++ take c.min-n.result (c.copy_from_slice.new.self ++ drop c.min-n.result c.args.into.now)) c.next_trouble.ensures
+    record {
+      received =
+          copied_more c.next_trouble.new.self.input.items c.next_trouble.new.self.at c.min-n.result c.copy_from_slice.new.self
+          (drop c.min-n.result c.args.into.now) c.deref.result.now c.deref.ensures.value fits c.copy_from_slice.ensures.after
+          ∙ ap (λ s. take s.at s.input.items ++ take c.min-n.result (c.copy_from_slice.new.self ++ drop c.min-n.result c.args.into.now))
+          c.next_trouble.ensures;
+      sent = ap (λ s. s.sent.items) c.next_trouble.ensures;
+      departed = record { departures = []; departed_are = refl; each = tt };
+    }
 
 pub returns-in-Some-Blocked-clause-answered : goal.returns-in-Some-Blocked-clause-answered
 returns-in-Some-Blocked-clause-answered g c =
