@@ -23,7 +23,7 @@ from ssikvd_harness.frames import frame
 from ssikvd_harness.log_format import SECTOR, Damaged, NotALog, log_of, map_of, read_log
 from ssikvd_harness.server import Server, check, create, folder
 from ssikvd_harness.settings import PATIENCE, PROGRAM, bytes_of, text_of
-from ssikvd_harness.tools import DIST, in_memory, loaded, tool
+from ssikvd_harness.tools import DIST, ENVIRONMENT, in_memory, loaded, tool
 from ssikvd_harness.trials import Recorder, Trial, write_script
 
 SECTORS = 4_096
@@ -217,7 +217,7 @@ def judge_crashes(tool_module, pair, chance):
 
     tool_module.os.pwrite, tool_module.os.fsync = judged(recorder.write, own[0]), judged(recorder.sync, own[1])
     try:
-        tool_module.follow(pair.data, pair.new, pair.state)
+        tool_module.follow(pair.data, pair.new, tool_module.read_state(pair.state))
     finally:
         tool_module.os.pwrite, tool_module.os.fsync = own
     expect(not recorder.unsettled, "what it wrote last is not durable")
@@ -322,6 +322,7 @@ def beside_a_load(tally, script="ssikvd-compact"):
 
 def judge_load(place, script):
     trial = Trial(place, os.path.join(DIST, script) if os.sep not in script else script)
+    environment = {**ENVIRONMENT, "PATH": place + ":" + ENVIRONMENT["PATH"]}    # the place of tools with a fault
     create(trial.data, 262_144)    # at this rate it isn't full in a minute, be the machine as busy as it may
     trial.start()
     try:
@@ -330,7 +331,7 @@ def judge_load(place, script):
             for _ in range(5 if is_long() else 2):
                 wait_for(lambda before=count_of(load): count_of(load) > before + 50, "clients aren't served")
                 words = [trial.script, "--stop", trial.bin + "/stops", "--start", trial.bin + "/starts", trial.data]
-                status, out, err = tool(*words, seconds=6 * PATIENCE)
+                status, out, err = tool(*words, environment=environment, seconds=6 * PATIENCE)
                 expect(status == 0 and "copied while the server ran" in out and not err, f"it ended with {status}: {out}{err}")
         trial.stop()
         judge_kept(load, map_of(log_of(trial.data)))
@@ -363,16 +364,18 @@ def fill(port, keys):
 # Tools with a fault
 
 WRONG = {
-    "a record that is left out": ("            target.append(payload)\n", "            if target.log.records % 3:\n                target.append(payload)\n"),
-    "an index that isn't its own": ("pack(len(payload), log.records)", "pack(len(payload), log.records + 1)"),
-    "a digest without those before it": ("hashlib.sha256(log.digest + numbers[4:] + payload)", "hashlib.sha256(numbers[4:] + payload)"),
+    "a record that is left out": ("            target.append(piece, payloads)\n", "            target.append(piece, payloads[:3])\n"),
+    "an index that isn't its own": ("OPEN_GATE, stop - start, index, digest)", "OPEN_GATE, stop - start, index + 1, digest)"),
+    "a digest without those before it": ("sha256(digest + index.to_bytes", "sha256(index.to_bytes"),
 }
-OTHER_BYTES = ("write(self.file, data, SECTOR", "write(self.file, data[:-1] + b\"\\1\", SECTOR")
+OTHER_BYTES = ("write(self.file, content[SECTOR * closed:size], SECTOR", 'write(self.file, bytes(content[SECTOR * closed:size - 1]) + b"\\1", SECTOR')
 NO_CATCH_UP = '    line=$(ssikvd-follow --once --state "$data.new.state" "$data" "$data.new") || {'
+CHECKED = '    line=$(ssikvd-follow --state "$data.new.state" "$data" "$data.new" --while'
 WRONG_COMPACTIONS = {
-    "a copy that is taken as it is": (NO_CATCH_UP, NO_CATCH_UP.replace('ssikvd-follow --once --state "$data.new.state" "$data"', "ssikvd-used")),
-    "a place that is noted too late": ('    follow\n    "$program" check', '    sleep 0.1\n    rm "$data.new.state"\n'
-                                       '    ssikvd-follow --state "$data.new.state" "$data"\n    follow\n    "$program" check'),
+    "a copy that is taken as it is": ("ssikvd-compact", NO_CATCH_UP, NO_CATCH_UP.replace(
+        'ssikvd-follow --once --state "$data.new.state" "$data"', "ssikvd-used")),
+    "a place that is noted too late": ("ssikvd-compact", CHECKED, (
+        '    sleep 0.1\n    rm "$data.new.state"\n    ssikvd-follow --state "$data.new.state" "$data"\n' + CHECKED)),
 }
 
 
@@ -391,7 +394,10 @@ def wrong_tools(tally):
             expect(found[0] == 2 and "what was appended isn't there" in found[2], f"it ended with {found}")
     for name, texts in WRONG_COMPACTIONS.items():
         with tally.run(f"{name} is reported"), in_memory() as place:
-            expect(is_refused(judge_load, place, planted(place, "ssikvd-compact", *texts)), f"{name} was not reported")
+            for other in ("ssikvd-compact", "ssikvd-follow", "ssikvd-verify"):
+                shutil.copy(os.path.join(DIST, other), place)
+            planted(place, *texts)
+            expect(is_refused(judge_load, place, os.path.join(place, "ssikvd-compact")), f"{name} was not reported")
 
 
 def planted(place, tool_name, right, wrong):

@@ -5,10 +5,10 @@ of that is filled while a look is under way; then they fill 60 of 100 in a minut
 compaction, and no COMMIT is answered `FULL log`. Each that was acknowledged is there at the end. By the fill alone the looks before the rise do
 nothing, and it is met. What a look says after few and after many commits, and after a compaction, is what the rule asks for.
 
-`ssikvd-watch` ends where its rule asks for it, over logs that grow, stand still, are replaced, absent or damaged, and where a compaction has failed,
-on a clock of the harness's. Tools with a planted fault are reported. In the long form the largest file is served from memory, with small commits as
-fast as the program can, and with the largest at a quarter of that, while the timer's looks and the watch begin compactions as their units do: no full
-log is met. It is met where the watch begins too late.
+`ssikvd-watch` ends where its rule asks for it, over logs that grow slowly or fast, stand still, are replaced, absent or damaged, and where a compaction
+has failed, on a clock of the harness's. Tools with a planted fault are reported. In the long form the largest file is served from memory, with small
+commits as fast as the program can, and with the largest at a quarter of that, while the timer's looks and the watch begin compactions as their units
+do: no full log is met. It is met where the watch begins too late.
 """
 import contextlib
 import json
@@ -124,9 +124,9 @@ class Looks:
         return tool("ssikvd-compact", *starts, "--above", "50", "--within", str(within), "--state", self.state, *words, self.trial.data,
                     seconds=6 * PATIENCE)
 
-    def watch(self, above, seconds):
+    def watch(self, above, times, seconds):
         """Waits as long for `ssikvd-watch`: has it ended?"""
-        words = ["ssikvd-watch", "--above", str(above), "--state", self.state, self.trial.data]
+        words = ["ssikvd-watch", "--above", str(above), "--times", str(times), "--state", self.state, self.trial.data]
         with subprocess.Popen(words, stdout=subprocess.DEVNULL, stderr=subprocess.PIPE, env=ENVIRONMENT) as process:
             try:
                 process.wait(max(seconds, 0.0))
@@ -190,7 +190,7 @@ COMPACTIONS = 12
 LARGEST_SHARE = 0.25    # of the highest rate of commits of 1 MiB, what is sustained
 
 
-def highest_rate(further, above=50, compactions=COMPACTIONS, share=1):
+def highest_rate(further, above=50, times=2, compactions=COMPACTIONS, share=1):
     """The timer's looks and the watch, as their units begin them, over the largest file in memory, while clients write as fast as they are
     answered, or at a share of that: the load, its rate, and what the compactions said."""
     with looks_at(LARGE) as looks:
@@ -200,7 +200,7 @@ def highest_rate(further, above=50, compactions=COMPACTIONS, share=1):
             said, begun = [], time.monotonic()
             next_look = begun + MINUTE
             while sum(": compaction\n" in out for out in said) < compactions and not load.full:
-                looks.watch(above, next_look - time.monotonic())
+                looks.watch(above, times, next_look - time.monotonic())
                 if time.monotonic() >= next_look:
                     next_look += MINUTE
                 status, out, err = looks.look(within=600)
@@ -250,7 +250,7 @@ def keeps_up_at_once(tally):
             expect(load.full == 0, f"{load.full} commits met a full log: {said}")
             expect(beside >= COMPACTIONS, f"it was compacted {beside} times")
     with tally.run("a watch that begins too late is reported"):
-        expect(highest_rate(0, above=99, compactions=2)[0].full > 0, "no full log was met")
+        expect(highest_rate(0, above=99, times=0, compactions=2)[0].full > 0, "no full log was met")
 
 
 def rule(tally):
@@ -335,7 +335,7 @@ def after_steps(module, data, state, steps):
     watch = module.Watch(data, state)
     watch.say = lambda text: said.extend([text] if text else [])
     try:
-        used = watch.wait(50, 120)[0]
+        used = watch.wait(50, 120, 2)[0]
     except Over:
         used = None
     expect(descriptors_of() == before, "it leaves a file open")
@@ -392,7 +392,10 @@ def judge_watch(module):
 
         few, half, more = grown(data, 10), grown(data, 251), grown(data, 260)
         few(None)
-        expect_end("a log that isn't half full", (4, None, []), grown(data, 100), grown(data, 249), grown(data, 249))
+        expect_end("a log that isn't half full", (4, None, []), grown(data, 100), grown(data, 140), grown(data, 180))
+        few(None)
+        expect_end("one that would be full before it is compacted", (3, 402, []), grown(data, 100), grown(data, 150), grown(data, 200))
+        forget(state)
         half(None)
         expect_end("a log that doesn't grow", (3, None, []), nothing, nothing)
         expect_end("one that is full in four minutes", (3, None, []), grown(data, 252), nothing)
@@ -425,8 +428,10 @@ def judge_watch(module):
 
 WRONG_WATCHES = {
     "a rate between two logs": ("if is_same and before is not None", "if before is not None"),
-    "a log that isn't half full": ("if 100 * count > above * sectors and ", "if "),
+    "a log that isn't half full": ("is_half_full = 100 * count > above * sectors and ", "is_half_full = "),
     "a log that lasts": ("sectors - count < within * rate", "rate"),
+    "a compaction that is begun late": ("sectors - count < times * meanwhile", "False"),
+    "a compaction that doesn't make room": (" and meanwhile < count", ""),
     "a compaction that has failed": (" and not self.has_failed()", ""),
     "a compaction of another log": ("return log.goes_on(*used.end_of(found))", "return True"),
     "a clock of the day": ("before, self.at = self.at, time.monotonic()", "before, self.at = self.at, time.time()"),
