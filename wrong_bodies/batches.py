@@ -1,13 +1,16 @@
 """Tries the wrong bodies of crates, many in one check: `batches.py [CRATE..]`, all crates where none is named.
 
-A function's proof cites what it calls by their contracts alone. So one check of a crate judges a wrong body of each of several functions, as long as
-none of them calls another: `rattle` reports each function by itself. Where it reports that a callee isn't proved, the caller is tried again without
-that callee's edit. What stands outside a function, such as a constant, is tried alone, over the whole crate. All is done on a copy of the
-repository; `--gate` tries those of the crates' own folders `must-fail` as well.
+A wrong body of a function is tried in a copy of it, with a name and a folder of proofs of its own, next to the function, which stays as it is. So one
+check judges many of them, several of one function too: `rattle` reports each function by itself. With `--controls` an unchanged copy of each is
+checked as well, which must be proved. A method that a trait asks for, and a function whose copy isn't proved unchanged, are edited in place. A check
+then takes one edit of each of several functions, as long as none of them calls another; where `rattle` reports that a callee isn't proved, the caller
+is tried again without that callee's edit. What stands outside a function, such as a constant, is tried alone, over the whole crate. All is done on a
+copy of the repository; `--gate` tries those of the crates' own folders `must-fail` as well.
 
 Prints each wrong body that isn't refused, and ends with status 1 where there is one. `BAD` is one that doesn't compile, or of which nothing is said.
-`FORM` is one that is refused, but by the form of a proof alone: it names a fact of the real body that the wrong one lacks. What came out is written
-next to the wrong bodies of each crate, as `result.json`, with the commit; `applies.py --write` takes docs/TESTING.md's table from there.
+`FORM` is one that is refused, but by the form of a proof alone: it names a fact of the real body that the wrong one lacks, and nothing is open but
+what that answer was for. What came out is written next to the wrong bodies of each crate, as `result.json`, with the commit; `applies.py --write`
+takes docs/TESTING.md's table from there. `--log FILE` keeps what each check printed.
 """
 import argparse
 import json
@@ -17,14 +20,36 @@ import shutil
 import subprocess
 import sys
 import tempfile
+import time
+from dataclasses import dataclass
 from pathlib import Path
 
 TOP = Path(__file__).resolve().parent.parent
 REPORT = re.compile(r"^(?:fn|impl|struct|enum) (\S+): (.*)$", re.MULTILINE)
 FUNCTION = re.compile(r"( *)(?:pub(?:\([a-z]+\))? )?(?:const )?fn (\w+)")
-BLOCK = re.compile(r"(?:pub )?(?:trait|impl\b(?:<.*?>)?) (?:(?P<trait>\w+)(?:<.*>)? for )?(?:&(?:'\w+ )?)?(?P<type>\w+)")
+BLOCK = re.compile(r"(?:pub )?(?:trait|impl\b(?:<.*?>)?) (?:(?:\w+::)*(?P<trait>\w+)(?:<(?P<of>.*)>)? for )?"
+                   r"(?:&(?:'\w+ )?)?(?P<type>\w+|\(.*?\))")
+FAULT = re.compile(r"^(?:\./)?(src/\S+?):(\d+):\d+: error", re.MULTILINE)
+GOAL = re.compile(r"\(`([^`]+)`\)")
+ANSWER = re.compile(r"pub (\S+) :")
 # What is said where a proof names a fact of the real body that the wrong one lacks: that the contract refuses it isn't shown by that.
 NAMED = re.compile(r"has no field|\(nearest: |that can be named from here")
+# So many copies are checked at once.
+AT_ONCE = 60
+
+
+@dataclass(frozen=True)
+class Function:
+    """A function: its file, the line of its head, what `rattle` calls it, and whether a trait asks for it."""
+
+    file: str
+    head: int
+    name: str
+    of_trait: bool
+
+    def copy(self, word):
+        """What `rattle` calls a copy of it."""
+        return f"{self.name}_{word}"
 
 
 def pairs_of(edit):
@@ -42,7 +67,7 @@ def pairs_of(edit):
 def home_of(folder, path, block):
     """The file whose module a block's functions belong to: for methods of a type alone, that of the type, wherever the block stands."""
     if not block["trait"]:
-        declares = re.compile(rf"^(?:pub(?:\([a-z]+\))? )?(?:struct|enum) {block['type']}\b", re.MULTILINE)
+        declares = re.compile(rf"^(?:pub(?:\([a-z]+\))? )?(?:struct|enum) {re.escape(block['type'])}\b", re.MULTILINE)
         for file in (folder / "src").rglob("*.rt"):
             if declares.search(file.read_text()):
                 return str(file.relative_to(folder))
@@ -50,41 +75,72 @@ def home_of(folder, path, block):
 
 
 def function_at(folder, path, old):
-    """The path of the function in whose body the old text stands, or None."""
+    """The function in whose body the old text stands, or None."""
     text = (folder / path).read_text()
     lines = text[:text.index(old) + len(old)].split("\n")
     number = len(lines) - 1 - old.count("\n")
     found = [(i, FUNCTION.match(line)) for i, line in enumerate(lines[:number + 1]) if FUNCTION.match(line)]
     if not found:
         return None
-    start, function = found[-1]
-    if any(line == function[1] + "}" for line in lines[start:number]):
+    head, function = found[-1]
+    if any(line == function[1] + "}" for line in lines[head:number]):
         return None
-    blocks = [BLOCK.match(line) for line in lines[:start] if BLOCK.match(line)] if function[1] else []
-    if blocks:
-        path = home_of(folder, path, blocks[-1])
-    modules = [it for it in path.removeprefix("src/").removesuffix(".rt").split("/") if it not in ("lib", "main", "mod")]
-    return "::".join([folder.name, *modules, *(name_of(it) for it in blocks[-1:]), function[2]])
+    blocks = [BLOCK.match(line) for line in lines[:head] if BLOCK.match(line)] if function[1] else []
+    home = home_of(folder, path, blocks[-1]) if blocks else path
+    modules = [it for it in home.removeprefix("src/").removesuffix(".rt").split("/") if it not in ("lib", "main", "mod")]
+    name = "::".join([folder.name, *modules, *(name_of(it) for it in blocks[-1:]), function[2]])
+    in_trait = any(it["trait"] or it[0].startswith(("trait", "pub trait")) for it in blocks[-1:])
+    return Function(path, head, name, in_trait)
 
 
 def name_of(block):
-    """What `rattle` calls a block of methods: after the type, and after the trait where it has one."""
-    return block["type"] + (block["trait"] or "")
+    """What `rattle` calls a block of methods: after the type, and after the trait where it has one, and what that is of."""
+    words = re.findall(r"\(\)|\w+", block["of"] or "")
+    of = "".join("Unit" if word == "()" else word[0].upper() + word[1:] for word in words if len(word) > 1)
+    return (f"Tuple{block['type'].count(',') + 1}" if block["type"].startswith("(") else block["type"]) + (block["trait"] or "") + of
 
 
-def by_form(function, printed):
-    """Whether all that is said against the function is that its proof names what the body lacks."""
+def span_of(lines, head):
+    """The first line of the function whose head stands there, with the comments and attributes above it, and the one behind its last."""
+    indent = FUNCTION.match(lines[head])[1]
+    start = head
+    while start and re.match(rf"{indent}(?: |///|//|#|\)\])", lines[start - 1]):
+        start -= 1
+    return start, next(i for i in range(head, len(lines)) if lines[i] == indent + "}") + 1
+
+
+def kind_of(goal):
+    """What a goal is about, wherever in the body it stands: a clause of the contract, an invariant, or what a callee asks."""
+    words = goal.split("-")
+    return "-".join(words[:2 if words[0] in ("invariant_of", "loop") else 1]), goal.partition("-clause-")[2]
+
+
+def by_form(function, printed, crate):
+    """Whether all that is said against the function is that its proof names what the body lacks, and that what these answers were for is open."""
     folder = "./proofs/" + "/".join(function.split("::")[1:]) + "/"
-    lines = printed.split("\n")
+    lines = printed.replace("\n  ", " ").split("\n")
     errors = [it for it in lines if it.startswith(folder) and ": error: " in it]
-    searched = any(it.startswith(f"fn {function}: ") and "did not prove" in it for it in lines)
-    return bool(errors) and not searched and all(NAMED.search(it) for it in errors)
+    last = next((i for i, it in enumerate(lines) if it.startswith(f"fn {function}: ")), 0)
+    if not errors or "did not prove" in lines[last] or not all(NAMED.search(it) for it in errors):
+        return False
+    lost = {kind_of(answer_at(crate, it)) for it in errors}
+    first = max((i for i, it in enumerate(lines[:last]) if it.startswith("fn ")), default=0)
+    still_open = {kind_of(goal) for it in lines[first:last] if "not proved" in it for goal in GOAL.findall(it)}
+    return still_open <= lost or ("", "") in lost
+
+
+def answer_at(crate, error):
+    """The goal whose answer an error is in: none outside of the answers."""
+    path, number = error.split(":")[:2]
+    answers = [ANSWER.match(line) for line in (crate / path).read_text().split("\n")[:int(number)]]
+    return next((it[1] for it in reversed(answers) if it and path.endswith("/Answers.antt")), "")
 
 
 class Crate:
     """The wrong bodies of a crate, on a copy of the repository."""
 
-    def __init__(self, copy, name, edits):
+    def __init__(self, copy, name, edits, words):
+        self.controls, self.log = words.controls, words.log
         self.name, self.folder, self.fresh = name, copy / "crates" / name, TOP / "crates" / name
         self.edits = edits
         self.functions = {edit: self.function_of(edit) for edit in edits}
@@ -93,33 +149,114 @@ class Crate:
 
     def function_of(self, edit):
         """The one function that it changes, or None."""
-        names = {function_at(self.fresh, path, old) for path, old, _ in pairs_of(edit) if (self.fresh / path).is_file() and old in (self.fresh / path).read_text()}
-        return names.pop() if len(names) == 1 else None
+        found = set()
+        for path, old, _ in pairs_of(edit):
+            file = self.fresh / path
+            if file.is_file() and old in file.read_text():
+                found.add(function_at(self.fresh, path, old))
+        return found.pop() if len(found) == 1 else None
 
-    def check(self, edits, functions):
-        """What a check with these edits reports of each function, and all that it prints."""
-        for part in ("src", "specs"):
+    def restore(self):
+        """Puts the copy of the repository back as it was."""
+        for part in ("src", "specs", "proofs"):
             if (self.fresh / part).is_dir():
                 shutil.rmtree(self.folder / part)
                 shutil.copytree(self.fresh / part, self.folder / part)
+
+    def check(self, names, edits):
+        """What a check reports of each of these functions, or of all where there are none, and all that it prints."""
+        only = [word for name in names for word in ("--only", name)]
+        began = time.monotonic()
+        ran = subprocess.run(["rt", "check", self.name, *only], cwd=self.folder, capture_output=True, text=True)
+        if self.log:
+            head = f"== {self.name}, {time.monotonic() - began:.0f} s: {' '.join(it.stem for it in edits)}"
+            self.log.write("\n".join([head, ran.stdout, ran.stderr]))
+            self.log.flush()
+        return dict(REPORT.findall(ran.stdout)), ran.stdout + ran.stderr
+
+    def check_in_place(self, edits, names):
+        """The same with these edits made where they stand."""
+        self.restore()
+        self.change(edits)
+        return self.check(names, edits)
+
+    def change(self, edits):
+        """Makes these edits where they stand."""
         for path, old, new in (pair for edit in edits for pair in pairs_of(edit)):
             file = self.folder / path
             file.write_text(file.read_text().replace(old, new))
-        only = [word for name in functions for word in ("--only", name)]
-        ran = subprocess.run(["rt", "check", self.name, *only], cwd=self.folder, capture_output=True, text=True)
-        return dict(REPORT.findall(ran.stdout)), ran.stdout + ran.stderr
+
+    def copy_function(self, function, wrong):
+        """Writes a copy of a function behind it with each of these edits, or unchanged."""
+        file = self.folder / function.file
+        lines = file.read_text().split("\n")
+        start, end = span_of(lines, function.head)
+        copies, last = [], function.name.rpartition("::")[2]
+        for word, edit in wrong.items():
+            text = "\n".join(lines[start:end])
+            for _, old, new in pairs_of(edit) if edit else []:
+                text = text.replace(old, new)
+            copies += ["", re.sub(rf"\bfn {last}\b", f"fn {last}_{word}", text, count=1)]
+            self.copy_proof(function, word)
+        file.write_text("\n".join([*lines[:end], *copies, *lines[end:]]))
+
+    def copy_proof(self, function, word):
+        """Gives a copy of a function a copy of its proof."""
+        modules = function.name.split("::")[1:]
+        proof = self.folder.joinpath("proofs", *modules)
+        if proof.is_dir():
+            place = ".".join(["Rattle", self.name, "proofs", *modules])
+            for file in shutil.copytree(proof, proof.parent / f"{proof.name}_{word}").rglob("*.antt"):
+                file.write_text(file.read_text().replace(f"{place}.", f"{place}_{word}."))
+
+    def judge_copies(self, chosen, in_place):
+        """Tries these, by function, each in a copy of its function, and some in place: those of which nothing can be said yet stay."""
+        self.restore()
+        words = {edit: f"wrong_{i}" for i, edit in enumerate(edit for edits in chosen.values() for edit in edits)}
+        unchanged = {"unchanged": None} if self.controls else {}
+        for function in sorted(chosen, key=lambda it: -it.head):
+            self.copy_function(function, {**unchanged, **{words[edit]: edit for edit in chosen[function]}})
+        names = [function.copy(word) for function, edits in chosen.items() for word in [*unchanged, *(words[edit] for edit in edits)]]
+        self.change(in_place.values())
+        found, printed = self.check([*names, *in_place], [*words, *in_place.values()])
+        if not found:
+            self.leave_out_faults(chosen, words, in_place, printed)
+            return
+        self.take(in_place, found, printed)
+        for function, edits in chosen.items():
+            if unchanged and not found.get(function.copy("unchanged"), "").startswith("proved"):
+                print(f"{self.name}: an unchanged copy of {function.name} isn't proved", flush=True)
+            else:
+                self.take({function.copy(words[edit]): edit for edit in edits}, found, printed)
+
+    def leave_out_faults(self, chosen, words, in_place, printed):
+        """Where a check of copies says nothing: leaves those in which it finds a fault to be tried in place, or tries the halves."""
+        names = {self.function_with(file, int(line)) for file, line in FAULT.findall(printed)}
+        faulty = {edit for edit, word in words.items() if any(name.endswith(f"_{word}") for name in names)}
+        left = {function: [edit for edit in edits if edit not in faulty] for function, edits in chosen.items()}
+        items = [(function, edits) for function, edits in left.items() if edits]
+        if faulty and items:
+            self.judge_copies(dict(items), in_place)
+        elif len(items) > 1:
+            self.judge_copies(dict(items[:len(items) // 2]), {})
+            self.judge_copies(dict(items[len(items) // 2:]), {})
+
+    def function_with(self, file, number):
+        """The name of the function with this line."""
+        heads = [FUNCTION.match(line) for line in (self.folder / file).read_text().split("\n")[:number]]
+        return next((head[2] for head in reversed(heads) if head), "")
 
     def alone(self, edit):
         """Tries one by itself."""
         function = self.functions[edit]
-        found, printed = self.check([edit], [function]) if function else ({}, "")
-        found, printed = (found, printed) if found else self.check([edit], [])
+        found, printed = self.check_in_place([edit], [function.name]) if function else ({}, "")
+        found, printed = (found, printed) if found else self.check_in_place([edit], [])
         if not found or any("could not tell" in it for it in found.values()):
             self.verdicts[edit] = "BAD"
         else:
             against = [it for it, said in found.items() if not said.startswith(("proved", "assumed")) and "calls" not in said]
             self.verdicts[edit] = "refused" if any(not it.startswith(("proved", "assumed")) for it in found.values()) else "PROVED"
-            self.formal |= {edit} if against and all(by_form(it, printed) for it in against) else set()
+            self.formal |= {edit} if against and all(by_form(it, printed, self.folder) for it in against) else set()
 
     def below(self, function):
         """The functions that it is known to call, at any distance."""
@@ -130,34 +267,55 @@ class Crate:
             left += new
         return found
 
-    def batch(self):
-        """One wrong body of each function, of which none is known to call another."""
+    def batch(self, of_trait=False):
+        """One wrong body of each function, or of each that a trait asks for, of which none is known to call another."""
         chosen = {}
         for edit in self.edits:
-            function = self.functions[edit]
-            if edit not in self.verdicts and function and function not in chosen:
+            function = self.functions[edit] and self.functions[edit].name
+            if edit not in self.verdicts and function and function not in chosen and (self.functions[edit].of_trait or not of_trait):
                 if not any(it in self.below(function) or function in self.below(it) for it in chosen):
                     chosen[function] = edit
         return chosen
 
     def judge(self, chosen):
         """Tries these at once: those of which nothing can be said yet stay."""
-        found, printed = self.check(chosen.values(), chosen)
+        found, printed = self.check_in_place(chosen.values(), chosen)
         if not found and len(chosen) > 1:
             items = list(chosen.items())
             self.judge(dict(items[:len(items) // 2]))
             self.judge(dict(items[len(items) // 2:]))
             return
-        for function, said in found.items():
-            self.calls.setdefault(function, set()).update(re.findall(r"`([^`]+)`", said.partition("calls")[2]))
-        told = {edit: found.get(function, "nothing") for function, edit in chosen.items()}
-        clear = {edit: said for edit, said in told.items() if said.startswith(("proved", "not proved", "no proof")) and "calls" not in said}
-        self.verdicts.update({edit: "PROVED" if said.startswith("proved") else "refused" for edit, said in clear.items()})
-        self.formal |= {edit for function, edit in chosen.items() if edit in clear and by_form(function, printed)}
-        for edit in [] if clear else told:
-            self.alone(edit)
+        if not self.take(chosen, found, printed):
+            for edit in chosen.values():
+                self.alone(edit)
+
+    def take(self, chosen, found, printed):
+        """Takes down what a check reports of the wrong bodies in these functions, or copies of functions. Was anything clear?"""
+        for name, said in found.items():
+            self.calls.setdefault(re.sub(r"_wrong_\d+$", "", name), set()).update(re.findall(r"`([^`]+)`", said.partition("calls")[2]))
+        told = {name: found.get(name, "nothing") for name in chosen}
+        clear = [name for name, said in told.items() if said.startswith(("proved", "not proved", "no proof")) and "calls" not in said]
+        for name in clear:
+            self.verdicts[chosen[name]] = "PROVED" if told[name].startswith("proved") else "refused"
+            self.formal |= {chosen[name]} if by_form(name, printed, self.folder) else set()
+        return bool(clear)
+
+    def parts(self):
+        """The wrong bodies that are tried in copies, by function, not many at once."""
+        functions = {}
+        for edit, function in self.functions.items():
+            if function and not function.of_trait:
+                functions.setdefault(function, []).append(edit)
+        parts, count = [{}], 0
+        for function, edits in functions.items():
+            if count + len(edits) > AT_ONCE:
+                parts, count = [*parts, {}], 0
+            parts[-1][function], count = edits, count + len(edits)
+        return [it for it in parts if it]
 
     def run(self):
+        for part in self.parts():
+            self.judge_copies(part, {} if self.controls else self.batch(of_trait=True))
         while chosen := self.batch():
             self.judge(chosen)
         for edit in self.edits:
@@ -207,6 +365,8 @@ def taken(source, target):
 def main():
     parser = argparse.ArgumentParser(description=__doc__, formatter_class=argparse.RawDescriptionHelpFormatter)
     parser.add_argument("--gate", action="store_true", help="try those of the crates' own folders must-fail as well")
+    parser.add_argument("--controls", action="store_true", help="check an unchanged copy of each function as well")
+    parser.add_argument("--log", type=argparse.FileType("a"), metavar="FILE", help="keep what each check printed")
     parser.add_argument("crates", nargs="*", metavar="CRATE")
     words = parser.parse_args()
     crates = sorted(it.name for it in (TOP / "crates").iterdir())
@@ -222,7 +382,7 @@ def main():
             edits = sorted((TOP / "wrong_bodies" / name).glob("*.edit"))
             edits += sorted((TOP / "crates" / name / "must-fail").glob("*.edit")) if words.gate else []
             if edits:
-                crate, commit = Crate(copy, name, edits), commit_of(name)
+                crate, commit = Crate(copy, name, edits, words), commit_of(name)
                 good &= crate.run()
                 record(crate, commit)
     return 0 if good else 1
