@@ -7,7 +7,7 @@ definitions (`crate/File`, and of each its name, the lines of its declaration wi
 (`crate/name`, whose text to be replaced stands in the file that it names), and what passes. A layer is a row of the last table, with its crates and
 what to look at: functions, types, clauses and definitions of these. Each crate of the program is in one. The promise itself is that of the README.
 
-No clause of the crates has more than 140 columns, or more than two lines of them: what is longer has a name.
+No clause of the crates has a line of more than 120 columns, or more than three lines: what is longer has a name.
 """
 import functools
 import glob
@@ -27,7 +27,7 @@ FILE_OF_DEFINITIONS = r"^- `(\w+)/(\w+)`: (`\w+` \(\d+\),.*(?:\n  .*)*)"
 DEFINITION = r"`(\w+)`\s+\((\d+)\)"
 IN_AN_HOUR = r"Up to \"(.*)\" they are (\d+) definitions of (\d+) lines"
 WITHOUT_CLAUSE = "This needs no clause"
-CLAUSE_MAX = 140
+CLAUSE_MAX, CLAUSE_LINES = 120, 3
 NAMED = r"`([a-z]\w*)/(\w+)`"
 
 
@@ -177,7 +177,7 @@ def clauses_of(text):
 
 def widths(tally):
     for name in sorted(glob.glob("crates/*/src/**/*.rt", root_dir=TOP, recursive=True)):
-        wide = [str(number) for number, clause in clauses_of(text_of(name)) if len(clause) > 2 or max(map(len, clause)) > CLAUSE_MAX]
+        wide = [str(number) for number, clause in clauses_of(text_of(name)) if len(clause) > CLAUSE_LINES or max(map(len, clause)) > CLAUSE_MAX]
         with tally.run(f"{name}, its clauses"):
             expect(not wide, f"too wide: line {', '.join(wide)}")
 

@@ -1,6 +1,7 @@
 """Breaks long lines of definitions, proofs and their comments: `columns.py [--write] [FILE..]`, those of all crates where no file is named.
 
-A line of `specs` has at most 120 columns, one of `proofs` 160, one of `src` 140, and an import 118. `rt fmt` leaves such breaks as they are, and makes none.
+A line of `specs` has at most 120 columns, one of `proofs` 160, one of `src` 140 and a clause there 120, and an import 118. `rt fmt` leaves such
+breaks as they are, and makes none.
 Prints each line that is longer; with `--write` it breaks what it can first: an import into several of one home, a comment between words,
 and what else is long in `specs` and `proofs` before an operator or behind a comma, as far out of brackets as there is a place.
 """
@@ -12,8 +13,10 @@ from ssikvd_harness.cases import Harness
 
 TOP = Path(__file__).resolve().parent.parent
 MOST = {"specs": 120, "proofs": 160, "src": 140}
-IMPORT_MOST = 118
+CLAUSE_MOST, IMPORT_MOST = 120, 118
 COMMENT = re.compile(r"^( *(?:--|///|//!|//))(?= \S)")
+# What is no clause, nor part of one: a comment, a text, an attribute.
+NO_CLAUSE = re.compile(r'^ *(?://|#)|"')
 IMPORT = re.compile(r"^(?P<head> *(?:ghost )?(?:pub |unfoldable )*use [^{]*\{)(?P<names>.*)\}(?P<end>;?)$")
 # By how loosely they bind.
 OPERATORS = {"→": 0, "↔": 0, "⊎": 1, "×": 2, "∙": 3, "≡": 4, "≢": 4, "≤": 4, "<": 4, "&&": 5, "||": 5, "++": 6, "∷": 6, "+": 7, "-": 7}
@@ -103,7 +106,7 @@ def most_of(line, kind):
     found = IMPORT.match(line)
     if found:
         return IMPORT_MOST if "," in found["names"] else len(line)
-    return MOST[kind]
+    return CLAUSE_MOST if kind == "src" and not NO_CLAUSE.search(line) else MOST[kind]
 
 
 def mended(line, kind):
@@ -113,7 +116,7 @@ def mended(line, kind):
         return [line]
     if found := IMPORT.match(line):
         return imports(found)
-    return [line] if kind == "src" or COMMENT.match(line) else broken(line, most)
+    return [line] if COMMENT.match(line) or NO_CLAUSE.search(line) and kind == "src" else broken(line, most)
 
 
 def kind_of(file):

@@ -55,7 +55,8 @@ fn with_argument<'a>(
     command: Result<Command<'a>, AllocError>,
     argument: Arg<'a>,
 ) -> Result<Command<'a>, AllocError>
-    ensures { (a : App) → Makes a command.entry → argument.entry.global ≡ false → Makes (with_rule a (rule_of argument.entry)) result }
+    ensures { (a : App) → Makes a command.entry → argument.entry.global ≡ false
+        → Makes (with_rule a (rule_of argument.entry)) result }
 {
     command?.arg(argument)
 }

@@ -36,7 +36,8 @@ pub fn compact<C: Clock, F: DataFiles, P, O: Lines, E: Lines>(
     to: &str,
     sectors: Option<u64>,
 ) -> Result<(), Fault>
-    ensures { Compacting F.Device.Sectors F.DataFiles O.Lines E.Lines from.now to.now sectors around.old result around.new }
+    ensures { Compacting F.Device.Sectors F.DataFiles O.Lines E.Lines from.now to.now sectors around.old result
+        around.new }
 {
     let begun = Instant::now(clock).ok();
     let found = read_file(alloc, &mut around.files, from)?;
@@ -112,10 +113,12 @@ pub fn copy_device<D: Sectors, O: Lines>(
     out: &mut O,
 ) -> Result<(), Fault>
     ensures full { IsErrOf result Fault.LogFull ↔ (D.size device.old < copy_size map.now) }
-    ensures printed { IfOk result (λ done. O.writes out.old (log_line (write_sets_of map.now) (D.size device.old)) (Ok done) out.new) }
+    ensures printed { IfOk result
+        (λ done. O.writes out.old (log_line (write_sets_of map.now) (D.size device.old)) (Ok done) out.new) }
     ensures beside { IfErr result (λ fault. IsFromOutput fault ⊎ (out.new ≡ out.old)) }
     ensures copied { D.keeps_model → OnOk result (HoldsLog D.Sectors device.new (write_sets_of map.now)) }
-    ensures copies { copy_size map.now ≤ D.size device.old → Copies D.Sectors O.Lines device.old map.now out.old result device.new out.new }
+    ensures copies { copy_size map.now ≤ D.size device.old
+        → Copies D.Sectors O.Lines device.old map.now out.old result device.new out.new }
 {
     let counts = copy_counts(alloc, device, map)?;
     print_counts(counts, out)?;

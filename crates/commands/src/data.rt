@@ -83,7 +83,8 @@ pub fn check_device<D: Sectors, O: Lines>(
     device: D,
     out: &mut O,
 ) -> (Result<(), Fault>, D)
-    ensures found { IfHoldsSets D.Sectors device IsLogImage (λ lists. PrintsLog O.Lines lists (D.size device) out.old result.0 out.new) }
+    ensures found { IfHoldsSets D.Sectors device IsLogImage
+        (λ lists. PrintsLog O.Lines lists (D.size device) out.old result.0 out.new) }
     ensures damaged { IfHoldsSets D.Sectors device IsDamaged
         (λ lists. IsRefused (Fault.Damaged (length lists)) result.0 out.old out.new) }
     ensures no_log { IfHolds D.Sectors device (λ disk. (f : LogFormat) → IsNoLog f disk)

@@ -30,7 +30,8 @@ pub fn run_command<
     E: Lines,
 >(clock: &C, alloc: Global, words: &W, around: &mut Around<F, P, O, E>, scripts: S) -> u8
     requires { TakesOpened P.takes }
-    ensures { RunsAsked F.DataFiles P.Ports P.Server.Turns S.Scripts O.Lines E.Lines W.asks words.now scripts around.old result around.new }
+    ensures { RunsAsked F.DataFiles P.Ports P.Server.Turns S.Scripts O.Lines E.Lines W.asks words.now scripts around.old
+        result around.new }
 {
     match words.asked(alloc) {
         Ok(asked) => {
@@ -58,7 +59,8 @@ fn execute<
 ) -> Result<(), Fault>
     requires opened { TakesOpened P.takes }
     requires range { IsInRange asked }
-    ensures { Does F.DataFiles P.Ports P.Server.Turns S.Scripts O.Lines E.Lines scripts around.old asked.entry result around.new }
+    ensures { Does F.DataFiles P.Ports P.Server.Turns S.Scripts O.Lines E.Lines scripts around.old asked.entry result
+        around.new }
 {
     match asked {
         Asked::Create { data, sectors } => create(&mut around.files, data, sectors),

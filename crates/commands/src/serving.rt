@@ -24,7 +24,8 @@ pub fn serve<F: DataFiles, P: Ports<Hub<F::Device>>, O: Lines, E: Lines>(
     listen: &str,
 ) -> Result<(), Fault>
     requires { TakesOpened P.takes }
-    ensures { EndsServing F.DataFiles P.Ports P.Server.Turns O.Lines E.Lines data.now listen.now around.old result around.new }
+    ensures { EndsServing F.DataFiles P.Ports P.Server.Turns O.Lines E.Lines data.now listen.now around.old result
+        around.new }
 {
     let mut server = open(alloc, &mut around.files, &mut around.ports, data, listen)?;
     let served = run_server(alloc, &mut server, &mut around.out, &mut around.err);

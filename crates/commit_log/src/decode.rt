@@ -51,7 +51,8 @@ fn take_value(
     format: LogFormat,
     bytes: &[u8],
 ) -> Result<Option<(Option<Vec<u8>>, &[u8])>, Memory>
-    ensures some { IfOk result (λ o. IfSome o (λ r. bytes.now ≡ value_bytes (option_map (λ v. v.items) r.0) ++ r.1.now)) }
+    ensures some { IfOk result
+        (λ o. IfSome o (λ r. bytes.now ≡ value_bytes (option_map (λ v. v.items) r.0) ++ r.1.now)) }
     ensures limits { IfOk result (λ o. IfSome o (λ r. IfSome (option_map (λ v. v.items) r.0) (IsValueIn format))) }
     ensures none { IfOk result (λ o. IfNone o (BeginsWithNoValue format bytes.now)) }
 {
@@ -77,7 +78,8 @@ fn take_value(
 /// A key at the front.
 fn take_key(bytes: &[u8]) -> Option<(KeyRef<'_>, &[u8])>
     ensures some { IfSome result (λ r. bytes.now ≡ (big_bytes 2 (length r.0.bytes.now) ++ r.0.bytes.now) ++ r.1.now) }
-    ensures none { IfNone result ((key : List ℕ) (rest : List ℕ) → IsKey key → bytes.now ≡ (big_bytes 2 (length key) ++ key) ++ rest → ⊥) }
+    ensures none { IfNone result
+        ((key : List ℕ) (rest : List ℕ) → IsKey key → bytes.now ≡ (big_bytes 2 (length key) ++ key) ++ rest → ⊥) }
 {
     let (len, rest) = take_u16(bytes)?;
     if rest.len() < len as usize {

@@ -168,8 +168,10 @@ pub fn end(body: &mut Vec<u8>, before: &[u8; 32], index: u64, len: u32) -> [u8; 
     requires begun { 44 ≤ length body.old.items }
     requires bound { len ≤ payload_bound value_max }
     requires room { 512 * sectors_for len ≤ vec_capacity body.old }
-    ensures body { OfUnsealed body.old.items index len (λ writes. body.new.items ≡ padded_body before.now index writes) }
-    ensures sectors { OfUnsealed body.old.items index len (λ writes. length body.new.items ≡ 512 * body_sectors writes) }
+    ensures body { OfUnsealed body.old.items index len
+        (λ writes. body.new.items ≡ padded_body before.now index writes) }
+    ensures sectors { OfUnsealed body.old.items index len
+        (λ writes. length body.new.items ≡ 512 * body_sectors writes) }
     ensures digest { OfUnsealed body.old.items index len (λ writes. result ≡ record_digest before.now index writes) }
     ensures capacity { vec_capacity body.old ≤ vec_capacity body.new }
 {

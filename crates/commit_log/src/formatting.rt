@@ -41,8 +41,10 @@ fn write_head<D: Sectors>(device: &mut D) -> Result<(), DeviceFault>
     ensures failures { IsCounted result (D.failures device.old) (D.failures device.new) }
     ensures formatted { D.keeps_model → OnOk result (HoldsLog D.Sectors device.new []) }
     // A crash at any moment of the call finds the head only where it finds the closed gate, and no other sector changed.
-    ensures any_moment { D.keeps_model → LeavesOnly D.moment D.left_since device.old device.new (IsBeingMade (D.may_leave device.old)) }
-    ensures others { D.keeps_model → (i : ℕ) (s : List ℕ) → 2 ≤ i → D.may_read device.new i s → D.may_read device.old i s }
+    ensures any_moment { D.keeps_model
+        → LeavesOnly D.moment D.left_since device.old device.new (IsBeingMade (D.may_leave device.old)) }
+    ensures others { D.keeps_model → (i : ℕ) (s : List ℕ) → 2 ≤ i → D.may_read device.new i s
+        → D.may_read device.old i s }
 {
     device.write(1, &closed_gate())?;
     device.sync()?;

@@ -46,7 +46,8 @@ impl<D: Sectors> Log<D> {
     pub fn open_or_return(alloc: Global, mut device: D) -> Result<(Self, Map), Unopened<D>>
         ensures runs { IfOk result (λ r. RunsOver device r.0) }
         ensures refused { IfErr result (OpeningIsRefused D.Sectors device) }
-        ensures short { D.size device < 2 → IsErrAnd result (λ u. (u.fault ≡ LogFault.NotALog) ⊎ (u.fault ≡ LogFault.Device)) }
+        ensures short { D.size device < 2
+            → IsErrAnd result (λ u. (u.fault ≡ LogFault.NotALog) ⊎ (u.fault ≡ LogFault.Device)) }
 
         // The log stands for an image that a crash before the call might have left; the device now holds it, and nothing else.
         ensures stands { D.keeps_model → IfOk result (λ r. OpensWhatWas device r.0 r.1) }
@@ -79,7 +80,8 @@ impl<D: Sectors> Log<D> {
         ensures faults { IfErr result IsOpenFault }
 
         // `Device` is reported only where a call has failed: the device then counts more failures.
-        ensures cause { IfErr result (λ e. e ≡ LogFault.Device → (after : D) × Rose (D.failures device) (D.failures after)) }
+        ensures cause { IfErr result
+            (λ e. e ≡ LogFault.Device → (after : D) × Rose (D.failures device) (D.failures after)) }
         ensures short { D.size device < 2 → IsErrAnd result (λ e. (e ≡ LogFault.NotALog) ⊎ (e ≡ LogFault.Device)) }
 
         // The log stands for an image that a crash before the call might have left; the device now holds it, and nothing else.

@@ -66,7 +66,8 @@ fn read_record<D: Sectors>(
     ensures only_reads { D.keeps_model → OnlyReads D.Sectors device.old device.new }
     ensures errors { IfErr result IsDeviceOrMemory }
     ensures fit { IfOk result (λ o. IfSome o (IsFitRecord format index before.now at count)) }
-    ensures found { D.keeps_model → OfEachRead count (D.may_read device.old) (ReadsRecord format index before.now at result) }
+    ensures found { D.keeps_model
+        → OfEachRead count (D.may_read device.old) (ReadsRecord format index before.now at result) }
 {
     if count - at < 2 {
         return Ok(None);
@@ -206,7 +207,8 @@ fn settle_and_read_head<D: Sectors>(device: &mut D) -> Result<(Option<LogFormat>
     ensures count { IfOk result (λ r. r.1 ≡ D.size device.new) }
     ensures room { IfOk result (λ r. IfSome r.0 (λ f. 2 ≤ r.1)) }
     ensures during { D.keeps_model → LeavesAsBefore D.Sectors device.old device.new }
-    ensures head { D.keeps_model → IfOk result (λ r. MightHold D.Sectors device.old (HoldsHead D.Sectors device.new r.0)) }
+    ensures head { D.keeps_model
+        → IfOk result (λ r. MightHold D.Sectors device.old (HoldsHead D.Sectors device.new r.0)) }
 {
     match device.sync() {
         Ok(()) => {}
@@ -233,7 +235,8 @@ pub(crate) fn read_log<D: Sectors>(alloc: Global, device: &mut D) -> Result<Foun
     ensures fault { FaultIsCounted (D.failures device.old) (D.failures device.new) result }
     ensures size { D.size device.new ≡ D.size device.old }
     ensures short { D.size device.old < 2 → IsErrAnd result (λ e. (e ≡ LogFault.NotALog) ⊎ (e ≡ LogFault.Device)) }
-    ensures range { IfOk result (λ found. (found.gate < D.size device.new) × (found.records ≤ found.gate) × (D.size device.new < 2 ^ 64)) }
+    ensures range { IfOk result
+        (λ found. (found.gate < D.size device.new) × (found.records ≤ found.gate) × (D.size device.new < 2 ^ 64)) }
     ensures errors { IfErr result IsOpenFault }
 
     // During the call a crash leaves what one before it could have left.
@@ -266,8 +269,10 @@ pub fn read_map<D: Sectors>(alloc: Global, device: &mut D) -> Result<(Map, u8), 
     ensures during { D.keeps_model → LeavesAsBefore D.Sectors device.old device.new }
 
     // The call reports on one image that the device might have held; at `Ok` the device holds it, and nothing else.
-    ensures map { D.keeps_model → IfOk result (λ r. MightHold D.Sectors device.old (HoldsMapOf D.Sectors device.new r.0 r.1)) }
-    ensures refused { D.keeps_model → IfErr result (λ e. IsDeviceOrMemory e ⊎ MightHold D.Sectors device.old (λ c. IsMapRefusal c e)) }
+    ensures map { D.keeps_model
+        → IfOk result (λ r. MightHold D.Sectors device.old (HoldsMapOf D.Sectors device.new r.0 r.1)) }
+    ensures refused { D.keeps_model
+        → IfErr result (λ e. IsDeviceOrMemory e ⊎ MightHold D.Sectors device.old (λ c. IsMapRefusal c e)) }
 {
     let (head, count) = settle_and_read_head(device)?;
     let Some(format) = head else {

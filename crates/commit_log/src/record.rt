@@ -29,8 +29,10 @@ fn stage<D: Sectors>(device: &mut D, gate: u64, body: &[u8]) -> Result<(), Devic
     ensures failures { IsCounted result (D.failures device.old) (D.failures device.new) }
 
     // At `Ok` each crash leaves the record behind its gate.
-    ensures staged { D.keeps_model → OfNextRecord D.Sectors device.old gate body.now (AtOk result (LeavesStaged D.Sectors device.new)) }
-    ensures any_moment { D.keeps_model → OfNextRecord D.Sectors device.old gate body.now (LeavesEither D.Sectors device.old device.new) }
+    ensures staged { D.keeps_model
+        → OfNextRecord D.Sectors device.old gate body.now (AtOk result (LeavesStaged D.Sectors device.new)) }
+    ensures any_moment { D.keeps_model
+        → OfNextRecord D.Sectors device.old gate body.now (LeavesEither D.Sectors device.old device.new) }
 
     // No sector is written but the body's and the one behind it.
     ensures alone { D.keeps_model → OnlyWrites D.Sectors (gate + 1) (length body.now / 512 + 1) device.old device.new }
@@ -47,8 +49,10 @@ fn open_staged<D: Sectors>(device: &mut D, gate: u64) -> Result<(), DeviceFault>
     requires { gate < D.size device.old }
     ensures size { D.size device.new ≡ D.size device.old }
     ensures failures { IsCounted result (D.failures device.old) (D.failures device.new) }
-    ensures acknowledged { D.keeps_model → OfStaged D.Sectors device.old gate (AtOk result (HoldsBoth D.Sectors device.new)) }
-    ensures any_moment { D.keeps_model → OfStaged D.Sectors device.old gate (LeavesEither D.Sectors device.old device.new) }
+    ensures acknowledged { D.keeps_model
+        → OfStaged D.Sectors device.old gate (AtOk result (HoldsBoth D.Sectors device.new)) }
+    ensures any_moment { D.keeps_model
+        → OfStaged D.Sectors device.old gate (LeavesEither D.Sectors device.old device.new) }
     ensures alone { D.keeps_model → OnlyWrites D.Sectors gate 1 device.old device.new }
 {
     device.write(gate, &open_gate())?;
@@ -63,10 +67,12 @@ pub fn write_record<D: Sectors>(device: &mut D, gate: u64, body: &[u8]) -> Resul
     ensures failures { IsCounted result (D.failures device.old) (D.failures device.new) }
 
     // At `Ok` reads give the log with the record, and a crash leaves it.
-    ensures acknowledged { D.keeps_model → OfNextRecord D.Sectors device.old gate body.now (AtOk result (HoldsBoth D.Sectors device.new)) }
+    ensures acknowledged { D.keeps_model
+        → OfNextRecord D.Sectors device.old gate body.now (AtOk result (HoldsBoth D.Sectors device.new)) }
 
     // A crash at any moment of the call leaves the log with the record or without it.
-    ensures any_moment { D.keeps_model → OfNextRecord D.Sectors device.old gate body.now (LeavesEither D.Sectors device.old device.new) }
+    ensures any_moment { D.keeps_model
+        → OfNextRecord D.Sectors device.old gate body.now (LeavesEither D.Sectors device.old device.new) }
 
     // No sector is written but the record's and the closed gate behind it.
     ensures alone { D.keeps_model → OnlyWrites D.Sectors gate (length body.now / 512 + 2) device.old device.new }

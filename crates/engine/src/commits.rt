@@ -24,12 +24,14 @@ impl<D: Sectors> Engine<D> {
     /// and the store is then stopped. Each ends the transaction. `Memory`, where memory for versions, for a record or for the log's sectors
     /// is refused, comes before `StoreFault` and leaves the transaction open.
     pub fn commit(&mut self, s: u64) -> Result<u64, EngineFault>
-        ensures step { Leads self.old self.new s Commit (has_failed self.old self.new) (response_to (λ n. Number n) result) }
+        ensures step { Leads self.old self.new s Commit (has_failed self.old self.new)
+            (response_to (λ n. Number n) result) }
         ensures device { failures_of self.old ≤ failures_of self.new }
 
         // A stopped store leaves the device alone, and so does each refusal but that of a store fault.
         ensures still { has_engine_stopped self.old ≡ true → device_of self.new ≡ device_of self.old }
-        ensures refused { IfErr result (λ e. e ≢ EngineFault.Refused Refusal.StoreFault → device_of self.new ≡ device_of self.old) }
+        ensures refused { IfErr result
+            (λ e. e ≢ EngineFault.Refused Refusal.StoreFault → device_of self.new ≡ device_of self.old) }
 
         // One record is added to the log at most. Where nothing was written, the log and its device are left alone.
         ensures appends { Appends self.old self.new s }

@@ -76,7 +76,8 @@ impl<D: Sectors> Engine<D> {
     /// `Memory` where that is refused.
     pub fn set(&mut self, s: u64, key: KeyRef<'_>, value: &[u8]) -> Result<(), EngineFault>
         requires { length value.now ≤ value_max }
-        ensures step { Leads self.old self.new s (Set key.entry.bytes.now value.now) false (response_to (λ _. Done) result) }
+        ensures step { Leads self.old self.new s (Set key.entry.bytes.now value.now) false
+            (response_to (λ _. Done) result) }
         ensures log { log_of self.new ≡ log_of self.old }
     {
         match self.running.get_mut(&s) {
@@ -123,7 +124,8 @@ impl<D: Sectors> Engine<D> {
     /// with a fault in its form. Inside a transaction each of them is an own request.
     pub fn law_passes(&self, s: u64)
         ensures ping { Leads self.now self.now s Ping false (Some Pong) }
-        ensures faulty { (refusal : Reason) → Leads self.now self.now s (Faulty refusal) false (Some (Refused refusal)) }
+        ensures faulty { (refusal : Reason)
+            → Leads self.now self.now s (Faulty refusal) false (Some (Refused refusal)) }
     {}
 
     /// Does nothing: what holds of each state that the engine stands for. The machine reaches it; its open transactions see their own
@@ -139,7 +141,8 @@ impl<D: Sectors> Engine<D> {
     /// Does nothing: a crash leaves the map of all that has committed; of a store that is stopped, that or the one with the writes of one
     /// COMMIT more, which the clause `crash` of `commit` names.
     pub fn law_is_stored(&self)
-        ensures { D.keeps_model → (m : State) → StandsFor self.now m → LeavesCommitted m (D.may_leave (device_of self.now)) }
+        ensures { D.keeps_model → (m : State) → StandsFor self.now m
+            → LeavesCommitted m (D.may_leave (device_of self.now)) }
     {}
 
     /// A step of what `reclaim` does, which is short however much garbage there is. Answers whether it has to be called again until all is
@@ -153,7 +156,8 @@ impl<D: Sectors> Engine<D> {
         ensures versions { (m : State) → StandsFor self.old m
             → IsReclaimedInPart (versions_of self.old) (versions_of self.new) (open_begins m) }
         ensures still { (m : State) → StandsFor self.old m → result ≡ is_garbage (open_begins m) self.new.history }
-        ensures classified { (m : State) → StandsFor self.old m → AllByRecursion IsClassified (versions_of self.new).groups }
+        ensures classified { (m : State) → StandsFor self.old m
+            → AllByRecursion IsClassified (versions_of self.new).groups }
         ensures frees_runs { FreesRuns (committed_of self.old) (committed_of self.new) }
         ensures forgotten { (m : State) → StandsFor self.old m → HasForgottenOld m (facts_of self.new) }
         ensures kept { result ≡ false → KeepsNoneUpto (facts_of self.new).oldest (facts_of self.new) }
@@ -173,8 +177,10 @@ impl<D: Sectors> Engine<D> {
     /// It looks at all garbage lists of versions, and at all that is kept of commits, so its time grows with both. Takes no memory.
     pub fn reclaim(&mut self)
         ensures keeps { KeepsStates self.old self.new }
-        ensures versions { (m : State) → StandsFor self.old m → IsReclaimed (versions_of self.old) (versions_of self.new) (open_begins m) }
-        ensures classified { (m : State) → StandsFor self.old m → AllByRecursion IsClassified (versions_of self.new).groups }
+        ensures versions { (m : State) → StandsFor self.old m
+            → IsReclaimed (versions_of self.old) (versions_of self.new) (open_begins m) }
+        ensures classified { (m : State) → StandsFor self.old m
+            → AllByRecursion IsClassified (versions_of self.new).groups }
         ensures forgotten { (m : State) → StandsFor self.old m → HasForgottenOld m (facts_of self.new) }
         ensures kept { KeepsNoneUpto (facts_of self.new).oldest (facts_of self.new) }
     {

@@ -22,7 +22,8 @@ impl<D: Sectors> Engine<D> {
         ensures opens { IfOk result (IsJustOpened (D.size dev)) }
         ensures runs { IfOk result (λ e. (has_engine_stopped e ≡ false) × Stayed (D.failures dev) (failures_of e)) }
         ensures refused { IfErr result (OpeningIsRefused D.Sectors dev) }
-        ensures short { D.size dev < 2 → IsErrAnd result (λ u. (u.fault ≡ LogFault.NotALog) ⊎ (u.fault ≡ LogFault.Device)) }
+        ensures short { D.size dev < 2
+            → IsErrAnd result (λ u. (u.fault ≡ LogFault.NotALog) ⊎ (u.fault ≡ LogFault.Device)) }
 
         // A log is opened with the map that its write sets make. Where each crash leaves some log, one is found.
         ensures finds { D.keeps_model → Finds D.Sectors dev result (λ u. u.fault) (IsStoreOf (D.size dev)) }

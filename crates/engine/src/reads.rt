@@ -24,7 +24,8 @@ impl<D: Sectors> Engine<D> {
     pub fn get(&mut self, s: u64, key: KeyRef<'_>) -> Result<Option<&[u8]>, ReadFault>
         ensures known { WhereOpen self.old s (λ m t. IsKnownKey m t key.entry.bytes.now → IsOk result) }
         ensures short { IfOk result (λ value. IfSome value (λ v. IsValue v.now)) }
-        ensures* after { sem 𝓛 (Rests (the_row D.row D.Sectors) self.entry (λ new. GetLeads self.old new s key.entry result)) }
+        ensures* after { sem 𝓛
+            (Rests (the_row D.row D.Sectors) self.entry (λ new. GetLeads self.old new s key.entry result)) }
     {
         let versions = self.history.versions();
         match self.running.get_mut(&s) {
@@ -47,7 +48,8 @@ impl<D: Sectors> Engine<D> {
         ensures known { WhereOpen self.old s (λ m t. IsKnownRange (copy_in m t) range.entry limit → IsOk result) }
         ensures few { IfOk result (λ rows. length (row_pairs rows) ≤ limit) }
         ensures in_bounds { IfOk result (λ rows. IsInBounds (row_pairs rows)) }
-        ensures* after { sem 𝓛 (Rests (the_row D.row D.Sectors) self.entry (λ new. RangeLeads self.old new s range.entry limit result)) }
+        ensures* after { sem 𝓛
+            (Rests (the_row D.row D.Sectors) self.entry (λ new. RangeLeads self.old new s range.entry limit result)) }
     {
         let versions = self.history.versions();
         match self.running.get_mut(&s) {

@@ -21,7 +21,8 @@ pub(crate) fn gather_begins(
 ) -> Gathered
     ensures count { result.count ≤ 64 }
     ensures oldest { IsLeast (λ t. t.begin) last (values running.now) result.oldest }
-    ensures numbers { length running.now.entries ≤ 64 → take result.count numbers.new ≡ map (λ t. t.begin) (values running.now) }
+    ensures numbers { length running.now.entries ≤ 64
+        → take result.count numbers.new ≡ map (λ t. t.begin) (values running.now) }
 {
     let mut count = 0;
     let mut oldest = last;

@@ -24,7 +24,8 @@ pub(crate) fn carry_out<D: Sectors>(
     ensures same { IsSameHistory history.old history.new }
     ensures ready { OnOk result (IsReady history.new transaction.now) }
     ensures logged { OnOk result (IsLogged log.old log.new transaction.now.writes) }
-    ensures stored { D.keeps_model → WhereStored log.old (λ map. OnOk result (IsStored log.new (after_writes map transaction.now.writes))) }
+    ensures stored { D.keeps_model
+        → WhereStored log.old (λ map. OnOk result (IsStored log.new (after_writes map transaction.now.writes))) }
     ensures fails { FailsToCarryOut log.old log.new transaction.now.writes result }
     ensures crash { D.keeps_model → SurvivesAppend log.old log.new transaction.now.writes }
 {

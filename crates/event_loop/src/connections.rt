@@ -78,7 +78,8 @@ fn make_ready(entry: &mut Entry<BufferedStream<Socket>>, reads_on: bool)
 /// Makes the entries ready that wait and that the poll reports, and no others. Those for which it reports urgent bytes, or that no more
 /// will come, are read until their streams block or end. Takes no memory.
 pub(crate) fn make_polled_ready(events: &Events, table: &mut Slab<Entry<BufferedStream<Socket>>>)
-    ensures { (key : ℕ) → slot_at table.new.slots key ≡ after_poll (items events.now) key (slot_at table.old.slots key) }
+    ensures { (key : ℕ)
+        → slot_at table.new.slots key ≡ after_poll (items events.now) key (slot_at table.old.slots key) }
 {
     for event in events {
         let Token(key) = event.token();
@@ -96,7 +97,8 @@ fn end_drive_at<D: Sectors>(
     table: &mut Slab<Entry<BufferedStream<Socket>>>,
     lingering: &mut Lingering,
 )
-    ensures { EndsAt (D.moment device.now) key table.old.slots (lingers_in lingering.old) table.new.slots (lingers_in lingering.new) }
+    ensures { EndsAt (D.moment device.now) key table.old.slots (lingers_in lingering.old) table.new.slots
+        (lingers_in lingering.new) }
 {
     let Some(entry) = table.get_mut(key) else {
         return;
@@ -119,7 +121,8 @@ pub(crate) fn end_drives<D: Sectors>(
     lingering: &mut Lingering,
 )
     ensures ended { EachEnds SocketsReport traffic_of (D.moment device.now) table.old.slots table.new.slots }
-    ensures left { EndAll (D.moment device.now) table.old.slots (lingers_in lingering.old) table.new.slots (lingers_in lingering.new) }
+    ensures left { EndAll (D.moment device.now) table.old.slots (lingers_in lingering.old) table.new.slots
+        (lingers_in lingering.new) }
 {
     for key in 0..table.capacity() {
         end_drive_at(device, poll, key, table, lingering);
@@ -143,8 +146,8 @@ pub fn accept_some<D: Sectors, L: Listener>(
     table: &mut Slab<Entry<BufferedStream<Socket>>>,
 ) -> Backlog
     requires { TableStands hub.old next.old table.old.slots }
-    ensures accepts { AcceptsInto IsNewSocket L.answers L.accepts hub.old next.old table.old.slots refused.old listener.old result
-        hub.new next.new table.new.slots refused.new listener.new }
+    ensures accepts { AcceptsInto IsNewSocket L.answers L.accepts hub.old next.old table.old.slots refused.old
+        listener.old result hub.new next.new table.new.slots refused.new listener.new }
     ensures table { TableStands hub.new next.new table.new.slots }
 {
     hub.law_runs_follow();
@@ -278,7 +281,8 @@ fn admit<D: Sectors>(
     refused: &mut u64,
     table: &mut Slab<Entry<BufferedStream<Socket>>>,
 )
-    ensures { Comes (IsNewSocket accepted) hub.old next.old table.old.slots refused.old hub.new next.new table.new.slots refused.new }
+    ensures { Comes (IsNewSocket accepted) hub.old next.old table.old.slots refused.old hub.new next.new table.new.slots
+        refused.new }
 {
     let answer = let_in(alloc, poll, accepted, hub, next, table);
     count_refusal(answer, refused);

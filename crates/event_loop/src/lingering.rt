@@ -53,7 +53,8 @@ impl Dropped {
 
 /// Reads at most so many bytes and drops them; each read is shown the device. Takes no memory.
 pub fn drop_input<D: Sectors, S: Stream>(device: &D, stream: &mut S, most: usize) -> Dropped
-    ensures received { S.reports → DropsUpTo result most (length (S.traffic stream.old).received) (length (S.traffic stream.new).received) }
+    ensures received { S.reports
+        → DropsUpTo result most (length (S.traffic stream.old).received) (length (S.traffic stream.new).received) }
     ensures goes_on { S.reports → IsBeginning (S.traffic stream.old).received (S.traffic stream.new).received }
     ensures sent { S.reports → (S.traffic stream.new).sent ≡ (S.traffic stream.old).sent }
     ensures departed { S.reports → DepartAt (D.moment device.now) (S.traffic stream.old) (S.traffic stream.new) }

@@ -86,7 +86,12 @@ impl Listener for Port {
 
     ghost answers = { AsksOnce };
 
-    ghost accepts = { λ p. record { asked = p.listener.accepts; accepted = p.accepted; blocked = p.blocked; failed = p.failed } };
+    ghost accepts = { λ p. record {
+      asked = p.listener.accepts;
+      accepted = p.accepted;
+      blocked = p.blocked;
+      failed = p.failed;
+    } };
 
     fn accept(&mut self) -> AcceptAnswer {
         let answer = accept_answer(self.listener.accept());

@@ -185,7 +185,8 @@ impl<D: Sectors> EventLoop<D> {
     /// What has left over all connections since the opening, those that a turn took out or closed among them, is kept in that run
     /// (`law_all_have_one_run`).
     pub fn turn(&mut self, timeout: Option<Duration>) -> io::Result<()>
-        ensures turned { OnOk result (IsTurn ⟦<Socket as Stream>⟧.reports ⟦<Socket as Stream>⟧.traffic self.old self.new) }
+        ensures turned { OnOk result
+            (IsTurn ⟦<Socket as Stream>⟧.reports ⟦<Socket as Stream>⟧.traffic self.old self.new) }
         ensures fault { OnErr result (IsUntouched self.old self.new) }
         ensures bytes { OnOk result (KeepBytes self.old.hub self.old.table.slots self.new.hub self.new.table.slots) }
         ensures waits { Waits timeout self.old result self.new }
@@ -281,7 +282,8 @@ impl<D: Sectors> EventLoop<D> {
     // Accepts connections, where the listener may hold more or the last poll reported it.
     fn accept_reported(&mut self)
         ensures accepts { Accepted (accepts_now self.old.backlog (items self.old.poller.events)) self.old self.new }
-        ensures lingerers { lingers_in self.new.lingering ≡ unless_failed self.new.backlog (lingers_in self.old.lingering) }
+        ensures lingerers { lingers_in self.new.lingering
+            ≡ unless_failed self.new.backlog (lingers_in self.old.lingering) }
         ensures poller { self.new.poller ≡ self.old.poller }
         ensures turns { self.new.turns ≡ self.old.turns }
     {
@@ -293,7 +295,8 @@ impl<D: Sectors> EventLoop<D> {
     // Accepts connections. After an accept that failed, perhaps because there were no more descriptors, none lingers.
     fn accept(&mut self)
         ensures accepts { Accepted true self.old self.new }
-        ensures lingerers { lingers_in self.new.lingering ≡ unless_failed self.new.backlog (lingers_in self.old.lingering) }
+        ensures lingerers { lingers_in self.new.lingering
+            ≡ unless_failed self.new.backlog (lingers_in self.old.lingering) }
         ensures poller { self.new.poller ≡ self.old.poller }
         ensures turns { self.new.turns ≡ self.old.turns }
     {

@@ -48,7 +48,8 @@ fn from_to(
 // 1 at the keys from `lo` to below `end`, and `at` at `end`, where that isn't below `lo`.
 fn span(alloc: Global, lo: KeyRef<'_>, end: KeyRef<'_>, at: u64) -> Result<VecDeque<Step>, Memory>
     ensures rising { IfOk result (λ v. IsTrue (steps_rise v.items)) }
-    ensures span { IfOk result (λ v. (k : Bytes) → number_at v.items k ≡ span_at lo.entry.bytes.now end.entry.bytes.now at k) }
+    ensures span { IfOk result
+        (λ v. (k : Bytes) → number_at v.items k ≡ span_at lo.entry.bytes.now end.entry.bytes.now at k) }
 {
     match lo.order(end) {
         Ordering::Less => from_to(alloc, lo, end, at),
@@ -60,7 +61,8 @@ fn span(alloc: Global, lo: KeyRef<'_>, end: KeyRef<'_>, at: u64) -> Result<VecDe
 // 1 at the keys that the mark covers, 0 at the others.
 fn steps_of_mark(alloc: Global, mark: MarkRef<'_>) -> Result<VecDeque<Step>, Memory>
     ensures rising { IfOk result (λ v. IsTrue (steps_rise v.items)) }
-    ensures covers { IfOk result (λ v. (k : Bytes) → number_at v.items k ≡ (if covers (lent_mark mark.entry) k then 1 else 0)) }
+    ensures covers { IfOk result
+        (λ v. (k : Bytes) → number_at v.items k ≡ (if covers (lent_mark mark.entry) k then 1 else 0)) }
 {
     match mark {
         MarkRef::Key(key) => from_on(alloc, key, 1, 0),
@@ -76,7 +78,8 @@ fn steps_of_mark(alloc: Global, mark: MarkRef<'_>) -> Result<VecDeque<Step>, Mem
 fn steps_of_first(alloc: Global, marks: &[OwnedMark]) -> Result<VecDeque<Step>, Memory>
     requires { length marks.now ≤ 1 }
     ensures rising { IfOk result (λ v. IsTrue (steps_rise v.items)) }
-    ensures covers { IfOk result (λ v. (k : Bytes) → number_at v.items k ≡ (if is_covered (marks_of marks.now) k then 1 else 0)) }
+    ensures covers { IfOk result
+        (λ v. (k : Bytes) → number_at v.items k ≡ (if is_covered (marks_of marks.now) k then 1 else 0)) }
 {
     match marks.first() {
         None => Ok(VecDeque::new(alloc)),
@@ -87,7 +90,8 @@ fn steps_of_first(alloc: Global, marks: &[OwnedMark]) -> Result<VecDeque<Step>, 
 // 1 at the keys that some mark covers, 0 at the others: each half of the marks by itself, and then both as one.
 pub(crate) fn steps_of(alloc: Global, marks: &[OwnedMark]) -> Result<VecDeque<Step>, Memory>
     ensures rising { IfOk result (λ v. IsTrue (steps_rise v.items)) }
-    ensures covers { IfOk result (λ v. (k : Bytes) → number_at v.items k ≡ (if is_covered (marks_of marks.now) k then 1 else 0)) }
+    ensures covers { IfOk result
+        (λ v. (k : Bytes) → number_at v.items k ≡ (if is_covered (marks_of marks.now) k then 1 else 0)) }
 {
     if marks.len() <= 1 {
         return steps_of_first(alloc, marks);

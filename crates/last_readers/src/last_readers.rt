@@ -109,7 +109,8 @@ impl LastReaders {
     /// both. Where memory for these is refused, it counts the refusal, and the two stay.
     pub fn reserve(&mut self, marks: &Marks) -> Result<(), Memory>
         ensures readers { AnswerAlike self.old.readers self.new.readers }
-        ensures tried { IsTried (are_alike self.old.readers.oldest) self.old.runs self.new.runs self.old.refused self.new.refused }
+        ensures tried { IsTried (are_alike self.old.readers.oldest) self.old.runs self.new.runs self.old.refused
+            self.new.refused }
         ensures room { OnOk result (HasReadersRoom marks.now self.new.room) }
     {
         self.runs.reserve(self.oldest)?;
@@ -123,7 +124,8 @@ impl LastReaders {
         requires later { self.old.readers.oldest < n }
         requires upto { AreUpto n self.old.readers }
         requires room { HasSomeReadersRoom self.old.room }
-        ensures noted { (marks : List Mark) → HasReadersRoom marks self.old.room → IsNoted marks n self.old.readers self.new.readers }
+        ensures noted { (marks : List Mark) → HasReadersRoom marks self.old.room
+            → IsNoted marks n self.old.readers self.new.readers }
         ensures upto { AreUpto n self.new.readers }
         ensures oldest { self.new.readers.oldest ≡ self.old.readers.oldest }
         ensures run { AddsRun n result self.old self.new }
@@ -148,7 +150,8 @@ impl LastReaders {
         requires later { self.old.readers.oldest < n }
         requires upto { AreUpto n self.old.readers }
         requires room { HasSomeReadersRoom self.old.room }
-        ensures noted { (marks : List Mark) → HasReadersRoom marks self.old.room → IsNoted marks n self.old.readers self.new.readers }
+        ensures noted { (marks : List Mark) → HasReadersRoom marks self.old.room
+            → IsNoted marks n self.old.readers self.new.readers }
         ensures upto { AreUpto n self.new.readers }
         ensures oldest { self.new.readers.oldest ≡ self.old.readers.oldest }
         ensures moved { AddsRunAndMerges n self.old self.new }
@@ -164,10 +167,12 @@ impl LastReaders {
         ensures forgotten { IsForgotten oldest self.old.readers self.new.readers }
         ensures upto { (n : ℕ) → AreUpto n self.old.readers → AreUpto n self.new.readers }
         ensures oldest { self.new.readers.oldest ≡ max self.old.readers.oldest oldest }
-        ensures garbage { garbage_of_readers self.new ≡ garbage_upto self.new.readers.oldest self.old.held - freed_a_forget }
+        ensures garbage { garbage_of_readers self.new
+            ≡ garbage_upto self.new.readers.oldest self.old.held - freed_a_forget }
         ensures still { result ≡ nat_lt 0 (garbage_of_readers self.new) }
         ensures named { result ≡ false → NameNoneUpto self.new.readers.oldest self.new.readers }
-        ensures merges { LeavesMerges self.new.readers.oldest self.old.runs self.new.runs self.old.refused self.new.refused }
+        ensures merges { LeavesMerges self.new.readers.oldest self.old.runs self.new.runs self.old.refused
+            self.new.refused }
     {
         self.oldest = self.oldest.max(oldest);
         self.runs.forget_step(self.oldest)
@@ -181,7 +186,8 @@ impl LastReaders {
         ensures oldest { self.new.readers.oldest ≡ max self.old.readers.oldest oldest }
         ensures garbage { garbage_of_readers self.new ≡ 0 }
         ensures named { NameNoneUpto self.new.readers.oldest self.new.readers }
-        ensures merges { LeavesMerges self.new.readers.oldest self.old.runs self.new.runs self.old.refused self.new.refused }
+        ensures merges { LeavesMerges self.new.readers.oldest self.old.runs self.new.runs self.old.refused
+            self.new.refused }
     {
         self.oldest = self.oldest.max(oldest);
         self.runs.forget(self.oldest);

@@ -113,10 +113,11 @@ pub(crate) fn move_greatest(
     requires rising { RiseBefore first.old.items second.old.items to.old.items }
     requires some { 0 < deque_len first.old + deque_len second.old }
     requires room { deque_len to.old < deque_capacity to.old }
-    ensures moved { MovesGreatest oldest first.new.items second.new.items to.new.items first.old.items second.old.items to.old.items }
+    ensures moved { MovesGreatest oldest first.new.items second.new.items to.new.items first.old.items second.old.items
+        to.old.items }
     ensures rising { RiseBefore first.new.items second.new.items to.new.items }
-    ensures step { MakesOneStep (deque_len first.old + deque_len second.old) (deque_len first.new + deque_len second.new)
-        (deque_len to.old) (deque_len to.new) }
+    ensures step { MakesOneStep (deque_len first.old + deque_len second.old)
+        (deque_len first.new + deque_len second.new) (deque_len to.old) (deque_len to.new) }
     ensures capacity { deque_capacity to.new ≡ deque_capacity to.old }
 {
     let step = take_greatest(first, second, oldest);
@@ -143,7 +144,8 @@ pub(crate) fn merge(
     requires none { deque_len places ≡ 0 }
     requires room { deque_len first + deque_len second ≤ deque_capacity places }
     ensures rising { IsTrue (steps_rise result.items) }
-    ensures later { (k : Bytes) → number_at result.items k ≡ later 0 (number_at first.items k) (number_at second.items k) }
+    ensures later { (k : Bytes)
+        → number_at result.items k ≡ later 0 (number_at first.items k) (number_at second.items k) }
 {
     'steps: while !are_empty(&first, &second) {
         move_greatest(&mut first, &mut second, &mut places, 0);

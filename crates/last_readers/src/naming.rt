@@ -17,7 +17,8 @@ fn next_in(step: &Step, found: Option<u64>, n: u64) -> Option<u64>
 
 // The same for several steps.
 pub(crate) fn next_named(steps: &VecDeque<Step>, found: Option<u64>, n: u64) -> Option<u64>
-    ensures { (p : ℕ → Bool) → IsNext p n found → IsNext (λ k. p k || list_any (λ s. names s k) steps.now.items) n result }
+    ensures { (p : ℕ → Bool) → IsNext p n found
+        → IsNext (λ k. p k || list_any (λ s. names s k) steps.now.items) n result }
 {
     let mut found = found;
     for i in 0..steps.len() {

@@ -46,7 +46,8 @@ fn renumber(steps: &mut VecDeque<Step>, number: u64)
 impl ReadRun {
     // What was made ready, read by the commit with this number.
     pub(crate) fn numbered(ready: Ready, number: u64) -> ReadRun
-        ensures numbers { AreNumbered number result.first.items result.second.items result.made.items ready.steps.items }
+        ensures numbers { AreNumbered number result.first.items result.second.items result.made.items
+            ready.steps.items }
         ensures last { result.last ≡ number }
         ensures left { deque_len result.first + deque_len result.second ≡ 0 }
         ensures made { deque_len result.made ≡ deque_len ready.steps }
@@ -65,7 +66,8 @@ impl ReadRun {
 
     // The number at the key. A binary search, and three while it is being made of two.
     pub(crate) fn number(&self, key: KeyRef<'_>) -> u64
-        ensures { result ≡ merged_at self.now.first.items self.now.second.items self.now.made.items key.entry.bytes.now }
+        ensures { result
+            ≡ merged_at self.now.first.items self.now.second.items self.now.made.items key.entry.bytes.now }
     {
         let below = number_from(&self.first, 0, key).max(number_from(&self.second, 0, key));
         number_from(&self.made, below, key)

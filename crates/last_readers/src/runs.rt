@@ -48,7 +48,8 @@ fn free_room(first: &mut VecDeque<Step>, second: &mut VecDeque<Step>)
     ensures first { first.new.items ≡ first.old.items }
     ensures second { second.new.items ≡ second.old.items }
     ensures lens { deque_len first.new + deque_len second.new ≡ deque_len first.old + deque_len second.old }
-    ensures room { deque_len first.old + deque_len second.old ≡ 0 → deque_capacity first.new + deque_capacity second.new ≡ 0 }
+    ensures room { deque_len first.old + deque_len second.old ≡ 0
+        → deque_capacity first.new + deque_capacity second.new ≡ 0 }
 {
     if are_empty(first, second) {
         first.shrink_to_fit();

@@ -31,7 +31,8 @@ impl Model for Entry {
     ghost view = { λ e. e.write };
 
     ghost invariant = { λ e.
-        (e.high ≡ head 8 e.write.0) × (e.low ≡ head 8 (drop 8 e.write.0)) × AreBytes e.write.0 × IfSome e.write.1 IsValue };
+        (e.high ≡ head 8 e.write.0) × (e.low ≡ head 8 (drop 8 e.write.0)) × AreBytes e.write.0
+        × IfSome e.write.1 IsValue };
 }
 
 impl Entry {

@@ -68,7 +68,8 @@ impl Marks {
     pub fn add_key(&mut self, key: KeyRef<'_>) -> Result<(), MarksFault>
         ensures ok { OnOk result (self.new ≡ with_mark self.old (OfKey key.entry.bytes.now)) }
         ensures err { OnErr result (self.new ≡ self.old) }
-        ensures full { (result ≡ Err MarksFault.FullMarks) ↔ IsTrue (is_full_for_mark self.old (OfKey key.entry.bytes.now)) }
+        ensures full { (result ≡ Err MarksFault.FullMarks)
+            ↔ IsTrue (is_full_for_mark self.old (OfKey key.entry.bytes.now)) }
         ensures known { IsTrue (has_mark self.old (OfKey key.entry.bytes.now)) → IsOk result }
     {
         if self.has_key(key) {
@@ -88,7 +89,8 @@ impl Marks {
     pub fn add_range(&mut self, range: RangeRef<'_>) -> Result<(), MarksFault>
         ensures ok { OnOk result (self.new ≡ with_mark self.old (range_mark range.entry)) }
         ensures err { OnErr result (self.new ≡ self.old) }
-        ensures full { (result ≡ Err MarksFault.FullMarks) ↔ IsTrue (is_full_for_mark self.old (range_mark range.entry)) }
+        ensures full { (result ≡ Err MarksFault.FullMarks)
+            ↔ IsTrue (is_full_for_mark self.old (range_mark range.entry)) }
         ensures known { IsTrue (has_mark self.old (range_mark range.entry)) → IsOk result }
     {
         if self.has_range(range) {
@@ -110,7 +112,8 @@ impl Marks {
         requires { IsTrue (is_le (key_cmp lo.bytes.now last.bytes.now)) }
         ensures ok { OnOk result (self.new ≡ with_mark self.old (closed_range_mark lo.entry last.entry)) }
         ensures err { OnErr result (self.new ≡ self.old) }
-        ensures full { (result ≡ Err MarksFault.FullMarks) ↔ IsTrue (is_full_for_mark self.old (closed_range_mark lo.entry last.entry)) }
+        ensures full { (result ≡ Err MarksFault.FullMarks)
+            ↔ IsTrue (is_full_for_mark self.old (closed_range_mark lo.entry last.entry)) }
         ensures known { IsTrue (has_mark self.old (closed_range_mark lo.entry last.entry)) → IsOk result }
     {
         if self.has_upto(lo, last) {

@@ -11,8 +11,10 @@ fn open_at<R: Run>(runs: &mut Vec<R>, place: usize, oldest: u64, refused: &mut u
     requires some { 0 < place }
     requires within { place < vec_len runs.old }
     ensures agree { R.agree oldest runs.new.items runs.old.items }
-    ensures alike { EndsIf result (R.alike oldest) (map R.sizes runs.old.items) (map R.sizes runs.new.items) refused.old refused.new }
-    ensures none { result ≡ false → has_alike (R.alike oldest) (take 2 (drop (place - 1) (map R.sizes runs.old.items))) ≡ false }
+    ensures alike { EndsIf result (R.alike oldest) (map R.sizes runs.old.items) (map R.sizes runs.new.items) refused.old
+        refused.new }
+    ensures none { result ≡ false
+        → has_alike (R.alike oldest) (take 2 (drop (place - 1) (map R.sizes runs.old.items))) ≡ false }
     ensures stays { result ≡ false → runs.new ≡ runs.old }
     ensures refused { result ≡ false → refused.new ≡ refused.old }
 {
@@ -33,7 +35,8 @@ fn open_at<R: Run>(runs: &mut Vec<R>, place: usize, oldest: u64, refused: &mut u
 // and the runs stay.
 pub(crate) fn open_last<R: Run>(runs: &mut Vec<R>, oldest: u64, refused: &mut u64)
     ensures agree { R.agree oldest runs.new.items runs.old.items }
-    ensures tried { IsTried (R.alike oldest) (map R.sizes runs.old.items) (map R.sizes runs.new.items) refused.old refused.new }
+    ensures tried { IsTried (R.alike oldest) (map R.sizes runs.old.items) (map R.sizes runs.new.items) refused.old
+        refused.new }
 {
     for after in 1..runs.len() {
         let place = runs.len() - after;

@@ -26,7 +26,8 @@ pub(crate) fn take_old<R: Run>(runs: &mut Vec<R>, oldest: u64) -> Option<R>
     ensures none { result ≡ None → size_old R.from R.sizes R.held oldest runs.new.items ≡ 0 }
     ensures size { size_old R.from R.sizes R.held oldest runs.old.items
         ≡ size_of R.held result + size_old R.from R.sizes R.held oldest runs.new.items }
-    ensures partial { size_partial R.from R.sizes R.held oldest runs.new.items ≡ size_partial R.from R.sizes R.held oldest runs.old.items }
+    ensures partial { size_partial R.from R.sizes R.held oldest runs.new.items
+        ≡ size_partial R.from R.sizes R.held oldest runs.old.items }
     ensures left { left_above oldest (map R.sizes runs.new.items) ≡ left_above oldest (map R.sizes runs.old.items) }
 {
     match first_old(runs, oldest) {

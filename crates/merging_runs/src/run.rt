@@ -117,7 +117,8 @@ pub trait Run: Drop {
     ghost through: { (o : ℕ) (xs ys zs : List Self) → agree o xs ys → agree o ys zs → agree o xs zs };
 
     /// So they do between others.
-    ghost between: { (o : ℕ) (front xs ys rest : List Self) → agree o xs ys → agree o (front ++ (xs ++ rest)) (front ++ (ys ++ rest)) };
+    ghost between: { (o : ℕ) (front xs ys rest : List Self) → agree o xs ys
+        → agree o (front ++ (xs ++ rest)) (front ++ (ys ++ rest)) };
 
     /// A run without a number above that one answers as none.
     ghost old: { (o : ℕ) (r : Self) → (sizes r).last ≤ o → agree o [] (r ∷ []) };

@@ -49,7 +49,11 @@ impl<R: Run> Model for Runs<R> {
       runs = s.runs.items;
       places = vec_capacity s.runs - vec_len s.runs;
       sizes = map R.sizes s.runs.items;
-      held = record { runs = map (held_of R.from R.sizes R.held) s.runs.items; taken = taken_of R.Stale.left s.stale; credit = s.credit };
+      held = record {
+        runs = map (held_of R.from R.sizes R.held) s.runs.items;
+        taken = taken_of R.Stale.left s.stale;
+        credit = s.credit;
+      };
       refused = s.refused;
     } };
 
@@ -90,7 +94,8 @@ impl<R: Run> Runs<R> {
     /// The number above `n` that was found, or the least above `n` that an element of a run has, where that is less. It looks at each
     /// element, and takes no memory.
     pub fn next_number(&self, found: Option<u64>, n: u64) -> Option<u64>
-        ensures { (p : ℕ → Bool) → IsNext p n found → IsNext (λ k. p k || list_any (λ r. R.has r k) self.now.runs) n result }
+        ensures { (p : ℕ → Bool) → IsNext p n found
+            → IsNext (λ k. p k || list_any (λ r. R.has r k) self.now.runs) n result }
     {
         next_in(self.runs.as_slice(), found, n)
     }

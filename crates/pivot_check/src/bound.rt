@@ -39,7 +39,8 @@ impl Bound {
     // The same bound, of postings that all have a number above this one.
     pub(crate) fn above(self, oldest: u64) -> Bound
         requires { oldest < 2 ^ 64 - 1 }
-        ensures postings { (p : Posting) → oldest < p.number → IsTrue (is_from_bound self p) → IsTrue (is_from_bound result p) }
+        ensures postings { (p : Posting) → oldest < p.number → IsTrue (is_from_bound self p)
+            → IsTrue (is_from_bound result p) }
         ensures number { oldest < result.number }
     {
         Bound {
@@ -74,7 +75,8 @@ impl Bound {
     // May a posting of this bound that is asked for, above `begin`, have a number up to `most`?
     pub(crate) fn allows(self, most: u64, begin: u64, flagged: bool) -> bool
         ensures allows { result ≡ allows self most begin flagged }
-        ensures none { result ≡ false → (p : Posting) → is_from_bound self p ≡ true → is_asked begin flagged p ≡ true → most < p.number }
+        ensures none { result ≡ false → (p : Posting) → is_from_bound self p ≡ true → is_asked begin flagged p ≡ true
+            → most < p.number }
     {
         let least = if flagged { self.flagged } else { self.number };
         begin < most && begin < self.last && least <= most

@@ -50,7 +50,12 @@ impl Model for Committed {
     ghost Value = { CommittedValue };
 
     ghost view = { λ c. record {
-      facts = record { readers = c.readers.readers; postings = postings_in c.runs.runs; oldest = c.oldest; last = c.last };
+      facts = record {
+        readers = c.readers.readers;
+        postings = postings_in c.runs.runs;
+        oldest = c.oldest;
+        last = c.last;
+      };
       room = record { readers = c.readers.room; runs = c.runs.places; ready = ready_keys c.ready };
       held = record { readers = c.readers.held; written = c.runs.held; sizes = c.runs.sizes; refused = c.runs.refused };
     } };

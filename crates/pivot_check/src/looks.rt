@@ -129,7 +129,8 @@ impl Part {
         requires order { span.first ≤ span.end }
         requires within { span.end ≤ length self.now.written.items }
         requires looked { IsLooked looked begin flagged self.now.written.items }
-        ensures found { result.found ≡ lesser looked.found (least (is_asked begin flagged) (in_span span self.now.written.items)) }
+        ensures found { result.found
+            ≡ lesser looked.found (least (is_asked begin flagged) (in_span span self.now.written.items)) }
         ensures looked { IsLooked result begin flagged self.now.written.items }
     {
         let seen = looked.seen;
@@ -155,7 +156,8 @@ impl Part {
     // Looks at the postings that the mark covers.
     fn look(&self, mark: MarkRef<'_>, looked: Looked, begin: u64, flagged: bool) -> Looked
         requires { IsLooked looked begin flagged self.now.written.items }
-        ensures found { result.found ≡ lesser looked.found (least (asked_of (lent_mark mark.entry) begin flagged) (live self.now)) }
+        ensures found { result.found
+            ≡ lesser looked.found (least (asked_of (lent_mark mark.entry) begin flagged) (live self.now)) }
         ensures looked { IsLooked result begin flagged self.now.written.items }
     {
         if !self.may_lower(looked.found, begin, flagged) {
@@ -174,7 +176,8 @@ impl Part {
         flagged: bool,
     ) -> Looked
         requires { IsLooked looked begin flagged self.now.written.items }
-        ensures found { result.found ≡ lesser looked.found (least (asked_there (marks_of marks.now) place begin flagged) (live self.now)) }
+        ensures found { result.found
+            ≡ lesser looked.found (least (asked_there (marks_of marks.now) place begin flagged) (live self.now)) }
         ensures looked { IsLooked result begin flagged self.now.written.items }
     {
         match marks.get(place as usize) {
@@ -191,7 +194,8 @@ impl Part {
         begin: u64,
         flagged: bool,
     ) -> Option<u64>
-        ensures { result ≡ lesser found (least (covered_of (marks_of order.now.marks.now) begin flagged) (live self.now)) }
+        ensures { result
+            ≡ lesser found (least (covered_of (marks_of order.now.marks.now) begin flagged) (live self.now)) }
     {
         if !self.may_lower(found, begin, flagged) {
             return found;

@@ -37,7 +37,8 @@ fn free_room(run: &mut WrittenRun)
     ensures same { (c : Posting → Bool) → least c (in_run run.new) ≡ least c (in_run run.old) }
     ensures from { (o : ℕ) → o < 2 ^ 64 - 1 → o < number_bound run.old → o < number_bound run.new }
     ensures held { postings_held run.new ≤ postings_held run.old }
-    ensures room { (written_run_size run.new).left ≡ 0 → vec_capacity run.new.first.written + vec_capacity run.new.second.written ≡ 0 }
+    ensures room { (written_run_size run.new).left ≡ 0
+        → vec_capacity run.new.first.written + vec_capacity run.new.second.written ≡ 0 }
 {
     if run.first.len() > 0 || run.second.len() > 0 {
         return;

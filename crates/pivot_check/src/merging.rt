@@ -42,7 +42,8 @@ pub(crate) fn move_least(first: &mut Part, second: &mut Part, to: &mut Part)
     requires rising { RiseBehind to.old first.old second.old }
     requires some { 0 < left first.old + left second.old }
     requires room { length to.old.written.items < vec_capacity to.old.written }
-    ensures same { (c : Posting → Bool) → least c (live_in to.new first.new second.new) ≡ least c (live_in to.old first.old second.old) }
+    ensures same { (c : Posting → Bool)
+        → least c (live_in to.new first.new second.new) ≡ least c (live_in to.old first.old second.old) }
     ensures rising { RiseBehind to.new first.new second.new }
     ensures moved { TakesPosting (left first.old + left second.old) (left first.new + left second.new) to.old to.new }
 {

@@ -68,7 +68,8 @@ impl Part {
     // Takes the first of what is left, of which there is some.
     pub(crate) fn take_first(&mut self) -> Written
         requires { self.old.start < length self.old.written.items }
-        ensures taken { drop self.old.start self.old.written.items ≡ result ∷ drop self.new.start self.new.written.items }
+        ensures taken { drop self.old.start self.old.written.items ≡ result
+            ∷ drop self.new.start self.new.written.items }
         ensures start { self.new.start ≡ self.old.start + 1 }
         ensures len { length self.new.written.items ≡ length self.old.written.items }
     {
@@ -84,8 +85,8 @@ impl Part {
         ensures start { self.new.start ≡ self.old.start }
         ensures bound { self.new.bound ≡ self.old.bound }
         ensures room { vec_capacity self.new.bounds ≡ vec_capacity self.old.bounds }
-        ensures bounds { length self.new.bounds.items
-            ≡ bound_count (length self.old.written.items) (vec_capacity self.old.bounds) (length self.old.bounds.items) }
+        ensures bounds { length self.new.bounds.items ≡ bound_count (length self.old.written.items)
+            (vec_capacity self.old.bounds) (length self.old.bounds.items) }
     {
         let first = BLOCK * self.bounds.len();
         if self.written.len() - first >= BLOCK && self.bounds.len() < self.bounds.capacity() {
@@ -98,11 +99,12 @@ impl Part {
     pub(crate) fn push(&mut self, written: Written)
         requires rising { IsTrue (keys_rise (drop self.old.start self.old.written.items ++ written ∷ [])) }
         requires room { length self.old.written.items < vec_capacity self.old.written }
-        ensures added { drop self.new.start self.new.written.items ≡ drop self.old.start self.old.written.items ++ written ∷ [] }
+        ensures added { drop self.new.start self.new.written.items ≡ drop self.old.start self.old.written.items
+            ++ written ∷ [] }
         ensures start { self.new.start ≡ self.old.start }
         ensures len { length self.new.written.items ≡ length self.old.written.items + 1 }
-        ensures bounds { length self.new.bounds.items
-            ≡ bound_count (length self.old.written.items + 1) (vec_capacity self.old.bounds) (length self.old.bounds.items) }
+        ensures bounds { length self.new.bounds.items ≡ bound_count (length self.old.written.items + 1)
+            (vec_capacity self.old.bounds) (length self.old.bounds.items) }
         ensures capacity { vec_capacity self.old.written ≤ vec_capacity self.new.written }
     {
         self.bound = self.bound.with(&written);
@@ -116,7 +118,8 @@ impl Part {
         ensures written { self.new.written ≡ self.old.written }
         ensures start { self.new.start ≡ self.old.start }
         ensures bound { self.new.bound ≡ self.old.bound }
-        ensures bounds { length self.new.bounds.items ≡ min (length self.old.written.items / 64) (vec_capacity self.old.bounds) }
+        ensures bounds { length self.new.bounds.items
+            ≡ min (length self.old.written.items / 64) (vec_capacity self.old.bounds) }
     {
         for _block in 0..self.written.len() / BLOCK {
             self.add_bound();
@@ -127,10 +130,12 @@ impl Part {
     pub(crate) fn sweep(&mut self, oldest: u64)
         requires { oldest < 2 ^ 64 - 1 }
         ensures written { self.new.written.items ≡ later_than oldest self.old.written.items }
-        ensures left { drop self.new.start self.new.written.items ≡ later_than oldest (drop self.old.start self.old.written.items) }
+        ensures left { drop self.new.start self.new.written.items
+            ≡ later_than oldest (drop self.old.start self.old.written.items) }
         ensures number { oldest < self.new.bound.number }
         ensures capacity { vec_capacity self.new.written ≡ vec_capacity self.old.written }
-        ensures bounds { length self.new.bounds.items ≡ min (length self.new.written.items / 64) (vec_capacity self.old.bounds) }
+        ensures bounds { length self.new.bounds.items
+            ≡ min (length self.new.written.items / 64) (vec_capacity self.old.bounds) }
     {
         let start = count_later(&self.written[..self.start], oldest);
         self.bounds.clear();

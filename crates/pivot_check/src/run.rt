@@ -45,7 +45,8 @@ impl WrittenRun {
     pub(crate) fn of(written: Vec<Written>, last: u64) -> WrittenRun
         requires rising { IsTrue (keys_rise written.items) }
         requires upto { IsTrue (are_upto last written.items) }
-        ensures same { (c : Posting → Bool) → least c (live_in result.made result.first result.second) ≡ least c written.items }
+        ensures same { (c : Posting → Bool)
+            → least c (live_in result.made result.first result.second) ≡ least c written.items }
         ensures last { result.last ≡ last }
         ensures left { left result.first + left result.second ≡ 0 }
         ensures made { left result.made ≡ length written.items }

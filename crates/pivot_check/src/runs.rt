@@ -41,7 +41,8 @@ impl WrittenRun {
         begin: u64,
         flagged: bool,
     ) -> Option<u64>
-        ensures { result ≡ lesser found (least (covered_of (marks_of order.now.marks.now) begin flagged) (in_run self.now)) }
+        ensures { result
+            ≡ lesser found (least (covered_of (marks_of order.now.marks.now) begin flagged) (in_run self.now)) }
     {
         let in_made = self.made.least_covered(order, found, begin, flagged);
         let in_first = self.first.least_covered(order, in_made, begin, flagged);

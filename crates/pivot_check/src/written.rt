@@ -116,7 +116,8 @@ pub(crate) fn least_number(
 
 // The number above `n` that was found, or the least of the postings above it where that is less.
 pub(crate) fn next_written(postings: &[Written], found: Option<u64>, n: u64) -> Option<u64>
-    ensures { (p : ℕ → Bool) → IsNext p n found → IsNext (λ k. p k || list_any (λ q. k == q.number) postings.now) n result }
+    ensures { (p : ℕ → Bool) → IsNext p n found
+        → IsNext (λ k. p k || list_any (λ q. k == q.number) postings.now) n result }
 {
     let mut found = found;
     for posting in postings {
@@ -187,7 +188,8 @@ fn add_written(postings: &mut Vec<Written>, key: Key, number: u64, has_earlier_t
     ensures len { vec_len postings.new ≡ vec_len postings.old + 1 }
     ensures rising { IsTrue (keys_rise postings.new.items) }
     ensures added { CountBoth postings.new.items postings.old.items (postings_by number has_earlier_target (key ∷ [])) }
-    ensures spare { vec_capacity postings.old - vec_len postings.old ≤ vec_capacity postings.new - vec_len postings.new + 1 }
+    ensures spare { vec_capacity postings.old - vec_len postings.old ≤ vec_capacity postings.new - vec_len postings.new
+        + 1 }
 {
     let place = end_of(postings, key.lend());
     let written = Written {

@@ -32,7 +32,8 @@ pub(crate) enum Stop {
 /// The number from 0 to `max` that these bytes are the decimal of, with no leading zero; None where they are of none. Takes no memory.
 pub fn read_decimal(digits: &[u8], max: usize) -> Option<usize>
     requires { max < 2 ^ 32 }
-    ensures { MatchOption result ((n : ℕ) → n ≤ max → digits.now ≡ decimal n → ⊥) (λ n. (n ≤ max) × (digits.now ≡ decimal n)) }
+    ensures { MatchOption result ((n : ℕ) → n ≤ max → digits.now ≡ decimal n → ⊥)
+        (λ n. (n ≤ max) × (digits.now ≡ decimal n)) }
 {
     let mut value = 0;
     for (i, digit) in digits.iter().enumerate() {
@@ -80,7 +81,8 @@ fn after_line_end(bytes: &[u8]) -> Result<&[u8], Stop>
 fn digits_at(bytes: &[u8]) -> usize
     ensures within { result ≤ length bytes.now }
     ensures digits { (k : ℕ) → k < result → (48 ≤ slice_index bytes.now k) × (slice_index bytes.now k ≤ 57) }
-    ensures all { result < length bytes.now → (48 ≤ slice_index bytes.now result) → (slice_index bytes.now result ≤ 57) → ⊥ }
+    ensures all { result < length bytes.now → (48 ≤ slice_index bytes.now result) → (slice_index bytes.now result ≤ 57)
+        → ⊥ }
 {
     for (i, b) in bytes.iter().enumerate() {
         if *b < b'0' || *b > b'9' {
@@ -160,7 +162,8 @@ pub fn decode(input: &[u8]) -> Decoded<'_>
     // More exactly where the input and at least one more byte spell a request.
     ensures more { IsMore result ↔ IsProperBeginning input.now }
     // Bad in every other case.
-    ensures bad { IsBad result ↔ (((parts : List (List ℕ)) (n : ℕ) → ¬ FrontSpells input.now n parts) × ¬ IsProperBeginning input.now) }
+    ensures bad { IsBad result
+        ↔ (((parts : List (List ℕ)) (n : ℕ) → ¬ FrontSpells input.now n parts) × ¬ IsProperBeginning input.now) }
 {
     match request_at(input) {
         Ok((request, rest)) => Decoded::Whole(request, input.len() - rest.len()),

@@ -211,7 +211,8 @@ pub fn write_pairs<'a, I: Iterator<Item = (KeyRef<'a>, &'a [u8])> + Drop>(
     // A refusal leaves the bytes as they were.
     ensures err { OnErr result (out.new.items ≡ out.old.items) }
     // A text that fits the room left is never refused.
-    ensures room { OfText I.next_gives pairs n (λ text. vec_len out.old + length text ≤ vec_capacity out.old → IsOk result) }
+    ensures room { OfText I.next_gives pairs n
+        (λ text. vec_len out.old + length text ≤ vec_capacity out.old → IsOk result) }
     // No room is lost.
     ensures capacity { vec_capacity out.old ≤ vec_capacity out.new }
 {

@@ -72,7 +72,8 @@ impl<D: Sectors> Script<D> {
         reader: &mut R,
         out: &mut O,
     ) -> Result<(), ScriptFault>
-        ensures { AtScene self.old (λ scene. PlaysKnown scene (R.remaining reader.old) result (O.contents out.old) (O.contents out.new)) }
+        ensures { AtScene self.old
+            (λ scene. PlaysKnown scene (R.remaining reader.old) result (O.contents out.old) (O.contents out.new)) }
     {
         let mut text = Vec::new(alloc);
         for number in 1..u64::MAX {
@@ -92,7 +93,8 @@ impl<D: Sectors> Script<D> {
         text: &[u8],
         out: &mut O,
     ) -> Result<(), ScriptFault>
-        ensures { AtScene self.old (λ scene. RunsText scene number text.now result self.new (O.contents out.old) (O.contents out.new)) }
+        ensures { AtScene self.old
+            (λ scene. RunsText scene number text.now result self.new (O.contents out.old) (O.contents out.new)) }
     {
         if text.is_empty() {
             return Ok(());
@@ -131,7 +133,8 @@ impl<D: Sectors> Script<D> {
         line: &Line<'_>,
         out: &mut O,
     ) -> Result<(), ScriptFault>
-        ensures { AtScene self.old (λ here. RunsLine here session line.now result self.new (O.contents out.old) (O.contents out.new)) }
+        ensures { AtScene self.old
+            (λ here. RunsLine here session line.now result self.new (O.contents out.old) (O.contents out.new)) }
     {
         match self.hub.status(session) {
             Status::Open => {}

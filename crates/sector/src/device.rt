@@ -98,9 +98,12 @@ pub trait Sectors: Drop {
         ensures size { size self.new ≡ size self.old }
         ensures failures { AreCounted (length from.now / 512) result (failures self.old) (failures self.new) }
         ensures written { keeps_model → OnOk result (ReadsBytes (may_read self.new) at from.now) }
-        ensures others { keeps_model → ReadsNoMoreOutside at (length from.now / 512) (may_read self.old) (may_read self.new) }
-        ensures crash { keeps_model → LeavesNoMore (FollowsBytes at from.now (may_leave self.old)) (may_leave self.new) }
-        ensures time { keeps_model → TimeGoesOn moment left_since self.old self.new (FollowsBytes at from.now (may_leave self.old)) }
+        ensures others { keeps_model
+            → ReadsNoMoreOutside at (length from.now / 512) (may_read self.old) (may_read self.new) }
+        ensures crash { keeps_model
+            → LeavesNoMore (FollowsBytes at from.now (may_leave self.old)) (may_leave self.new) }
+        ensures time { keeps_model
+            → TimeGoesOn moment left_since self.old self.new (FollowsBytes at from.now (may_leave self.old)) }
     {
         for k in 0..from.len() / SECTOR_SIZE {
             let mut sector = [0; 512];
@@ -123,7 +126,8 @@ pub trait Sectors: Drop {
     ghost leaves_all: { keeps_model → (d : Self) (c : List (List ℕ)) → may_leave d c → length c ≡ size d };
 
     /// A crash now is one since an earlier moment.
-    ghost counts_now: { keeps_model → (d : Self) (t : ℕ) (c : List (List ℕ)) → t ≤ moment d → may_leave d c → left_since d t c };
+    ghost counts_now: { keeps_model → (d : Self) (t : ℕ) (c : List (List ℕ)) → t ≤ moment d → may_leave d c
+        → left_since d t c };
 
     /// A crash since this moment leaves what a crash now may leave.
     ghost only_now: { keeps_model → (d : Self) (c : List (List ℕ)) → left_since d (moment d) c → may_leave d c };

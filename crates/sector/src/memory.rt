@@ -162,7 +162,8 @@ impl MemSectors {
         ensures slots { self.new.slots ≡ self.old.slots }
         ensures fails { IsTrue result ↔ FailsNext self.old }
         ensures next { CountsDown self.old self.new }
-        ensures failures { MatchBool result (Rose self.old.failures self.new.failures) (Stayed self.old.failures self.new.failures) }
+        ensures failures { MatchBool result (Rose self.old.failures self.new.failures)
+            (Stayed self.old.failures self.new.failures) }
     {
         if self.failures == u64::MAX {
             return true;
@@ -293,7 +294,8 @@ impl Sectors for MemSectors {
         ensures next { CountsDown self.old self.new }
 
         // It settles each sector, or where it fails none.
-        ensures sectors { MatchResult result (λ _. IsSettledAs self.old self.new) (λ _. HasSameSectors self.old self.new) }
+        ensures sectors { MatchResult result (λ _. IsSettledAs self.old self.new)
+            (λ _. HasSameSectors self.old self.new) }
     {
         if self.fails() {
             Err(DeviceFault)

@@ -41,7 +41,8 @@ fn move_text(brief: &mut Vec<u8>, large: &mut Vec<u8>, more: usize) -> Result<()
     requires more { more < 100000 }
     ensures moved { OnOk result ((brief.new.items ≡ []) × (large.new.items ≡ brief.old.items)) }
     ensures room { OnOk result (vec_len large.new + more ≤ vec_capacity large.new) }
-    ensures err { OnErr result ((brief.new ≡ brief.old) × (large.new.items ≡ []) × (vec_capacity large.new ≡ vec_capacity large.old)) }
+    ensures err { OnErr result
+        ((brief.new ≡ brief.old) × (large.new.items ≡ []) × (vec_capacity large.new ≡ vec_capacity large.old)) }
     ensures capacity { vec_capacity brief.new ≡ vec_capacity brief.old }
 {
     if large.try_reserve(brief.len() + more).is_err() {

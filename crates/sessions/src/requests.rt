@@ -118,7 +118,8 @@ fn execute<D: Sectors>(
 ) -> Result<(), Memory>
     requires fits { IsFit command }
     requires empty { out.old ≡ [] }
-    ensures step { Executes engine.old engine.new s (operation_of command.entry) (has_failed engine.old engine.new) out.new result }
+    ensures step { Executes engine.old engine.new s (operation_of command.entry) (has_failed engine.old engine.new)
+        out.new result }
     ensures crash { SurvivesRequest engine.old engine.new s (operation_of command.entry) }
     ensures still { has_engine_stopped engine.old ≡ true → device_of engine.new ≡ device_of engine.old }
     ensures device { failures_of engine.old ≤ failures_of engine.new }
@@ -157,7 +158,8 @@ fn execute_request<D: Sectors>(
     out: &mut ReplyBuffer,
 ) -> Result<(), Memory>
     requires { out.old ≡ [] }
-    ensures step { Executes engine.old engine.new s (asks request.now) (has_failed engine.old engine.new) out.new result }
+    ensures step { Executes engine.old engine.new s (asks request.now) (has_failed engine.old engine.new) out.new
+        result }
     ensures crash { SurvivesRequest engine.old engine.new s (asks request.now) }
     ensures still { has_engine_stopped engine.old ≡ true → device_of engine.new ≡ device_of engine.old }
     ensures device { failures_of engine.old ≤ failures_of engine.new }

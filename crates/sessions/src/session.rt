@@ -106,7 +106,8 @@ impl Session {
     /// The piece follows the inbox. Takes no memory.
     pub(crate) fn receive(&mut self, piece: &[u8])
         requires { length piece.now ≤ room self.old }
-        ensures { self.new ≡ record { inbox = self.old.inbox ++ piece.now; pending = self.old.pending; status = self.old.status } }
+        ensures { self.new
+            ≡ record { inbox = self.old.inbox ++ piece.now; pending = self.old.pending; status = self.old.status } }
     {
         self.inbox.append(piece, INBOX_MAX);
     }
@@ -114,7 +115,8 @@ impl Session {
     /// The first `n` pending bytes leave. Takes no memory.
     pub(crate) fn mark_sent(&mut self, n: usize)
         requires { n ≤ length self.old.pending }
-        ensures { self.new ≡ record { inbox = self.old.inbox; pending = drop n self.old.pending; status = self.old.status } }
+        ensures { self.new
+            ≡ record { inbox = self.old.inbox; pending = drop n self.old.pending; status = self.old.status } }
     {
         self.output.consume(n);
     }

@@ -48,7 +48,8 @@ pub(crate) fn mark_page(
     range: RangeRef<'_>,
     limit: u8,
 ) -> Result<usize, SnapshotFault>
-    requires { (last : List ℕ) → page_end limit (page_of limit pairs) ≡ Some last → IsTrue (is_le (key_cmp (key_bytes range.lo) last)) }
+    requires { (last : List ℕ) → page_end limit (page_of limit pairs) ≡ Some last
+        → IsTrue (is_le (key_cmp (key_bytes range.lo) last)) }
     ensures ok { OnOk result (marks.new ≡ with_page marks.old range.entry limit (page_of limit pairs.entry)) }
     ensures len { IfOk result (λ n. n ≡ length (page_of limit pairs.entry)) }
     ensures in_bounds { IsInBounds (page_of limit pairs.entry) }

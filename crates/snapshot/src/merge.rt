@@ -36,7 +36,8 @@ impl<'a> MergedPairs<'a> {
     // Looks at the first of the pairs, unless that is done. A copy made from now on need not look for it.
     pub(crate) fn look(&mut self)
         ensures writes { self.new.writes ≡ self.old.writes }
-        ensures pairs { with_ahead self.new.ahead (range_pairs self.new.pairs) ≡ with_ahead self.old.ahead (range_pairs self.old.pairs) }
+        ensures pairs { with_ahead self.new.ahead (range_pairs self.new.pairs)
+            ≡ with_ahead self.old.ahead (range_pairs self.old.pairs) }
         ensures none { self.new.ahead ≡ None → range_pairs self.new.pairs ≡ [] }
     {
         if self.ahead.is_none() {

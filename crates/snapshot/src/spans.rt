@@ -48,7 +48,8 @@ fn below<'a>(writes: &'a [Write], hi: Option<KeyRef<'_>>) -> &'a [Write]
 // The writes of the range.
 pub(crate) fn within<'a>(writes: &'a [Write], range: RangeRef<'_>) -> &'a [Write]
     requires { T (is_sorted (slice_cmp nat_cmp) writes.now) }
-    ensures { result.now ≡ where_key (slice_cmp nat_cmp) (is_in_range (key_bytes range.entry.lo) (end_bytes range.entry.hi)) writes.now }
+    ensures { result.now
+        ≡ where_key (slice_cmp nat_cmp) (is_in_range (key_bytes range.entry.lo) (end_bytes range.entry.hi)) writes.now }
 {
     let lower = below(writes, range.hi);
     let start = split_place(lower, range.lo.bytes());
@@ -64,7 +65,8 @@ pub(crate) fn mark_up_to(
     requires { IfSome end (λ last. IsTrue (is_le (key_cmp (key_bytes range.lo) (key_bytes last)))) }
     ensures ok { OnOk result (marks.new ≡ with_mark marks.old (mark_to range.entry end.entry)) }
     ensures err { OnErr result (marks.new ≡ marks.old) }
-    ensures full { (result ≡ Err MarksFault.FullMarks) ↔ IsTrue (is_full_for_mark marks.old (mark_to range.entry end.entry)) }
+    ensures full { (result ≡ Err MarksFault.FullMarks)
+        ↔ IsTrue (is_full_for_mark marks.old (mark_to range.entry end.entry)) }
     ensures known { IsTrue (has_mark marks.old (mark_to range.entry end.entry)) → IsOk result }
 {
     match end {

@@ -110,7 +110,8 @@ impl Transaction {
     fn mark_key(&mut self, key: KeyRef<'_>) -> Result<(), SnapshotFault>
         ensures ok { OnOk result (self.new ≡ after_get self.old key.entry.bytes.now) }
         ensures err { OnErr result (self.new ≡ self.old) }
-        ensures faults { MarkFaults result (is_full_get self.old key.entry.bytes.now) (is_known_get self.old key.entry.bytes.now) }
+        ensures faults { MarkFaults result (is_full_get self.old key.entry.bytes.now)
+            (is_known_get self.old key.entry.bytes.now) }
     {
         match self.buffer.get(key) {
             Written::NotWritten => self.marks.add_key(key)?,
@@ -121,7 +122,8 @@ impl Transaction {
 
     // What a read of the key gives.
     fn peek<'a>(&'a self, versions: &'a Versions, key: KeyRef<'_>) -> Option<&'a [u8]>
-        ensures value { option_copied result ≡ value_read self.now (map_seen versions.now self.now.begin) key.entry.bytes.now }
+        ensures value { option_copied result
+            ≡ value_read self.now (map_seen versions.now self.now.begin) key.entry.bytes.now }
         ensures short { IfSome result (λ v. IsValue v.now) }
     {
         match self.buffer.get(key) {
@@ -142,7 +144,8 @@ impl Transaction {
         ensures full { IsFullWhen result (is_full_get self.old key.entry.bytes.now) }
         // A read that needs no new mark succeeds.
         ensures known { IsTrue (is_known_get self.old key.entry.bytes.now) → IsOk result }
-        ensures reply { WhereSeen versions.now self.old (λ m qs. IsValueReply result (answer m qs (Get key.entry.bytes.now))) }
+        ensures reply { WhereSeen versions.now self.old
+            (λ m qs. IsValueReply result (answer m qs (Get key.entry.bytes.now))) }
         ensures short { IfOk result (λ value. IfSome value (λ v. IsValue v.now)) }
         ensures* after { sem 𝓛 (Rests the_row self.entry (λ new. IsLeftByGet self.old key.entry.bytes.now result new)) }
     {
@@ -162,13 +165,17 @@ impl Transaction {
         range: RangeRef<'_>,
         limit: u8,
     ) -> Result<Rows<'a>, SnapshotFault>
-        ensures full { IsFullWhen result (is_full_range self.old (map_seen versions.now self.old.begin) range.entry limit) }
+        ensures full { IsFullWhen result
+            (is_full_range self.old (map_seen versions.now self.old.begin) range.entry limit) }
         // A read that needs no new mark succeeds.
-        ensures known { WhereSeen versions.now self.old (λ m qs. IsKnownRange (copy_after (copy_of m) qs) range.entry limit → IsOk result) }
-        ensures reply { WhereSeen versions.now self.old (λ m qs. IsPairsReply result (answer m qs (range_read range.entry limit))) }
+        ensures known { WhereSeen versions.now self.old
+            (λ m qs. IsKnownRange (copy_after (copy_of m) qs) range.entry limit → IsOk result) }
+        ensures reply { WhereSeen versions.now self.old
+            (λ m qs. IsPairsReply result (answer m qs (range_read range.entry limit))) }
         ensures few { IfOk result (λ rows. length (row_pairs rows) ≤ limit) }
         ensures in_bounds { IfOk result (λ rows. IsInBounds (row_pairs rows)) }
-        ensures* after { sem 𝓛 (Rests the_row self.entry (λ new. IsLeftByRange versions.now self.old range.entry limit result new)) }
+        ensures* after { sem 𝓛
+            (Rests the_row self.entry (λ new. IsLeftByRange versions.now self.old range.entry limit result new)) }
     {
         let writes = within(self.buffer.entries(), range);
         let mut pairs = MergedPairs::new(writes, versions.range(self.begin, range));
@@ -185,8 +192,10 @@ impl Transaction {
         requires { length value.now ≤ VALUE_MAX }
         ensures ok { OnOk result (self.new ≡ view_after_put self.old key.entry.bytes.now (Some value.now)) }
         ensures err { OnErr result (self.new ≡ self.old) }
-        ensures full { (result ≡ Err SnapshotFault.FullWrites) ↔ IsTrue (is_full_for_key self.old.writes key.entry.bytes.now) }
-        ensures reply { WhereMade self.old (λ m qs. IsDoneReply result (answer m qs (Set key.entry.bytes.now value.now))) }
+        ensures full { (result ≡ Err SnapshotFault.FullWrites)
+            ↔ IsTrue (is_full_for_key self.old.writes key.entry.bytes.now) }
+        ensures reply { WhereMade self.old
+            (λ m qs. IsDoneReply result (answer m qs (Set key.entry.bytes.now value.now))) }
         ensures made { OnOk result (MakesOneMore self.old self.new (Set key.entry.bytes.now value.now)) }
     {
         match self.buffer.put(key, value) {
@@ -201,7 +210,8 @@ impl Transaction {
     pub fn delete(&mut self, key: KeyRef<'_>) -> Result<(), SnapshotFault>
         ensures ok { OnOk result (self.new ≡ view_after_put self.old key.entry.bytes.now None) }
         ensures err { OnErr result (self.new ≡ self.old) }
-        ensures full { (result ≡ Err SnapshotFault.FullWrites) ↔ IsTrue (is_full_for_key self.old.writes key.entry.bytes.now) }
+        ensures full { (result ≡ Err SnapshotFault.FullWrites)
+            ↔ IsTrue (is_full_for_key self.old.writes key.entry.bytes.now) }
         ensures known { IsTrue (is_some (last_write self.old.writes key.entry.bytes.now)) → IsOk result }
         ensures reply { WhereMade self.old (λ m qs. IsDoneReply result (answer m qs (Del key.entry.bytes.now))) }
         ensures made { OnOk result (MakesOneMore self.old self.new (Del key.entry.bytes.now)) }

@@ -135,7 +135,8 @@ impl CountedSocket {
         ensures bound { WritesAtMost result from.now }
         ensures next { self.new ≡ socket_after_call self.old }
         ensures over { self.old.calls ≡ 2 ^ 64 - 1 → IsErr result }
-        ensures happened { self.old.calls ≢ 2 ^ 64 - 1 → WasSent self.old (take (moved result) from.now) (D.moment device.now) }
+        ensures happened { self.old.calls ≢ 2 ^ 64 - 1
+            → WasSent self.old (take (moved result) from.now) (D.moment device.now) }
     {
         // Shown for the clause `happened` alone, which says at which moment the bytes left.
         let _ = device;

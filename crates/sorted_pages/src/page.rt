@@ -97,7 +97,8 @@ impl<V: Aging> Model for Page<V> {
 
     ghost view = { λ p. (p.entries.items, vec_capacity p.entries - vec_len p.entries) };
 
-    ghost invariant = { λ p. IsBlankTo V.hides p.entries.items p.blank × IsSummaryBut V.hides V.shows p.entries.items p.summary };
+    ghost invariant = { λ p. IsBlankTo V.hides p.entries.items p.blank
+        × IsSummaryBut V.hides V.shows p.entries.items p.summary };
 }
 
 // Which of the entry's key and another stands first.

@@ -86,9 +86,11 @@ impl<V: Aging> SortedPages<V> {
     /// key's room changes. The key is looked up once. Takes no memory.
     pub fn find_mut(&mut self, key: KeyRef<'_>) -> Result<&mut V, InsertionPoint>
         ensures* writes_back { sem 𝓛 (lends_if_present V.row V.Aging self.entry key.entry.bytes.now result) }
-        ensures value { IfOk result (λ v. find (slice_cmp nat_cmp) key.entry.bytes.now (entries self.old) ≡ Some v.now) }
+        ensures value { IfOk result
+            (λ v. find (slice_cmp nat_cmp) key.entry.bytes.now (entries self.old) ≡ Some v.now) }
         ensures put { OnOk result (PutsAt self.old key.entry.bytes.now) }
-        ensures rooms { (v : V) (q : Bytes) → room_at q (with_value self.old key.entry.bytes.now v) ≡ room_at q self.old }
+        ensures rooms { (v : V) (q : Bytes)
+            → room_at q (with_value self.old key.entry.bytes.now v) ≡ room_at q self.old }
         ensures absent { IfErr result (λ at. IsInsertionPoint self.old key.entry.bytes.now at.page at.entry) }
     {
         if self.pages.is_empty() {
@@ -108,7 +110,8 @@ impl<V: Aging> SortedPages<V> {
 
     // Lends the entries from one key on, up to another, of which the number sees something.
     fn within<'a>(&'a self, lo: KeyRef<'_>, hi: Option<KeyRef<'a>>, number: u64) -> Entries<'a, V>
-        ensures { entries_left V.hides result ≡ shown_in (V.hides number) self.now lo.entry.bytes.now (end_bytes hi.entry) }
+        ensures { entries_left V.hides result
+            ≡ shown_in (V.hides number) self.now lo.entry.bytes.now (end_bytes hi.entry) }
     {
         let pages = self.pages.as_slice();
         if pages.is_empty() {
@@ -144,7 +147,8 @@ impl<V: Aging> SortedPages<V> {
     /// lay that the page's values were trimmed for last. Of the others the entries at the front that no number sees are passed over.
     /// The first page of the range and that of its end are looked at. Takes no memory.
     pub fn range(&self, range: RangeRef<'_>, number: u64) -> Entries<'_, V>
-        ensures { entries_left V.hides result ≡ shown_in (V.hides number) self.now range.entry.lo.bytes.now (end_bytes range.entry.hi) }
+        ensures { entries_left V.hides result
+            ≡ shown_in (V.hides number) self.now range.entry.lo.bytes.now (end_bytes range.entry.hi) }
     {
         // Shows the invariant: the pages are in order.
         let _ = &self.pages;
@@ -177,7 +181,8 @@ impl<V: Aging + Drop> SortedPages<V> {
         ensures room { MakesRoom n self.old self.new }
         ensures made { OnOk result (n ≤ room_at key.entry.bytes.now self.new) }
         ensures known { n ≤ room_at key.entry.bytes.now self.old → IsOk result }
-        ensures split { OnOk result (IsCrowded key.entry.bytes.now n self.old → SplitsPage key.entry.bytes.now self.old self.new) }
+        ensures split { OnOk result
+            (IsCrowded key.entry.bytes.now n self.old → SplitsPage key.entry.bytes.now self.old self.new) }
         ensures pages { MakesOnePage key.entry.bytes.now n self.old self.new }
     {
         changing::reserve(&mut self.pages, at, key, n)
@@ -232,7 +237,8 @@ impl<V: Aging> SortedPages<V> {
     /// The key is looked up once. Takes no memory.
     pub fn trim_at(&mut self, key: KeyRef<'_>, numbers: &[u64], number: u64) -> bool
         ensures entries { entries self.new ≡ changed_at (V.trimmed numbers.now) key.entry.bytes.now (entries self.old) }
-        ensures left { result ≡ passes (V.has number) (find (slice_cmp nat_cmp) key.entry.bytes.now (entries self.new)) }
+        ensures left { result
+            ≡ passes (V.has number) (find (slice_cmp nat_cmp) key.entry.bytes.now (entries self.new)) }
     {
         trimming::trim_at(&mut self.pages, key, numbers, number)
     }

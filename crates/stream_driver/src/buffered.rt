@@ -313,10 +313,11 @@ impl<S: Stream> Stream for BufferedStream<S> {
         ensures within { ReadsWithin result (length into.old) }
         ensures moved { S.reports → ReadsBytes (D.moment device.now) (traffic_through S.traffic self.old)
             (take (bytes_read result) into.new) (traffic_through S.traffic self.new) }
-        ensures answered { CountsLast (Call.Read result) (traffic_through S.traffic self.old) (traffic_through S.traffic self.new) }
+        ensures answered { CountsLast (Call.Read result) (traffic_through S.traffic self.old)
+            (traffic_through S.traffic self.new) }
         ensures buffer { AfterRead S.traffic self.old (length into.old) result self.new }
-        ensures stays { ReadStays (λ b. S.came_short b.inner) (IsSound S.came_short) (SaysWhyBlocked S.came_short S.traffic) self.old
-            (length into.old) result self.new }
+        ensures stays { ReadStays (λ b. S.came_short b.inner) (IsSound S.came_short)
+            (SaysWhyBlocked S.came_short S.traffic) self.old (length into.old) result self.new }
     {
         let answer = self.give_in_share(device, into);
         self.counts.note_read(answer);
@@ -328,10 +329,11 @@ impl<S: Stream> Stream for BufferedStream<S> {
         ensures within { WritesWithin result (length from.now) }
         ensures moved { S.reports → WritesBytes (D.moment device.now) (traffic_through S.traffic self.old)
             (take (bytes_written result) from.now) (traffic_through S.traffic self.new) }
-        ensures answered { CountsLast (Call.Write result) (traffic_through S.traffic self.old) (traffic_through S.traffic self.new) }
+        ensures answered { CountsLast (Call.Write result) (traffic_through S.traffic self.old)
+            (traffic_through S.traffic self.new) }
         ensures buffer { AfterWrite S.traffic self.old result self.new }
-        ensures stays { WriteStays (λ b. S.came_short b.inner) (IsSound S.came_short) (SaysWhyBlocked S.came_short S.traffic)
-            self.old self.new }
+        ensures stays { WriteStays (λ b. S.came_short b.inner) (IsSound S.came_short)
+            (SaysWhyBlocked S.came_short S.traffic) self.old self.new }
     {
         let answer = self.take_in_share(device, from);
         if let WriteAnswer::Moved(n) = answer {

@@ -44,8 +44,10 @@ fn write_some<D: Sectors, S: Stream>(hub: &mut Hub<D>, s: u64, stream: &mut S) -
     requires present { status_of hub.old s ≢ Status.Absent }
     requires some { 0 < length (pending_of hub.old s) }
     ensures within { WritesWithin result (length (pending_of hub.old s)) }
-    ensures written { LeadsAs s S.reports WritesSome result hub.old (S.traffic stream.old) hub.new (S.traffic stream.new) }
-    ensures spends { Stands hub.old → SpendsShare S.keeps_share S.reports S.traffic S.share s hub.old stream.old hub.new stream.new }
+    ensures written { LeadsAs s S.reports WritesSome result hub.old (S.traffic stream.old) hub.new
+        (S.traffic stream.new) }
+    ensures spends { Stands hub.old
+        → SpendsShare S.keeps_share S.reports S.traffic S.share s hub.old stream.old hub.new stream.new }
     ensures stays { StaysSound S.is_sound S.waits (result ≡ WriteAnswer.Blocked) stream.old stream.new }
 {
     hub.law_runs_follow();
@@ -91,8 +93,10 @@ fn read_some<D: Sectors, S: Stream>(
 ) -> ReadAnswer
     requires { 0 < room }
     ensures within { ReadsWithin result room }
-    ensures read { LeadsAs s S.reports (ReadsInTurn room) result hub.old (S.traffic stream.old) hub.new (S.traffic stream.new) }
-    ensures keeps { Stands hub.old → KeepsShare S.keeps_share S.reports S.traffic S.share s hub.old stream.old hub.new stream.new }
+    ensures read { LeadsAs s S.reports (ReadsInTurn room) result hub.old (S.traffic stream.old) hub.new
+        (S.traffic stream.new) }
+    ensures keeps { Stands hub.old
+        → KeepsShare S.keeps_share S.reports S.traffic S.share s hub.old stream.old hub.new stream.new }
     ensures stays { StaysSound S.is_sound S.waits (result ≡ ReadAnswer.Blocked) stream.old stream.new }
 {
     hub.law_runs_follow();
@@ -115,7 +119,8 @@ fn serve_one<D: Sectors, S: Stream>(
     requires stands { Stands hub.old }
     requires opened { status_of hub.old s ≡ Status.Open }
     requires nothing { pending_of hub.old s ≡ [] }
-    ensures served { LeadsAs s S.reports Exchanges result hub.old (S.traffic stream.old) hub.new (S.traffic stream.new) }
+    ensures served { LeadsAs s S.reports Exchanges result hub.old (S.traffic stream.old) hub.new
+        (S.traffic stream.new) }
     ensures once { ServesOnce S.keeps_share S.reports S.traffic S.share s hub.old stream.old result hub.new stream.new }
     ensures stays { StaysSound S.is_sound S.waits (result ≡ Exchange.Blocked) stream.old stream.new }
 {
@@ -151,8 +156,10 @@ fn serve_in_share<D: Sectors, S: Stream>(
     requires stands { Stands hub.old }
     requires opened { status_of hub.old s ≡ Status.Open }
     requires nothing { pending_of hub.old s ≡ [] }
-    ensures served { LeadsAs s S.reports Exchanges result hub.old (S.traffic stream.old) hub.new (S.traffic stream.new) }
-    ensures ended { S.keeps_share → records_of hub.new ≢ records_of hub.old → IsEnded (length (pending_of hub.new s)) (S.share stream.new) }
+    ensures served { LeadsAs s S.reports Exchanges result hub.old (S.traffic stream.old) hub.new
+        (S.traffic stream.new) }
+    ensures ended { S.keeps_share → records_of hub.new ≢ records_of hub.old
+        → IsEnded (length (pending_of hub.new s)) (S.share stream.new) }
     ensures once { ServesOnce S.keeps_share S.reports S.traffic S.share s hub.old stream.old result hub.new stream.new }
     ensures stays { StaysSound S.is_sound S.waits (result ≡ Exchange.Blocked) stream.old stream.new }
 {

@@ -43,8 +43,8 @@ pub trait Stream: Drop {
     fn read<D: Sectors>(&mut self, device: &D, into: &mut [u8]) -> ReadAnswer
         requires { 0 < length into.old }
         ensures within { ReadsWithin result (length into.old) }
-        ensures moved { reports
-            → ReadsBytes (D.moment device.now) (traffic self.old) (take (bytes_read result) into.new) (traffic self.new) }
+        ensures moved { reports → ReadsBytes (D.moment device.now) (traffic self.old)
+            (take (bytes_read result) into.new) (traffic self.new) }
         ensures answered { CountsLast (Call.Read result) (traffic self.old) (traffic self.new) }
         ensures taken { keeps_share → TakesOf (share self.old) 0 (share self.new) }
         ensures stays { ReadStays came_short is_sound waits self.old (length into.old) result self.new };
@@ -53,8 +53,8 @@ pub trait Stream: Drop {
     fn write<D: Sectors>(&mut self, device: &D, from: &[u8]) -> WriteAnswer
         requires { 0 < length from.now }
         ensures within { WritesWithin result (length from.now) }
-        ensures moved { reports
-            → WritesBytes (D.moment device.now) (traffic self.old) (take (bytes_written result) from.now) (traffic self.new) }
+        ensures moved { reports → WritesBytes (D.moment device.now) (traffic self.old)
+            (take (bytes_written result) from.now) (traffic self.new) }
         ensures answered { CountsLast (Call.Write result) (traffic self.old) (traffic self.new) }
         ensures taken { keeps_share → TakesOf (share self.old) (bytes_written result) (share self.new) }
         ensures stays { WriteStays came_short is_sound waits self.old self.new };

@@ -26,8 +26,9 @@ pub fn run<'a, R: Files<File = File> + Net + Clock, I: Read + Drop, O: Write, E:
     out: &mut O,
     err: &mut E,
 ) -> u8
-    ensures { RunsWords ⟦<SystemFiles<'a, R> as DataFiles>⟧ ⟦<SystemPorts<'a, R> as Ports<Hub<FileSectors>>>⟧ ⟦<SystemServer as Turns>⟧
-        ⟦<I as Scripts<&'a mut O>>⟧ ⟦<&'a mut O as Lines>⟧ ⟦<&'a mut E as Lines>⟧ words.now reader out.old err.old result }
+    ensures { RunsWords ⟦<SystemFiles<'a, R> as DataFiles>⟧ ⟦<SystemPorts<'a, R> as Ports<Hub<FileSectors>>>⟧
+        ⟦<SystemServer as Turns>⟧ ⟦<I as Scripts<&'a mut O>>⟧ ⟦<&'a mut O as Lines>⟧ ⟦<&'a mut E as Lines>⟧ words.now
+        reader out.old err.old result }
 {
     run_watched(rt, alloc, words, reader, out, err, false)
 }
@@ -42,8 +43,9 @@ pub fn run_watched<'a, R: Files<File = File> + Net + Clock, I: Read + Drop, O: W
     err: &mut E,
     is_terminal: bool,
 ) -> u8
-    ensures { RunsWords ⟦<SystemFiles<'a, R> as DataFiles>⟧ ⟦<SystemPorts<'a, R> as Ports<Hub<FileSectors>>>⟧ ⟦<SystemServer as Turns>⟧
-        ⟦<I as Scripts<&'a mut O>>⟧ ⟦<&'a mut O as Lines>⟧ ⟦<&'a mut E as Lines>⟧ words.now reader out.old err.old result }
+    ensures { RunsWords ⟦<SystemFiles<'a, R> as DataFiles>⟧ ⟦<SystemPorts<'a, R> as Ports<Hub<FileSectors>>>⟧
+        ⟦<SystemServer as Turns>⟧ ⟦<I as Scripts<&'a mut O>>⟧ ⟦<&'a mut O as Lines>⟧ ⟦<&'a mut E as Lines>⟧ words.now
+        reader out.old err.old result }
 {
     let mut around = Around {
         files: SystemFiles::new(rt),

@@ -23,7 +23,8 @@ impl Aging for Watched<'_> {
 
     ghost has = { λ _ _. false };
 
-    ghost hides = { λ number v. nat_lt number v.first || (nat_le v.last number && (not v.shows || nat_lt number v.again)) };
+    ghost hides = { λ number v. nat_lt number v.first
+        || (nat_le v.last number && (not v.shows || nat_lt number v.again)) };
 
     ghost is_blank = { λ value. nat_le value.last value.first && not value.shows };
 

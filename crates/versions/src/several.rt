@@ -52,7 +52,11 @@ impl Model for Several {
 
     ghost Value = { ChainValue };
 
-    ghost view = { λ c. record { older = c.older.items; newest = c.newest; room = vec_capacity c.older - vec_len c.older } };
+    ghost view = { λ c. record {
+      older = c.older.items;
+      newest = c.newest;
+      room = vec_capacity c.older - vec_len c.older;
+    } };
 }
 
 impl Several {

@@ -107,7 +107,8 @@ impl Versions {
 
     /// Lends the pairs of the range that number `n` sees, by rising key. Takes no memory.
     pub fn range(&self, n: u64, range: RangeRef<'_>) -> Pairs<'_>
-        ensures { range_pairs result ≡ pairs_in_range (map_seen self.now n) range.entry.lo.bytes.now (end_bytes range.entry.hi) }
+        ensures { range_pairs result
+            ≡ pairs_in_range (map_seen self.now n) range.entry.lo.bytes.now (end_bytes range.entry.hi) }
     {
         Pairs::new(self.chains.range(range, n), n)
     }

@@ -113,7 +113,8 @@ impl WriteBuffer {
     fn write(&mut self, key: KeyRef<'_>, value: Option<Vec<u8>>) -> Result<(), Memory>
         requires room { is_full_for_key self.old key.bytes.now ≡ false }
         requires short { IsShortValue (option_map (λ v. v.items) value) }
-        ensures ok { OnOk result (self.new ≡ with_write self.old key.entry.bytes.now (option_map (λ v. v.items) value)) }
+        ensures ok { OnOk result
+            (self.new ≡ with_write self.old key.entry.bytes.now (option_map (λ v. v.items) value)) }
         ensures err { OnErr result (self.new ≡ self.old) }
         ensures entries { AreEntries self.new }
         ensures known { IsTrue (is_some (last_write self.old key.entry.bytes.now)) → IsOk result }
