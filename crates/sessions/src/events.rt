@@ -63,3 +63,14 @@ pub enum Status {
     /// Memory was refused to one of its requests: it is served no more.
     Refused,
 }
+
+/// What one look-up of a session finds.
+#[derive(Clone, Copy)]
+pub struct SessionView {
+    /// How many of its bytes are to be sent.
+    pub pending: usize,
+    /// How it stands: `Absent` where it is not present.
+    pub status: Status,
+    /// How many bytes its inbox has room for.
+    pub room: usize,
+}

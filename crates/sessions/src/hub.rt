@@ -15,7 +15,7 @@ ghost use Rattle.sessions.specs.SessionStreams.{HubState, is_above, hub_over, Jo
 ghost use Rattle.sessions.specs.StandsFor.{HubLeads, StandsFor, event_of, status_of, room_of, pending_of, device};
 ghost use Rattle.sessions.specs.StandsFor.{CountsRecords, failures, has_written, is_stopped, log, records_of};
 
-use crate::events::{Event, Outcome, SESSIONS_MAX, Status};
+use crate::events::{Event, Outcome, SESSIONS_MAX, SessionView, Status};
 use crate::present::Present;
 use crate::requests::abort_transaction;
 use crate::session::Session;
@@ -93,6 +93,26 @@ impl<D: Sectors> Hub<D> {
         match self.sessions.get(s) {
             Some(session) => session.pending(),
             None => &[],
+        }
+    }
+
+    /// How many bytes of the session are pending, how it stands and how many its inbox has room for: as `pending`, `status` and `room`
+    /// answer, in one look-up of the session. Takes no memory.
+    pub fn view(&self, s: u64) -> SessionView
+        ensures { (result.pending ≡ length (pending_of self.now s)) × (result.status ≡ status_of self.now s)
+            × (result.room ≡ room_of self.now s) }
+    {
+        match self.sessions.get(s) {
+            Some(session) => SessionView {
+                pending: session.pending().len(),
+                status: session.status(),
+                room: session.room(),
+            },
+            None => SessionView {
+                pending: 0,
+                status: Status::Absent,
+                room: 0,
+            },
         }
     }
 

@@ -17,6 +17,8 @@ mod reply_buffer;
 mod requests;
 mod session;
 
-pub use events::{Event, INBOX_MAX, OUTPUT_KEPT, OUTPUT_ROOM, Outcome, SESSIONS_MAX, Status};
+pub use events::{
+    Event, INBOX_MAX, OUTPUT_KEPT, OUTPUT_ROOM, Outcome, SESSIONS_MAX, SessionView, Status,
+};
 pub use hub::Hub;
 pub use laws::{law_crashes_leave_the_last_map, law_replies_are_private};

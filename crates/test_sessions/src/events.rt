@@ -44,6 +44,33 @@ fn hub_events(rt: HostRuntime) {
     assert!(rt; hub.status(5) == Status::Absent);
 }
 
+/// What a view of session 5 says after each event: its pending bytes, its status and its room.
+#[test]
+fn views(rt: HostRuntime) {
+    let mut hub = new_hub(rt.alloc(), 4096).expect(&rt, "a hub");
+    let steps = [
+        (Event::Serve(5), 0, Status::Absent, 0),
+        (Event::Joined(5), 0, Status::Open, INBOX_MAX),
+        (Event::Bytes(5, TWO_PINGS), 0, Status::Open, INBOX_MAX - 28),
+        (Event::Serve(5), 7, Status::Open, INBOX_MAX - 14),
+        (Event::Sent(5, 4), 3, Status::Open, INBOX_MAX - 14),
+        (Event::Sent(5, 3), 0, Status::Open, INBOX_MAX - 14),
+        (Event::Serve(5), 7, Status::Open, INBOX_MAX),
+        (Event::Sent(5, 7), 0, Status::Open, INBOX_MAX),
+        (Event::Bytes(5, b"*01\r\n"), 0, Status::Open, INBOX_MAX - 5),
+        (Event::Serve(5), 12, Status::Ending, INBOX_MAX),
+        (Event::Left(5), 0, Status::Absent, 0),
+    ];
+    for (i, (event, pending, status, room)) in steps.iter().enumerate() {
+        let _outcome = hub.step(event);
+        let view = hub.view(5);
+        assert!(rt;
+            view.pending == *pending && view.status == *status && view.room == *room,
+            "{i}"
+        );
+    }
+}
+
 #[test]
 fn crowded(rt: HostRuntime) {
     let mut hub = new_hub(rt.alloc(), 16).expect(&rt, "a hub");
