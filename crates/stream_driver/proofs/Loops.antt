@@ -1,13 +1,15 @@
 -- The turns of the loops.
+use denote.Struct.Props.{props}
 use Rattle.std.proofs.Common.{◌≡◌, ◌≢◌, ◌⊎◌, inl, inr, ℕ, ◌+◌, ◌-◌, ◌<◌, ◌≤◌, List, [], ◌++◌, length, Some, refl, sym}
 use Rattle.std.proofs.Common.{ap, subst, ◌∙◌, arith, length-append}
 use Rattle.std.proofs.Math.Nat.{ℕ_set}
 use Rattle.model.specs.Bounds.{inbox_max}
 use Rattle.model.specs.Grammar.{IsProperBeginning}
-use Rattle.sessions.proofs.EventSteps.{pending_seen}
+use Rattle.sessions.proofs.EventSteps.{pending_seen, room_seen, status_seen}
 use Rattle.sessions.specs.Laws.{RunsAlone}
 use Rattle.sessions.specs.SessionStreams.{SessionStream, Serves, Choice, hub_step, stream_of}
-use Rattle.sessions.specs.StandsFor.{StandsFor, HubLeads, pending_of, status_in, pending_in, room_in, failures}
+use Rattle.sessions.specs.StandsFor.{StandsFor, HubLeads, pending_of, room_of, status_of, status_in, pending_in}
+use Rattle.sessions.specs.StandsFor.{room_in, failures}
 use Rattle.sessions.specs.declared.events.Outcome.{Outcome}
 use Rattle.sessions.specs.declared.events.Outcome.TheVariants.{Done, Memory}
 use Rattle.sessions.specs.declared.events.Status.{Status}
@@ -28,8 +30,8 @@ use Rattle.stream_driver.specs.Sessions.{pending_at, inbox_room, inbox_at, inbox
 use Rattle.stream_driver.specs.Traffic.{Traffic, AllMoved, CountsLast}
 use Rattle.stream_driver.specs.Types.{Read, Write, ReadAnswer, WriteAnswer, Moved, Blocked, Failed, Ended, Wrote}
 use Rattle.stream_driver.specs.Types.{WriteBlocked, WriteFailed, Progress, Waiting, Again, Gone, OutputState, Empty}
-use Rattle.stream_driver.specs.Types.{FlushBlocked, FlushFailed, Exchange, Served, Broke as ExchangeBroke}
-use Rattle.stream_driver.specs.Types.{Starved as ExchangeStarved, ExchangeBlocked}
+use Rattle.stream_driver.specs.Types.{FlushBlocked, FlushFailed, Exchange, Replied, Starved as ExchangeStarved}
+use Rattle.stream_driver.specs.Types.{ExchangeBlocked}
 
 pub none_in_both : {A : Type 0} {xs ys : List A} → xs ≡ [] → ys ≡ [] → xs ++ ys ≡ []
 none_in_both a b = rw (a, b)
@@ -40,7 +42,7 @@ closed_kinds status a b e = grind arith
 
 module _ {s : ℕ} {reports : Type 0} where
   pub written_none : {h : Point} {t : Traffic} {owed : ℕ} → IsPresentIn h.hub s → owed ≡ length (pending_at h.hub s) → WrittenSoFar s reports h t h t owed
-  written_none {h} {t} present is = record { moves = nothing present; moved = none_called t; owed_is = is }
+  written_none {h} {t} present is = record { moves = nothing present; moved = none_called t; room = refl; owed_is = is }
 
   pub read_nothing : {h : Point} {t : Traffic} {room : ℕ} → status_at h.hub s ≡ Open → pending_at h.hub s ≡ [] → room ≡ inbox_room h.hub s
       → ReadSoFar s reports h t h t room
@@ -66,7 +68,8 @@ module _ {s : ℕ} {reports : Type 0} where
       pub written_then : (n : ℕ) → WritesSome s reports mid between (Wrote n) new after → WrittenSoFar s reports old before new after (owed - n)
       written_then n q =
           let owed_is : owed - n ≡ length (pending_at new.hub s) = omega (arith, p.owed_is, q.why.1) in
-          assumption (moves_then p.moves q.moves, moved_then before between after p.moved q.answered.0)
+          let moved = moved_then before between after p.moved q.answered.0 in
+          record { moves = moves_then p.moves q.moves; moved = moved; room = q.room ∙ p.room; owed_is = owed_is }
 
       -- the stream stopped
       pub written_stopped : (answer : WriteAnswer) (flush : OutputState) → 0 < owed → (q : WritesSome s reports mid between answer new after)
@@ -75,7 +78,8 @@ module _ {s : ℕ} {reports : Type 0} where
           → Flushes s reports old before flush new after
       written_stopped answer flush some q same why =
           let left : pending_at new.hub s ≢ [] = λ none. absurd (omega (arith, p.owed_is, ap length (sym same ∙ none))) in
-          assumption (moves_then p.moves q.moves, why (ends_then (Write answer) before between after p.moved q.answered, left))
+          let why_so = why (ends_then (Write answer) before between after p.moved q.answered, left) in
+          record { moves = moves_then p.moves q.moves; room = q.room ∙ p.room; why = why_so }
 
     module _ {room : ℕ} (p : ReadSoFar s reports old before mid between room) where
       pub read_then : (n : ℕ) → ReadsSome s reports mid between (Moved n) new after → ReadSoFar s reports old before new after (room - n)
@@ -150,14 +154,11 @@ module _ {s : ℕ} {reports : Type 0} where
     pub serve_starved : outcome ≡ Memory → Exchanges s reports old before ExchangeStarved new between
     serve_starved e = exchanged ExchangeStarved (p.moved, status_is ∙ (what Memory e).0)
 
-    pub serve_open : outcome ≡ Done → status_at new.hub s ≡ Open → Exchanges s reports old before Served new between
-    serve_open e is_open = elim (what Done e) [
-      | inl w ↦ exchanged Served (p.moved, is_open, how_many ∙ w.1)
-      | inr w ↦ absurd (let bad : Ending ≡ Open = sym w.0 ∙ sym status_is ∙ is_open in cc)
+    pub serve_done : outcome ≡ Done → Exchanges s reports old before Replied new between
+    serve_done e = elim (what Done e) [
+      | inl w ↦ exchanged Replied (p.moved, inl (status_is ∙ w.0, how_many ∙ w.1))
+      | inr w ↦ exchanged Replied (p.moved, inr (status_is ∙ w.0))
     ]
-
-    pub serve_closed : outcome ≡ Done → status_at new.hub s ≢ Open → Exchanges s reports old before ExchangeBroke new between
-    serve_closed e is_closed = elim (what Done e) [ inl w ↦ absurd (is_closed (status_is ∙ w.0)) | inr w ↦ exchanged ExchangeBroke (p.moved, status_is ∙ w.0) ]
 
     pub serve_replied : outcome ≡ Done → pending_at new.hub s ≢ []
     serve_replied e =
@@ -279,18 +280,19 @@ module _ {s : ℕ} {reports : Type 0} where
       }
 
     module _ {new : Point} {after : Traffic} where
-      pub out_served : status_at mid.hub s ≡ Open → Exchanges s reports mid between Served new after → DrivenOut s reports old before new after (count + 1)
-      out_served is_open q = out_on q q.why.0 (λ _. (is_open, q.why.2))
-
-      pub out_broke : Exchanges s reports mid between ExchangeBroke new after → DrivenOut s reports old before new after (count + 1)
-      out_broke q = out_on q q.why.0 (λ is_open. absurd (let bad : Open ≡ Ending = sym is_open ∙ q.why.1 in cc))
+      pub out_replied : status_at mid.hub s ≡ Open → Exchanges s reports mid between Replied new after
+          → DrivenOut s reports old before new after (count + 1)
+      out_replied was_open q = out_on q q.why.0 (λ is_open. elim q.why.1 [
+        | inl one ↦ (was_open, one.1)
+        | inr ending ↦ absurd (let bad : Open ≡ Ending = sym is_open ∙ ending in cc)
+      ])
 
       pub waits_to_read : count < 64 → Exchanges s reports mid between ExchangeBlocked new after → Drove s reports old before Waiting new after
       waits_to_read lt q = drove (on q) (omega arith) Waiting refl (inr (ends_then (Read Blocked) before between after p.0.moved q.why.0, q.why.1))
 
-      pub gone_serving : count < 64 → (answer : Exchange) → answer ≢ Served → answer ≢ ExchangeBroke → answer ≢ ExchangeBlocked
+      pub gone_serving : count < 64 → (answer : Exchange) → answer ≢ Replied → answer ≢ ExchangeBlocked
           → Exchanges s reports mid between answer new after → {gone : Point} → Departs s new gone → Drove s reports old before Gone gone after
-      gone_serving lt answer a b c q departs =
+      gone_serving lt answer a b q departs =
           let why : Why s new.hub before after 0 Gone =
           grind (
             arith,
@@ -302,6 +304,19 @@ module _ {s : ℕ} {reports : Type 0} where
           drove (on q) (omega arith) Gone departs why
 
 -- from hub to hub
+
+-- the output was written: the session stands as it stood, and its inbox has as much room
+pub status_flushed : {D : Type 0} {g : Ghosts D} {a b : Hub D g} {s : ℕ} {reports : Type 0} {before between : Traffic} {flush : OutputState} → Stands a
+    → LeadsAnswering s reports a before b between (λ h k. Flushes s reports h before flush k between)
+    → status_of b s ≡ status_of a s
+status_flushed {D} {g} {a} {b} {s} some p =
+    seen_after (hlevel props) some p.leads (λ h k was stands q. status_seen b k.hub stands s ∙ q.moves.status ∙ sym (status_seen a h.hub was s))
+
+pub room_flushed : {D : Type 0} {g : Ghosts D} {a b : Hub D g} {s : ℕ} {reports : Type 0} {before between : Traffic} {flush : OutputState} → Stands a
+    → LeadsAnswering s reports a before b between (λ h k. Flushes s reports h before flush k between)
+    → room_of b s ≡ room_of a s
+room_flushed {D} {g} {a} {b} {s} some p =
+    seen_after (hlevel ℕ_set) some p.leads (λ h k was stands q. room_seen b k.hub stands s ∙ q.room ∙ sym (room_seen a h.hub was s))
 
 -- so much is pending
 pub owed_now : {D : Type 0} {g : Ghosts D} {a b : Hub D g} {s : ℕ} {reports : Type 0} {before between : Traffic} {owed : ℕ} → Stands a

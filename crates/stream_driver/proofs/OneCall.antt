@@ -40,6 +40,7 @@ module _ {D : Type 0} {g : Ghosts D} {hub new : Hub D g} {s : ℕ} {reports : Ty
         moves =
             moved_by runs (tt, tt) (λ t. received t ∙ sym (append-nil b.received)) (λ t. sent t ∙ ap (λ l. b.sent ++ take n l) pending)
             refl refl (ap status_in runs.last_is ∙ sym (ap status_in is));
+        room = ap room_in runs.last_is ∙ sym (ap room_in is);
         answered = calls;
         why = (some, omega (arith, ap (λ o. length (pending_in o)) runs.last_is, length-drop n st.0.now.pending, ap (λ o. length (pending_in o)) is));
       })
@@ -82,6 +83,7 @@ module _ {D : Type 0} {g : Ghosts D} {hub : Hub D g} (none : NoneRuns hub) {s : 
   wrote_none answer differs present from received sent calls =
       leads_none hub none _ (λ h stands. record {
         moves = answered (present_in s stands.state present) (λ t. rw append-nil (received t)) sent;
+        room = refl;
         answered = calls;
         why = refl;
       })

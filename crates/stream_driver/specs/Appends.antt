@@ -4,7 +4,7 @@ use Rattle.std.specs.Prelude.{None}
 use Rattle.sessions.specs.StandsFor.{has_written, pending_of, records_of}
 use Rattle.stream_driver.specs.Sessions.{Ghosts, Hub}
 use Rattle.stream_driver.specs.Traffic.{Share, TakesOf, Traffic}
-use Rattle.stream_driver.specs.Types.{Exchange, Served, Broke, Starved, ExchangeBlocked, ExchangeFailed}
+use Rattle.stream_driver.specs.Types.{Exchange, Replied, Starved, ExchangeBlocked, ExchangeFailed}
 use Rattle.stream_driver.specs.Types.{ExchangeEnded, EntryState, Idle, Ready, EntryGone, Entry}
 
 module _ {T : Type 0} (reports : Type 0) (traffic : T → Traffic) (share : T → Share) where
@@ -60,8 +60,7 @@ pub record AddsOne {D : Type 0} {g : Ghosts D} (s : ℕ) (old new : Hub D g) : T
 
 -- a request that was served, or a broken frame, is answered
 abbrev pub IsReplied : Exchange → List ℕ → Type 0
-IsReplied Served pending = pending ≢ []
-IsReplied Broke pending = pending ≢ []
+IsReplied Replied pending = pending ≢ []
 IsReplied Starved pending = Unit {0}
 IsReplied ExchangeBlocked pending = Unit {0}
 IsReplied ExchangeFailed pending = Unit {0}

@@ -1,13 +1,14 @@
 -- What the parts of a drive do.
-use Rattle.std.specs.Prelude.{◌≡◌, ◌≢◌, ℕ, ◌+◌, ◌<◌, ◌≤◌, [], length}
+use Rattle.std.specs.Prelude.{◌≡◌, ◌≢◌, ◌⊎◌, ℕ, ◌+◌, ◌<◌, ◌≤◌, [], length}
 use Rattle.sessions.specs.SessionStreams.{HubState}
+use Rattle.sessions.specs.StandsFor.{pending_of, room_of, status_of}
 use Rattle.sessions.specs.declared.events.Status.TheVariants.{Open, Ending, Refused}
 use Rattle.stream_driver.specs.Drives.{Carried}
-use Rattle.stream_driver.specs.Sessions.{Point, status_at, inbox_room, pending_at, AwaitsMore}
+use Rattle.stream_driver.specs.Sessions.{Ghosts, Hub, Point, status_at, inbox_room, pending_at, AwaitsMore, Stands}
 use Rattle.stream_driver.specs.Traffic.{Traffic, AllMoved, CountsLast}
 use Rattle.stream_driver.specs.Types.{Read, Write, ReadAnswer, Moved, Blocked, Failed, Ended, WriteAnswer, Wrote}
 use Rattle.stream_driver.specs.Types.{WriteBlocked, WriteFailed, OutputState, Empty, FlushBlocked, FlushFailed}
-use Rattle.stream_driver.specs.Types.{Exchange, Served, Broke, Starved, ExchangeBlocked, ExchangeFailed}
+use Rattle.stream_driver.specs.Types.{Exchange, Replied, Starved, ExchangeBlocked, ExchangeFailed}
 use Rattle.stream_driver.specs.Types.{ExchangeEnded}
 
 -- how many requests were served
@@ -32,6 +33,7 @@ WhyWrote s old new WriteFailed = pending_at new s ≡ pending_at old s
 pub record WritesSome (s : ℕ) (reports : Type 0) (old : Point) (before : Traffic) (answer : WriteAnswer) (new : Point)
     (after : Traffic) : Type 0 where
   pub moves : Moves s reports old before new after
+  pub room : inbox_room new.hub s ≡ inbox_room old.hub s
   pub answered : CountsLast (Write answer) before after
   pub why : WhyWrote s old.hub new.hub answer
 
@@ -44,6 +46,7 @@ WhyFlushed s new before after FlushFailed = CountsLast (Write WriteFailed) befor
 pub record Flushes (s : ℕ) (reports : Type 0) (old : Point) (before : Traffic) (answer : OutputState) (new : Point)
     (after : Traffic) : Type 0 where
   pub moves : Moves s reports old before new after
+  pub room : inbox_room new.hub s ≡ inbox_room old.hub s
   pub why : WhyFlushed s new.hub before after answer
 
 -- one read
@@ -66,11 +69,18 @@ abbrev pub ReadsInTurn : ℕ → ℕ → Type 0 → Point → Traffic → ReadAn
 ReadsInTurn room s reports old before answer new after = AwaitsMore old.hub s → room ≡ inbox_room old.hub s
     → ReadsSome s reports old before answer new after
 
--- one request: it was executed, or no request began there, or memory was refused, or the stream stopped at a beginning
--- of one
+-- a request of the session may be served: the session is open and owes no reply, and its inbox has so much room
+pub record MayBeServed {D : Type 0} {g : Ghosts D} (hub : Hub D g) (s room : ℕ) : Type 0 where
+  pub stands : Stands hub
+  pub opened : status_of hub s ≡ Open
+  pub nothing : pending_of hub s ≡ []
+  pub room_is : room ≡ room_of hub s
+
+-- one request: it was replied to, as it was executed or no request began there, or memory was refused, or the stream
+-- stopped at a beginning of one
 abbrev pub WhyExchanged : ℕ → HubState → Traffic → Traffic → ℕ → Exchange → Type 0
-WhyExchanged s new before after served Served = AllMoved before after × (status_at new s ≡ Open) × (served ≡ 1)
-WhyExchanged s new before after served Broke = AllMoved before after × (status_at new s ≡ Ending)
+WhyExchanged s new before after served Replied =
+    AllMoved before after × (((status_at new s ≡ Open) × (served ≡ 1)) ⊎ (status_at new s ≡ Ending))
 WhyExchanged s new before after served Starved = AllMoved before after × (status_at new s ≡ Refused)
 WhyExchanged s new before after served ExchangeBlocked = CountsLast (Read Blocked) before after × AwaitsMore new s
 WhyExchanged s new before after served ExchangeFailed = CountsLast (Read Failed) before after × AwaitsMore new s
@@ -88,6 +98,7 @@ pub record WrittenSoFar (s : ℕ) (reports : Type 0) (old : Point) (before : Tra
     (owed : ℕ) : Type 0 where
   pub moves : Moves s reports old before new after
   pub moved : AllMoved before after
+  pub room : inbox_room new.hub s ≡ inbox_room old.hub s
   pub owed_is : owed ≡ length (pending_at new.hub s)
 
 -- between two reads: so much room is left

@@ -14,7 +14,7 @@ pub use Rattle.stream_driver.specs.declared.buffered.Flushed.TheVariants.{All, B
 pub use Rattle.stream_driver.specs.declared.buffered.Flushed.TheVariants.{Failed as FlushedFailed}
 pub use Rattle.stream_driver.specs.declared.counts.CallCounts.{CallCounts}
 pub use Rattle.stream_driver.specs.declared.driving.Exchange.{Exchange}
-pub use Rattle.stream_driver.specs.declared.driving.Exchange.TheVariants.{Served, Broke, Starved}
+pub use Rattle.stream_driver.specs.declared.driving.Exchange.TheVariants.{Replied, Starved}
 pub use Rattle.stream_driver.specs.declared.driving.Exchange.TheVariants.{Blocked as ExchangeBlocked}
 pub use Rattle.stream_driver.specs.declared.driving.Exchange.TheVariants.{Failed as ExchangeFailed}
 pub use Rattle.stream_driver.specs.declared.driving.Exchange.TheVariants.{Ended as ExchangeEnded}

@@ -1,11 +1,11 @@
 //! One drive of a session: it reads, serves requests and writes, until the stream blocks, the session leaves, or 64 requests were served.
-ghost use Rattle.std.specs.Prelude.{◌≡◌, ◌≢◌, ◌<◌, true, length, []};
+ghost use Rattle.std.specs.Prelude.{◌≡◌, ◌≢◌, ◌<◌, true, length};
 ghost use Rattle.sessions.specs.StandsFor.{pending_of, records_of, status_of};
 ghost use Rattle.stream_driver.specs.Sessions.{IsPresent, Leads, Stands};
 ghost use Rattle.stream_driver.specs.Appends.{AppendsOnce, KeepsShare, ServesOnce, SpendsShare};
 ghost use Rattle.stream_driver.specs.Sends.{LeadsAs};
 ghost use Rattle.stream_driver.specs.Drives.{Drove, Departs};
-ghost use Rattle.stream_driver.specs.Calls.{ReadsInTurn, WritesSome, Flushes, Exchanges};
+ghost use Rattle.stream_driver.specs.Calls.{ReadsInTurn, WritesSome, Flushes, Exchanges, MayBeServed};
 ghost use Rattle.stream_driver.specs.Traffic.{IsEnded, ReadsWithin, WritesWithin};
 ghost use Rattle.stream_driver.specs.Waits.{StaysSound};
 
@@ -28,11 +28,10 @@ enum OutputState {
     Failed,
 }
 
-// How one request went.
+// How one request went. `Replied`: it was executed, or was a broken frame, and its reply is pending.
 #[derive(Clone, Copy)]
 enum Exchange {
-    Served,
-    Broke,
+    Replied,
     Starved,
     Blocked,
     Failed,
@@ -109,31 +108,25 @@ fn read_some<D: Sectors, S: Stream>(
     answer
 }
 
-// Reads until one request can be served, and serves it.
+// Reads until one request can be served, and serves it. The session is open and owes no reply, and its inbox has so much room.
 fn serve_one<D: Sectors, S: Stream>(
     hub: &mut Hub<D>,
     s: u64,
+    room: usize,
     stream: &mut S,
     buffer: &mut [u8; READ_MAX],
 ) -> Exchange
-    requires stands { Stands hub.old }
-    requires opened { status_of hub.old s ≡ Status.Open }
-    requires nothing { pending_of hub.old s ≡ [] }
+    requires { MayBeServed hub.old s room }
     ensures served { LeadsAs s S.reports Exchanges result hub.old (S.traffic stream.old) hub.new
         (S.traffic stream.new) }
     ensures once { ServesOnce S.keeps_share S.reports S.traffic S.share s hub.old stream.old result hub.new stream.new }
     ensures stays { StaysSound S.is_sound S.waits (result ≡ Exchange.Blocked) stream.old stream.new }
 {
     hub.law_runs_follow();
-    let mut room = hub.room(s);
+    let mut room = room;
     loop {
         match hub.step(&Event::Serve(s)) {
-            Outcome::Done => {
-                return match hub.status(s) {
-                    Status::Open => Exchange::Served,
-                    _ => Exchange::Broke,
-                };
-            }
+            Outcome::Done => return Exchange::Replied,
             Outcome::Memory => return Exchange::Starved,
             _ => {}
         }
@@ -150,12 +143,11 @@ fn serve_one<D: Sectors, S: Stream>(
 fn serve_in_share<D: Sectors, S: Stream>(
     hub: &mut Hub<D>,
     s: u64,
+    room: usize,
     stream: &mut S,
     buffer: &mut [u8; READ_MAX],
 ) -> Exchange
-    requires stands { Stands hub.old }
-    requires opened { status_of hub.old s ≡ Status.Open }
-    requires nothing { pending_of hub.old s ≡ [] }
+    requires { MayBeServed hub.old s room }
     ensures served { LeadsAs s S.reports Exchanges result hub.old (S.traffic stream.old) hub.new
         (S.traffic stream.new) }
     ensures ended { S.keeps_share → records_of hub.new ≢ records_of hub.old
@@ -164,7 +156,7 @@ fn serve_in_share<D: Sectors, S: Stream>(
     ensures stays { StaysSound S.is_sound S.waits (result ≡ Exchange.Blocked) stream.old stream.new }
 {
     let records = hub.records();
-    let exchange = serve_one(hub, s, stream, buffer);
+    let exchange = serve_one(hub, s, room, stream, buffer);
     if hub.records() != records {
         stream.end_share(hub.pending(s).len());
     }
@@ -195,29 +187,29 @@ pub(crate) fn drive_over<D: Sectors, S: Stream>(
 {
     hub.law_runs_follow();
     'requests: for _served in 0..REQUESTS_MAX {
-        let owed = hub.pending(s).len();
-        match write_out(hub, s, owed, stream) {
+        let view = hub.view(s);
+        match write_out(hub, s, view.pending, stream) {
             OutputState::Empty => {}
             OutputState::Blocked => return Progress::Waiting,
             OutputState::Failed => return depart(hub, s),
         }
-        match hub.status(s) {
+        match view.status {
             Status::Open => {}
             _ => return depart(hub, s),
         }
-        match serve_in_share(hub, s, stream, buffer) {
-            Exchange::Served | Exchange::Broke => {}
+        match serve_in_share(hub, s, view.room, stream, buffer) {
+            Exchange::Replied => {}
             Exchange::Blocked => return Progress::Waiting,
             _ => return depart(hub, s),
         }
     }
-    let owed = hub.pending(s).len();
-    match write_out(hub, s, owed, stream) {
+    let view = hub.view(s);
+    match write_out(hub, s, view.pending, stream) {
         OutputState::Empty => {}
         OutputState::Blocked => return Progress::Waiting,
         OutputState::Failed => return depart(hub, s),
     }
-    match hub.status(s) {
+    match view.status {
         Status::Open => Progress::Again,
         _ => depart(hub, s),
     }

@@ -1,10 +1,11 @@
 use Rattle.stream_driver.proofs.driving.drive_over.Goals as goal
-use Rattle.std.proofs.Common.{inl, inr, arith, refl, sym, ◌∙◌}
+use Rattle.std.proofs.Common.{arith, refl, sym, ◌∙◌}
 use Rattle.sessions.proofs.EventSteps.{status_seen}
 use Rattle.stream_driver.proofs.Appends.{AddedNone, once_then, out, pending_none, served, served_once, spends_zero}
 use Rattle.stream_driver.proofs.Appends.{spent}
 use Rattle.stream_driver.proofs.Loops.{again, driven_none, flushes_out, gone_closed, gone_serving, gone_writing}
-use Rattle.stream_driver.proofs.Loops.{leaves, out_broke, out_served, waits_to_read, waits_to_write}
+use Rattle.stream_driver.proofs.Loops.{leaves, out_replied, room_flushed, status_flushed, waits_to_read}
+use Rattle.stream_driver.proofs.Loops.{waits_to_write}
 use Rattle.stream_driver.proofs.Sends.{reports_still, reports_three, reports_two_at}
 use Rattle.stream_driver.proofs.Waiting.{stays_last, stays_still}
 use Rattle.stream_driver.proofs.States.{leads_none, present_in, present_after, stands_after}
@@ -42,11 +43,13 @@ returns-in-Failed g c =
 
 pub returns-in_default : goal.returns-in_default
 returns-in_default g c =
-    let some = stands_after (stands_after c.requires.0 c.requests.invariant.was_answered.leads) c.in-Empty.ensures.written.leads in
+    let before = stands_after c.requires.0 c.requests.invariant.was_answered.leads in
+    let some = stands_after before c.in-Empty.ensures.written.leads in
+    let status = c.view-view.ensures.1 ∙ sym (status_flushed before c.in-Empty.ensures.written) in
     record {
       driven = leaves c.law_runs_follow.ensures.follow c.requests.invariant.was_answered c.depart-in_default.ensures.answer c.in-Empty.ensures.written
           c.depart-in_default.ensures.left
-          (λ h k l m stands p q r. gone_closed p (omega arith) q (λ e. c.in_default.not-Open (c.status.ensures ∙ status_seen _ _ stands c.args.s ∙ e)) r);
+          (λ h k l m stands p q r. gone_closed p (omega arith) q (λ e. c.in_default.not-Open (status ∙ status_seen _ _ stands c.args.s ∙ e)) r);
       appends = λ keeps. once_then (spent keeps (c.requests.invariant.adds keeps) c.in-Empty.ensures.spends) (c.depart-in_default.ensures.records some);
       stays = stays_still g.S.Stream.is_sound g.S.Stream.waits _ c.write_out.new.stream _
           (λ sound. c.in-Empty.ensures.stays.sound (c.requests.invariant.sound sound))
@@ -58,8 +61,9 @@ serve_in_share-requires g c =
     let some = stands_after c.requires.0 c.requests.invariant.was_answered.leads in
     record {
       stands = stands_after some c.in-Empty.ensures.written.leads;
-      opened = sym c.in-Open.ensures;
+      opened = status_flushed some c.in-Empty.ensures.written ∙ sym c.view-view.ensures.1 ∙ c.in-Open.is;
       nothing = pending_none some c.in-Empty.ensures.written;
+      room_is = c.view-view.ensures.2 ∙ sym (room_flushed some c.in-Empty.ensures.written);
     }
 
 pub returns-in-Blocked-serve_in_share : goal.returns-in-Blocked-serve_in_share
@@ -88,8 +92,7 @@ returns-in_default-serve_in_share g c =
           (reports_still c.depart-in_default-serve_in_share.ensures.left)
           (λ h l p. p.0.driven.carried) (λ l m r. r.carried)
           (λ h l m n stands p r t.
-          gone_serving p (omega arith) c.serve_in_share.result c.in_default-serve_in_share.not-Served c.in_default-serve_in_share.not-Broke
-          c.in_default-serve_in_share.not-Blocked r t));
+          gone_serving p (omega arith) c.serve_in_share.result c.in_default-serve_in_share.not-Replied c.in_default-serve_in_share.not-Blocked r t));
       appends = λ keeps. once_then
           (served_once keeps (out keeps (c.requests.invariant.adds keeps) c.in-Empty.ensures.spends (pending_none some c.in-Empty.ensures.written))
           c.serve_in_share.ensures.once (c.serve_in_share.ensures.ended keeps))
@@ -129,9 +132,11 @@ returns-in-Failed-write_out g c =
 
 pub returns-in-Open-status : goal.returns-in-Open-status
 returns-in-Open-status g c =
+    let before = stands_after c.requires.0 c.requests.invariant.was_answered.leads in
+    let opened = status_flushed before c.in-Empty-write_out.ensures.written ∙ sym c.view-view-2.ensures.1 ∙ c.in-Open-status.is in
     record {
       driven = reports_two_at c.law_runs_follow.ensures.follow c.requests.invariant.was_answered c.in-Empty-write_out.ensures.written
-          (λ h k p. p.driven.carried) (λ h k l was stands p q. again p (omega arith) q (sym (c.in-Open-status.ensures ∙ status_seen _ _ stands c.args.s)));
+          (λ h k p. p.driven.carried) (λ h k l was stands p q. again p (omega arith) q (sym (status_seen _ _ stands c.args.s) ∙ opened));
       appends = λ keeps. spent keeps (c.requests.invariant.adds keeps) c.in-Empty-write_out.ensures.spends;
       stays = stays_still g.S.Stream.is_sound g.S.Stream.waits _ c.write_out-2.new.stream _
           (λ sound. c.in-Empty-write_out.ensures.stays.sound (c.requests.invariant.sound sound))
@@ -140,12 +145,13 @@ returns-in-Open-status g c =
 
 pub returns-in_default-status : goal.returns-in_default-status
 returns-in_default-status g c =
-    let some = stands_after (stands_after c.requires.0 c.requests.invariant.was_answered.leads) c.in-Empty-write_out.ensures.written.leads in
+    let before = stands_after c.requires.0 c.requests.invariant.was_answered.leads in
+    let some = stands_after before c.in-Empty-write_out.ensures.written.leads in
+    let status = c.view-view-2.ensures.1 ∙ sym (status_flushed before c.in-Empty-write_out.ensures.written) in
     record {
       driven = leaves c.law_runs_follow.ensures.follow c.requests.invariant.was_answered c.depart-in_default-status.ensures.answer
           c.in-Empty-write_out.ensures.written c.depart-in_default-status.ensures.left
-          (λ h k l m stands p q r. gone_closed p (omega arith) q (λ e. c.in_default-status.not-Open (c.status-2.ensures ∙ status_seen _ _ stands c.args.s ∙ e))
-          r);
+          (λ h k l m stands p q r. gone_closed p (omega arith) q (λ e. c.in_default-status.not-Open (status ∙ status_seen _ _ stands c.args.s ∙ e)) r);
       appends = λ keeps. once_then (spent keeps (c.requests.invariant.adds keeps) c.in-Empty-write_out.ensures.spends)
           (c.depart-in_default-status.ensures.records some);
       stays = stays_still g.S.Stream.is_sound g.S.Stream.waits _ c.write_out-2.new.stream _
@@ -155,22 +161,14 @@ returns-in_default-status g c =
 
 pub requests-preserved : goal.requests-preserved
 requests-preserved g c =
+    let some = stands_after c.requires.0 c.requests.invariant.was_answered.leads in
     let flushed = flushes_out c.law_runs_follow.ensures.follow c.requests.invariant.was_answered c.in-Empty.ensures.written in
-    let ready = λ (keeps : g.S.Stream.keeps_share). out keeps (c.requests.invariant.adds keeps) c.in-Empty.ensures.spends
-    (pending_none (stands_after c.requires.0 c.requests.invariant.was_answered.leads) c.in-Empty.ensures.written) in
-    elim c.in-Served.is [
-      | inl e ↦ record {
-        was_answered = reports_two_at c.law_runs_follow.ensures.follow flushed (rw e at c.serve_in_share.ensures.served) (λ h l p. p.0.driven.carried)
-            (λ h l m stands last p r. out_served p (sym (c.in-Open.ensures ∙ status_seen _ _ stands c.args.s)) r);
-        adds = λ keeps. served keeps (ready keeps) (rw e at c.serve_in_share.ensures.once) (c.serve_in_share.ensures.ended keeps)
-            (rw e at c.serve_in_share.ensures.once).replied;
-        sound = λ sound. c.serve_in_share.ensures.stays.sound (c.in-Empty.ensures.stays.sound (c.requests.invariant.sound sound));
-      }
-      | inr e ↦ record {
-        was_answered = reports_two_at c.law_runs_follow.ensures.follow flushed (rw e at c.serve_in_share.ensures.served) (λ h l p. p.0.driven.carried)
-            (λ h l m stands last p r. out_broke p r);
-        adds = λ keeps. served keeps (ready keeps) (rw e at c.serve_in_share.ensures.once) (c.serve_in_share.ensures.ended keeps)
-            (rw e at c.serve_in_share.ensures.once).replied;
-        sound = λ sound. c.serve_in_share.ensures.stays.sound (c.in-Empty.ensures.stays.sound (c.requests.invariant.sound sound));
-      }
-    ]
+    let opened = status_flushed some c.in-Empty.ensures.written ∙ sym c.view-view.ensures.1 ∙ c.in-Open.is in
+    record {
+      was_answered = reports_two_at c.law_runs_follow.ensures.follow flushed c.in-Replied.ensures.served (λ h l p. p.0.driven.carried)
+          (λ h l m stands last p r. out_replied p (sym (status_seen _ _ stands c.args.s) ∙ opened) r);
+      adds = λ keeps. served keeps
+          (out keeps (c.requests.invariant.adds keeps) c.in-Empty.ensures.spends (pending_none some c.in-Empty.ensures.written))
+          c.in-Replied.ensures.once (c.in-Replied.ensures.ended keeps) c.in-Replied.ensures.once.replied;
+      sound = λ sound. c.in-Replied.ensures.stays.sound (c.in-Empty.ensures.stays.sound (c.requests.invariant.sound sound));
+    }

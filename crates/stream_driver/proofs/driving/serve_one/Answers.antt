@@ -4,7 +4,7 @@ use Rattle.std.proofs.Math.Bridge.{le_prop}
 use Rattle.sessions.proofs.EventSteps.{pending_seen, room_seen, status_seen}
 use Rattle.stream_driver.proofs.Appends.{keeps_idle, keeps_none, replied_now, serves_none, serves_not, serves_one}
 use Rattle.stream_driver.proofs.Appends.{serves_then}
-use Rattle.stream_driver.proofs.Loops.{read_nothing, read_then, read_stopped, serve_starved, serve_open, serve_closed}
+use Rattle.stream_driver.proofs.Loops.{read_nothing, read_then, read_stopped, serve_done, serve_starved}
 use Rattle.stream_driver.proofs.Loops.{serve_replied, waits}
 use Rattle.stream_driver.proofs.Sends.{reports_step, reports_still, reports_two_at}
 use Rattle.stream_driver.proofs.Waiting.{stays_last, stays_still}
@@ -16,7 +16,7 @@ loop-hub-init g c =
     let s = c.args.s in
     let was_answered = reports_still (leads_none c.args.hub.now c.law_runs_follow.ensures.none _
     (λ h stands. read_nothing (sym (status_seen hub h.hub stands.state s) ∙ c.requires.opened) (sym (pending_seen hub h.hub stands.state s)
-    ∙ c.requires.nothing) (c.room-room.ensures ∙ room_seen hub h.hub stands.state s))) in
+    ∙ c.requires.nothing) (c.requires.room_is ∙ room_seen hub h.hub stands.state s))) in
     record { was_answered = was_answered; keeps = keeps_none hub c.args.stream.now; sound = λ sound. sound }
 
 pub returns-in-Memory : goal.returns-in-Memory
@@ -29,30 +29,14 @@ returns-in-Memory g c =
       stays = stays_still g.S.Stream.is_sound g.S.Stream.waits _ c.loop-hub.stream _ c.loop-hub.invariant.sound (λ blocked. cc);
     }
 
-pub returns-in-Open : goal.returns-in-Open
-returns-in-Open g c =
+pub returns-in-Done : goal.returns-in-Done
+returns-in-Done g c =
     let some = stands_after c.requires.stands c.loop-hub.invariant.was_answered.leads in
     let replied = reports_step c.law_runs_follow.ensures.follow c.loop-hub.invariant.was_answered c.step.ensures.step c.step.ensures.ran c.step.ensures.device
     (λ h k p. p.moves.carried) (λ h k choice happens is stands p. serve_replied p happens is c.in-Done.is) in
     record {
       served = reports_step c.law_runs_follow.ensures.follow c.loop-hub.invariant.was_answered c.step.ensures.step c.step.ensures.ran c.step.ensures.device
-          (λ h k p. p.moves.carried)
-          (λ h k choice happens is stands p. serve_open p happens is c.in-Done.is (sym (c.in-Open.ensures ∙ status_seen _ _ stands c.args.s)));
-      once = serves_then c.loop-hub.invariant.keeps (serves_one some c.step.ensures.records) (replied_now c.requires.stands replied);
-      stays = stays_still g.S.Stream.is_sound g.S.Stream.waits _ c.loop-hub.stream _ c.loop-hub.invariant.sound (λ blocked. cc);
-    }
-
-pub returns-in_default-status : goal.returns-in_default-status
-returns-in_default-status g c =
-    let some = stands_after c.requires.stands c.loop-hub.invariant.was_answered.leads in
-    let replied = reports_step c.law_runs_follow.ensures.follow c.loop-hub.invariant.was_answered c.step.ensures.step c.step.ensures.ran c.step.ensures.device
-    (λ h k p. p.moves.carried) (λ h k choice happens is stands p. serve_replied p happens is c.in-Done.is) in
-    record {
-      served =
-          reports_step c.law_runs_follow.ensures.follow c.loop-hub.invariant.was_answered c.step.ensures.step c.step.ensures.ran c.step.ensures.device
-          (λ h k p. p.moves.carried)
-          (λ h k choice happens is stands p. serve_closed p happens is c.in-Done.is
-          (λ e. c.in_default-status.not-Open (c.status.ensures ∙ status_seen _ _ stands c.args.s ∙ e)));
+          (λ h k p. p.moves.carried) (λ h k choice happens is stands p. serve_done p happens is c.in-Done.is);
       once = serves_then c.loop-hub.invariant.keeps (serves_one some c.step.ensures.records) (replied_now c.requires.stands replied);
       stays = stays_still g.S.Stream.is_sound g.S.Stream.waits _ c.loop-hub.stream _ c.loop-hub.invariant.sound (λ blocked. cc);
     }

@@ -62,7 +62,7 @@ returns g c =
     let none : c.loop-owed.owed ≡ 0 = (let ends = c.loop-owed-test.false in omega arith) in
     record {
       written = reports_map c.loop-owed.invariant.was_answered
-          (λ h k stands p. record { moves = p.moves; why = (p.moved, nil_from_length _ (sym p.owed_is ∙ none)) });
+          (λ h k stands p. record { moves = p.moves; room = p.room; why = (p.moved, nil_from_length _ (sym p.owed_is ∙ none)) });
       spends = c.loop-owed.invariant.spends;
       stays = stays_still g.S.Stream.is_sound g.S.Stream.waits _ c.loop-owed.stream _ c.loop-owed.invariant.sound (λ blocked. cc);
     }
