@@ -47,7 +47,7 @@ def missing():
     return [f"{place.relative_to(TOP)}: gate.txt names it, and it isn't there" for place in places.values() if not place.is_file()]
 
 
-HEAD = ("Crate", "Tried", "Refused by a clause", "By the form of a proof alone", "Accepted", "At commit", "More, by the gate")
+HEAD = ("Crate", "Tried", "Refused by a clause", "By the form of a proof alone", "Accepted", "Not judged", "At commit", "More, by the gate")
 
 
 def result_of(name):
@@ -55,11 +55,12 @@ def result_of(name):
     folder = TOP / "wrong_bodies" / name
     count = len(list(folder.glob("*.edit")))
     if not (folder / "result.json").is_file():
-        return [f"{count} not yet" if count else "0", "", "", "", ""]
+        return [f"{count} not yet" if count else "0", "", "", "", "", ""]
     result = json.loads((folder / "result.json").read_text())
-    form, accepted = len(result["by form alone"]), len(result["accepted"]) + len(result["not judged"])
+    form, accepted, unjudged = (len(result[it]) for it in ("by form alone", "accepted", "not judged"))
     later = f", {count - result['tried']} not yet" if count > result["tried"] else ""
-    return [f"{result['tried']}{later}", str(result["tried"] - form - accepted), str(form), str(accepted), f"`{result['commit']}`"]
+    refused = result["tried"] - form - accepted - unjudged
+    return [f"{result['tried']}{later}", str(refused), str(form), str(accepted), str(unjudged), f"`{result['commit']}`"]
 
 
 def table():
@@ -69,7 +70,7 @@ def table():
     gate = {name: len(list((TOP / "crates" / name / "must-fail").glob("*.edit"))) for name in names}
     rows = [[f"`{name}`", *result_of(name), str(gate[name])] for name in names if gate[name] or (TOP / "wrong_bodies" / name).is_dir()]
     tried = sum(len(list((TOP / "wrong_bodies" / name).glob("*.edit"))) for name in names)
-    rows.append(["all", str(tried), "", "", "", "", str(sum(gate.values()))])
+    rows.append(["all", str(tried), "", "", "", "", "", str(sum(gate.values()))])
     return "\n".join("| " + " | ".join(cells) + " |" for cells in (HEAD, ["---"] * len(HEAD), *rows))
 
 
