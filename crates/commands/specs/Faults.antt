@@ -3,7 +3,7 @@ use Rattle.commit_log.specs.declared.faults.LogFault.TheVariants as logs
 use Rattle.scripts.specs.declared.faults.ScriptFault.TheVariants as scripts
 use Rattle.std.specs.Fmt.{decimal}
 use Rattle.std.specs.Prelude.{◌≡◌, ℕ, List, [], ◌∷◌, ◌++◌, Result, MatchResult, codes}
-use Rattle.sector.specs.Failures.{Rose}
+use Rattle.sector.specs.Counts.{Rose}
 use Rattle.commit_log.specs.declared.faults.LogFault.{LogFault}
 use Rattle.scripts.specs.declared.faults.ScriptFault.{ScriptFault}
 use Rattle.commands.specs.declared.faults.Fault.{Fault}

@@ -1,6 +1,6 @@
 //! `create` and `check`: makes an empty data file, and counts what one holds.
 ghost use Rattle.std.specs.Prelude.{◌≡◌, ◌≢◌, ◌<◌, ◌≤◌, ◌⊎◌, ◌↔◌, [], length, OnOk, IfErr, IsErrOf};
-ghost use Rattle.sector.specs.Failures.{Stayed};
+ghost use Rattle.sector.specs.Counts.{Stayed};
 ghost use Rattle.commit_log.specs.declared.formats.LogFormat.{LogFormat};
 ghost use Rattle.commit_log.specs.declared.formats.LogFormat.TheVariants.{One};
 ghost use Rattle.commit_log.specs.LogImage.{IsLogImage, IsDamaged, HasHead, IsNoLog};

@@ -1,12 +1,12 @@
 -- What an append does to a log.
 use Rattle.commit_log.specs.declared.faults.AppendFault.TheVariants as append
-use Rattle.std.specs.Prelude.{◌≡◌, ◌+◌, ◌∷◌, ◌++◌, ℕ, List, [], Result, OnOk, true, false}
+use Rattle.std.specs.Prelude.{◌≡◌, ◌≤◌, ◌+◌, ◌∷◌, ◌++◌, ℕ, List, [], Result, OnOk, true, false}
 use Rattle.model.specs.Map.{KeyWrite}
-use Rattle.sector.specs.Failures.{Rose, Stayed}
+use Rattle.sector.specs.Counts.{Rose, Stayed}
 use Rattle.sector.specs.declared.device.Sectors.{Ghosts}
 use Rattle.commit_log.specs.LogState.{AppendLeaves, AppendLeft, HasSameRecords, LacksRoom, OfItsLists, OnlyAppends}
 use Rattle.commit_log.specs.LogState.{StandsFor, failure_count, is_log_stopped, record_count, sector_count}
-use Rattle.commit_log.specs.LogState.{used_sectors}
+use Rattle.commit_log.specs.LogState.{sync_count, used_sectors}
 use Rattle.commit_log.specs.RecordFormat.{body_sectors}
 use Rattle.commit_log.specs.declared.faults.AppendFault.{AppendFault}
 use Rattle.commit_log.specs.declared.faults.LogFault.{LogFault}
@@ -14,7 +14,8 @@ use Rattle.commit_log.specs.declared.faults.LogFault.TheVariants.{Device, Full, 
 use Rattle.commit_log.specs.declared.log.Log.{Log}
 
 module _ {D : Type 0} {g : Ghosts D} (old new : Log D g) where
-  -- a record of these writes was added under this index, the next one, and no call of the device failed
+  -- a record of these writes was added under this index, the next one, with two syncs at most, and no call of the
+  -- device failed
   pub record IsAdded (writes : List KeyWrite) (index : ℕ) : Type 0 where
     pub index_is : index ≡ record_count old
     pub records : record_count new ≡ record_count old + 1
@@ -22,10 +23,12 @@ module _ {D : Type 0} {g : Ghosts D} (old new : Log D g) where
     pub size : sector_count new ≡ sector_count old
     pub running : is_log_stopped new ≡ false
     pub failures : Stayed (failure_count old) (failure_count new)
+    pub syncs : sync_count new ≤ sync_count old + 2
 
-  -- a call of the device failed: the log has the records that it had, and is stopped
+  -- a call of the device failed, after two syncs at most: the log has the records that it had, and is stopped
   pub record IsStoppedBy : Type 0 where
     pub failures : Rose (failure_count old) (failure_count new)
+    pub syncs : sync_count new ≤ sync_count old + 2
     pub stopped : is_log_stopped new ≡ true
     pub records : HasSameRecords old new
     pub size : sector_count new ≡ sector_count old

@@ -33,6 +33,10 @@ sector_count {g = g} log = g.size log.device
 abbrev pub failure_count : {D : Type 0} {g : Ghosts D} → Log D g → ℕ
 failure_count {g = g} log = g.failures log.device
 
+-- how many syncs it was asked for
+abbrev pub sync_count : {D : Type 0} {g : Ghosts D} → Log D g → ℕ
+sync_count {g = g} log = g.syncs log.device
+
 -- it has as many records as before, in as many sectors
 abbrev pub HasSameRecords : {D : Type 0} {g : Ghosts D} → Log D g → Log D g → Type 0
 HasSameRecords old new = (record_count new ≡ record_count old) × (used_sectors new ≡ used_sectors old)

@@ -1,7 +1,7 @@
 -- How opening a log ends, by what the device held.
 use Rattle.std.specs.Prelude.{◌≡◌, ◌⊎◌, ℕ, List, [], false, length, Result, MatchResult, IsErrAnd, IfErr}
 use Rattle.model.specs.Map.{KeyMap, KeyWrite}
-use Rattle.sector.specs.Failures.{Stayed}
+use Rattle.sector.specs.Counts.{Stayed}
 use Rattle.sector.specs.SectorModel.{LeavesNoMore}
 use Rattle.sector.specs.declared.device.Sectors.{Ghosts}
 use Rattle.commit_log.specs.Format.{current}

@@ -1,7 +1,7 @@
 -- What calls that only read a device change.
 use Rattle.std.specs.Prelude.{◌≡◌, ◌+◌, ◌*◌, ◌^◌, ◌<◌, ◌≤◌, ℕ, List, length, take, drop, Result, MatchResult, OnOk}
 use Rattle.std.specs.Prelude.{slice_get, Some}
-use Rattle.sector.specs.Failures.{Rose, Stayed}
+use Rattle.sector.specs.Counts.{Rose, Stayed}
 use Rattle.sector.specs.SectorModel.{LeavesNoMore, LeavesOnly, ReadsNoMore}
 use Rattle.sector.specs.declared.device.Sectors.{Ghosts}
 use Rattle.commit_log.specs.declared.faults.LogFault.{LogFault}

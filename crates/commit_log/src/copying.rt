@@ -3,7 +3,7 @@
 ghost use Rattle.std.specs.Prelude.{◌≡◌, ◌⊎◌, ◌≤◌, ◌+◌, ◌/◌, ◌^◌, [], length, vec_capacity, OnOk, IfOk, IfErr};
 ghost use Rattle.std.specs.Prelude.{IfSome};
 ghost use Rattle.std.specs.Prelude.{IfNone};
-ghost use Rattle.sector.specs.Failures.{IsCounted};
+ghost use Rattle.sector.specs.Counts.{IsCounted};
 ghost use Rattle.model.specs.Map.{IsMap, IsInBounds};
 ghost use Rattle.commit_log.specs.LogImage.{span};
 ghost use Rattle.commit_log.specs.Reading.{FaultIsCounted, OnlyReads};

@@ -1,7 +1,7 @@
 //! Makes a device an empty log: first a closed gate, then the head.
 ghost use Rattle.std.specs.Prelude.{◌≡◌, ◌≢◌, ◌<◌, ◌≤◌, ◌↔◌, [], List, ℕ, OnOk, IsErrOf, IfErr};
 ghost use Rattle.sector.specs.SectorModel.{LeavesOnly};
-ghost use Rattle.sector.specs.Failures.{IsCounted};
+ghost use Rattle.sector.specs.Counts.{IsCounted};
 ghost use Rattle.commit_log.specs.LogState.{HoldsLog, IsBeingMade, OnlyFormats};
 ghost use Rattle.commit_log.specs.Reading.{FaultIsCounted};
 

@@ -26,7 +26,7 @@ pub struct Log<D: Sectors> {
 }
 
 impl<D: Sectors> Log<D> {
-    ghost use Rattle.sector.specs.Failures.{Rose};
+    ghost use Rattle.sector.specs.Counts.{Rose};
     ghost use Rattle.model.specs.Machine.{body_sectors, payload_size};
     ghost use Rattle.commit_log.specs.Format.{current};
     ghost use Rattle.commit_log.specs.RecordFormat.{IsWriteSet};

@@ -1,6 +1,6 @@
 //! The order in which a record becomes durable: its body and the next closed gate, a sync, its open gate, a sync.
-ghost use Rattle.std.specs.Prelude.{◌≡◌, ◌<◌, ◌+◌, ◌/◌, length};
-ghost use Rattle.sector.specs.Failures.{IsCounted};
+ghost use Rattle.std.specs.Prelude.{◌≡◌, ◌<◌, ◌≤◌, ◌+◌, ◌/◌, length};
+ghost use Rattle.sector.specs.Counts.{IsCounted};
 ghost use Rattle.commit_log.specs.RecordFormat.{open_gate, closed_gate};
 ghost use Rattle.commit_log.specs.LogState.{AtOk, FitsBehind, HoldsBoth, LeavesEither, LeavesStaged, OfNextRecord};
 ghost use Rattle.commit_log.specs.LogState.{OfStaged};
@@ -27,6 +27,7 @@ fn stage<D: Sectors>(device: &mut D, gate: u64, body: &[u8]) -> Result<(), Devic
     requires { FitsBehind (D.size device.old) gate body.now }
     ensures size { D.size device.new ≡ D.size device.old }
     ensures failures { IsCounted result (D.failures device.old) (D.failures device.new) }
+    ensures syncs { D.syncs device.new ≤ D.syncs device.old + 1 }
 
     // At `Ok` each crash leaves the record behind its gate.
     ensures staged { D.keeps_model
@@ -49,6 +50,7 @@ fn open_staged<D: Sectors>(device: &mut D, gate: u64) -> Result<(), DeviceFault>
     requires { gate < D.size device.old }
     ensures size { D.size device.new ≡ D.size device.old }
     ensures failures { IsCounted result (D.failures device.old) (D.failures device.new) }
+    ensures syncs { D.syncs device.new ≤ D.syncs device.old + 1 }
     ensures acknowledged { D.keeps_model
         → OfStaged D.Sectors device.old gate (AtOk result (HoldsBoth D.Sectors device.new)) }
     ensures any_moment { D.keeps_model
@@ -65,6 +67,7 @@ pub fn write_record<D: Sectors>(device: &mut D, gate: u64, body: &[u8]) -> Resul
     requires { FitsBehind (D.size device.old) gate body.now }
     ensures size { D.size device.new ≡ D.size device.old }
     ensures failures { IsCounted result (D.failures device.old) (D.failures device.new) }
+    ensures syncs { D.syncs device.new ≤ D.syncs device.old + 2 }
 
     // At `Ok` reads give the log with the record, and a crash leaves it.
     ensures acknowledged { D.keeps_model

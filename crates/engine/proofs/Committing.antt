@@ -1,7 +1,7 @@
 -- What a commit does to the states that an engine stands for.
 use Rattle.pivot_check.specs.declared.Verdict.TheVariants as verdicts
 use Rattle.std.proofs.Common.{◌≡◌, ◌⊎◌, ◌≤◌, ◌+◌, ◌-◌, ◌^◌, ℕ, suc, Bool, true, false, List, [], ◌∷◌, ◌++◌, Option}
-use Rattle.std.proofs.Common.{Some, None, refl, sym, ap, subst, ◌∙◌, length, length-append, arith, ⊎_elim, inl}
+use Rattle.std.proofs.Common.{Some, None, refl, sym, ap, subst, ◌∙◌, length, length-append, arith, ⊎_elim, inl, inr}
 use Rattle.std.proofs.lemmas.Bool.{lt-ltb, le-ltb, eq-eqb, ne_eqb, or_left, or_right, both_ways}
 use Rattle.std.proofs.lemmas.Grind.{common_steps}
 use Rattle.std.proofs.lemmas.Option.{get_or_from_slice_get}
@@ -20,10 +20,11 @@ use Rattle.model.specs.Verdict.{verdict}
 use Rattle.model.specs.declared.refusals.Refusal.{Refusal}
 use Rattle.model.specs.declared.refusals.Refusal.TheVariants.{StoreStopped, FullNumbers, FullLog, StoreFault}
 use Rattle.model.specs.declared.refusals.Refusal.TheVariants.{Overwritten}
-use Rattle.sector.specs.Failures.{Rose, Stayed}
+use Rattle.sector.specs.Counts.{Rose, Stayed}
 use Rattle.sector.specs.SectorModel.{LeavesOnly}
 use Rattle.sector.specs.declared.device.Sectors.{Ghosts}
 use Rattle.commit_log.specs.LogState.{is_log_stopped, used_sectors, sector_count, log_device, record_count}
+use Rattle.commit_log.specs.LogState.{sync_count}
 use Rattle.commit_log.specs.declared.log.Log.{Log}
 use Rattle.versions.specs.StandsFor.{StandsFor as VersionsStandFor}
 use Rattle.snapshot.specs.Made.{HasMade, is_refused}
@@ -57,21 +58,40 @@ not_risen before now h = grind (arith, common_steps, le-ltb, ne_eqb)
 pub risen : (before now : ℕ) → Rose before now → has_risen before now ≡ true
 risen before now h = grind (arith, common_steps, or_left, lt-ltb, or_right, eq-eqb)
 
+-- a count didn't rise and stay
+not_both : {before now : ℕ} → Rose before now → Stayed before now → ⊥
+not_both rose stayed = elim rose [ inl less ↦ omega (arith, less, stayed.0) | inr top ↦ omega (arith, top.0, stayed.1) ]
+
 -- ---- the records of the log
 
 module _ {D : Type 0} {g : Ghosts D} (old new : Log D g) where
-  pub added_none : record_count new ≡ record_count old → AddsOneAtMost old new
-  added_none e = record { kept = omega (arith, e); one = omega (arith, e); same = λ _. e }
+  -- where the log is as it was
+  added_none : new ≡ old → AddsOneAtMost old new
+  added_none e =
+      let records : record_count new ≡ record_count old = ap (λ (l : Log D g). record_count l) e in
+      let syncs : sync_count new ≡ sync_count old = ap (λ (l : Log D g). sync_count l) e in
+      record { kept = omega (arith, records); one = omega (arith, records); same = λ _. records; syncs = omega (arith, syncs); quiet = λ _ _. syncs }
 
   -- a commit adds one where something was written, in the sectors that it takes
-  added_by : (ws : List KeyWrite) → record_count new ≡ record_count old + records_added ws → used_sectors new ≡ used_sectors old + sectors_taken ws
-      → AddsOneAtMost old new
-  added_by [] records used = added_none (omega (arith, records))
-  added_by (w ∷ ws) records used =
-      record { kept = omega (arith, records); one = omega (arith, records); same = λ e. absurd (omega (arith, used, e)) }
-
   pub added_once : (ws : List KeyWrite) → IsLogged old new ws → AddsOneAtMost old new
-  added_once ws logged = added_by ws logged.records logged.used
+  added_once [] logged = added_none (logged.untouched refl)
+  added_once (w ∷ ws) logged = record {
+    kept = omega (arith, logged.records);
+    one = omega (arith, logged.records);
+    same = λ e. absurd (omega (arith, logged.used, e));
+    syncs = logged.syncs;
+    quiet = λ e _. absurd (omega (arith, logged.records, e));
+  }
+
+  -- where the device failed, none was added
+  pub added_faulty : (ws : List KeyWrite) → IsLogStopped old new ws → AddsOneAtMost old new
+  added_faulty ws stops = record {
+    kept = omega (arith, stops.records);
+    one = omega (arith, stops.records);
+    same = λ _. stops.records;
+    syncs = stops.syncs;
+    quiet = λ _ stayed. absurd (not_both stops.fault stayed);
+  }
 
 -- ---- what is judged of a transaction
 

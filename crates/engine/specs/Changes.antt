@@ -5,9 +5,10 @@ use Rattle.std.specs.Ordering.{nat_cmp}
 use Rattle.std.specs.Prelude.{◌≡◌, ℕ, ◌+◌, ◌<◌, ◌≤◌, true, false, List, [], ◌∷◌, length, Option}
 use Rattle.model.specs.Machine.{body_sectors}
 use Rattle.model.specs.Map.{KeyWrite}
-use Rattle.sector.specs.Failures.{Rose, Stayed}
+use Rattle.sector.specs.Counts.{Rose, Stayed}
 use Rattle.sector.specs.declared.device.Sectors.{Ghosts}
 use Rattle.commit_log.specs.LogState.{is_log_stopped, used_sectors, sector_count, failure_count, record_count}
+use Rattle.commit_log.specs.LogState.{sync_count}
 use Rattle.commit_log.specs.declared.log.Log.{Log}
 use Rattle.snapshot.specs.View.{View}
 use Rattle.engine.specs.declared.engine.Engine.{Engine}
@@ -50,6 +51,7 @@ pub record IsLogged {D : Type 0} {g : Ghosts D} (old new : Log D g) (ws : List K
   pub used : used_sectors new ≡ used_sectors old + sectors_taken ws
   pub records : record_count new ≡ record_count old + records_added ws
   pub size : sector_count new ≡ sector_count old
+  pub syncs : sync_count new ≤ sync_count old + 2
   pub no_fault : WritesSomething ws → Stayed (failure_count old) (failure_count new)
   pub untouched : ws ≡ [] → new ≡ old
 
@@ -60,10 +62,15 @@ pub record IsLogStopped {D : Type 0} {g : Ghosts D} (old new : Log D g) (ws : Li
   pub used : used_sectors new ≡ used_sectors old
   pub records : record_count new ≡ record_count old
   pub size : sector_count new ≡ sector_count old
+  pub syncs : sync_count new ≤ sync_count old + 2
   pub fault : Rose (failure_count old) (failure_count new)
 
--- one record was added to the log at most, and none where it uses as many sectors as before
+-- One record was added to the log at most, and none where it uses as many sectors as before. The device was asked for
+-- two syncs at most, and for none where no record was added and no call failed.
 pub record AddsOneAtMost {D : Type 0} {g : Ghosts D} (old new : Log D g) : Type 0 where
   pub kept : record_count old ≤ record_count new
   pub one : record_count new ≤ record_count old + 1
   pub same : used_sectors new ≡ used_sectors old → record_count new ≡ record_count old
+  pub syncs : sync_count new ≤ sync_count old + 2
+  pub quiet : record_count new ≡ record_count old → Stayed (failure_count old) (failure_count new)
+      → sync_count new ≡ sync_count old

@@ -8,7 +8,7 @@ use std::collections::BTreeMap;
 
 impl<D: Sectors> Engine<D> {
     ghost use Rattle.std.specs.Prelude.{◌≡◌, ◌⊎◌, ◌<◌, false, IfOk, IfErr, IsErrAnd};
-    ghost use Rattle.sector.specs.Failures.{Stayed};
+    ghost use Rattle.sector.specs.Counts.{Stayed};
     ghost use Rattle.commit_log.specs.OpenedLog.{Finds, OpeningIsRefused, OpeningLeavesAsBefore};
     ghost use Rattle.engine.specs.Meaning.{device_of, failures_of, has_engine_stopped};
     ghost use Rattle.engine.specs.Opening.{IsJustOpened, IsStoreOf};

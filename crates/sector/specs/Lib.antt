@@ -1,6 +1,6 @@
 -- What a device of sectors gives back, and what a crash leaves of it.
 pub mod SectorModel
-pub mod Failures
+pub mod Counts
 pub mod Settled
 pub mod FileModel
 pub mod FileOpening

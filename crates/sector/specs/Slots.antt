@@ -4,7 +4,7 @@ use Rattle.std.specs.Borrow.{Bor}
 use Rattle.std.specs.Option.{is_none}
 use Rattle.std.specs.Prelude.{◌≡◌, ◌⊎◌, ◌<◌, ◌-◌, ℕ, suc, Bool, false, List, [], ◌∷◌, length, map, slice_get}
 use Rattle.std.specs.Prelude.{slice_index_or, slice_set, All, Some, None, IfSome, unwrap_or, refl}
-use Rattle.sector.specs.Failures.{count_max}
+use Rattle.sector.specs.Counts.{count_max}
 use Rattle.sector.specs.declared.memory.MemSectors.{MemSectors}
 use Rattle.sector.specs.declared.memory.Slot.{Slot}
 

@@ -1,6 +1,6 @@
 //! The trait of devices. Its clauses are the sector model: what reads give, and what a crash may leave.
 ghost use Rattle.std.specs.Prelude.{◌≡◌, ◌≢◌, ◌<◌, ◌≤◌, ◌/◌, ℕ, List, length, OnOk, OnErr};
-ghost use Rattle.sector.specs.Failures.{AreCounted, IsCounted};
+ghost use Rattle.sector.specs.Counts.{AreCounted, IsCounted, KeepsCounts, RoseByOne};
 ghost use Rattle.sector.specs.SectorModel.{AreWithin, FollowsBytes, FollowsWrite, LeavesNoMore, MightRead};
 ghost use Rattle.sector.specs.SectorModel.{ReadsBytes};
 ghost use Rattle.sector.specs.SectorModel.{ReadsNoMore, ReadsNoMoreOutside, Syncs, TimeGoesOn};
@@ -32,6 +32,9 @@ pub trait Sectors: Drop {
     /// How many reads, writes and syncs have failed.
     ghost failures: { Self → ℕ };
 
+    /// How many syncs were asked for: a u64, which stays at its greatest value.
+    ghost syncs: { Self → ℕ };
+
     /// The devices of this type keep the sector model.
     ghost keeps_model: { Type 0 };
 
@@ -54,7 +57,7 @@ pub trait Sectors: Drop {
     /// Reads a sector. After a `DeviceFault` the bytes of `into` may be any. Takes no memory.
     fn read(&mut self, at: u64, into: &mut Sector) -> Result<(), DeviceFault>
         requires { at < size self.old }
-        ensures size { size self.new ≡ size self.old }
+        ensures counts { KeepsCounts size syncs self.old self.new }
         ensures failures { IsCounted result (failures self.old) (failures self.new) }
         ensures gives { keeps_model → OnOk result (may_read self.old at into.new) }
         ensures reads { keeps_model → ReadsNoMore (may_read self.old) (may_read self.new) }
@@ -65,7 +68,7 @@ pub trait Sectors: Drop {
     /// anything. Takes no memory.
     fn write(&mut self, at: u64, from: &Sector) -> Result<(), DeviceFault>
         requires { at < size self.old }
-        ensures size { size self.new ≡ size self.old }
+        ensures counts { KeepsCounts size syncs self.old self.new }
         ensures failures { IsCounted result (failures self.old) (failures self.new) }
         ensures written { keeps_model → OnOk result ((s : List ℕ) → may_read self.new at s → s ≡ from.now) }
         ensures others { keeps_model → (i : ℕ) (s : List ℕ) → i ≢ at → may_read self.new i s → may_read self.old i s }
@@ -76,7 +79,7 @@ pub trait Sectors: Drop {
     /// any. Takes no memory.
     fn read_sectors(&mut self, at: u64, into: &mut [u8]) -> Result<(), DeviceFault>
         requires { AreWithin (size self.old) at into.old }
-        ensures size { size self.new ≡ size self.old }
+        ensures counts { KeepsCounts size syncs self.old self.new }
         ensures failures { AreCounted (length into.old / 512) result (failures self.old) (failures self.new) }
         ensures gives { keeps_model → OnOk result (MightRead (may_read self.old) at (length into.old / 512) into.new) }
         ensures reads { keeps_model → ReadsNoMore (may_read self.old) (may_read self.new) }
@@ -95,7 +98,7 @@ pub trait Sectors: Drop {
     /// each of them, and after a `DeviceFault` a read of one may give anything. Takes no memory.
     fn write_sectors(&mut self, at: u64, from: &[u8]) -> Result<(), DeviceFault>
         requires { AreWithin (size self.old) at from.now }
-        ensures size { size self.new ≡ size self.old }
+        ensures counts { KeepsCounts size syncs self.old self.new }
         ensures failures { AreCounted (length from.now / 512) result (failures self.old) (failures self.new) }
         ensures written { keeps_model → OnOk result (ReadsBytes (may_read self.new) at from.now) }
         ensures others { keeps_model
@@ -116,6 +119,7 @@ pub trait Sectors: Drop {
     /// Settles every sector: from then on a crash leaves what a read gives. A `DeviceFault` settles nothing. Takes no memory.
     fn sync(&mut self) -> Result<(), DeviceFault>
         ensures size { size self.new ≡ size self.old }
+        ensures syncs { RoseByOne (syncs self.old) (syncs self.new) }
         ensures failures { IsCounted result (failures self.old) (failures self.new) }
         ensures settles { keeps_model → OnOk result (Syncs size may_read may_leave self.old self.new) }
         ensures reads { keeps_model → OnErr result (ReadsNoMore (may_read self.old) (may_read self.new)) }

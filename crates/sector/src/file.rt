@@ -5,7 +5,7 @@ ghost use Rattle.std.specs.IoError.{error_kind};
 ghost use Rattle.file_calls.specs.HappenedCalls.{WasClosed, WasOpened, WasOpenedToRead, WasRead, WasWritten};
 ghost use Rattle.file_calls.specs.HappenedCalls.{WasSynced, HadNameSynced, HadCopiesDropped};
 ghost use Rattle.file_calls.specs.OpenFacts.{file_after_call};
-ghost use Rattle.sector.specs.Failures.{IsCounted, ReportsOutcome, count_max};
+ghost use Rattle.sector.specs.Counts.{IsCounted, ReportsOutcome, RoseByOne, count_max};
 ghost use Rattle.sector.specs.FileOpening.{WasMadeOfZeros, WasOpenedWhole, WasOpenedWholeToRead, IsNewlyOpened};
 ghost use Rattle.sector.specs.FileOpening.{WhyNotOpened};
 
@@ -21,6 +21,8 @@ use std::time::Clock;
 pub struct FileSectors {
     file: CountedFile,
     failures: u64,
+    /// How many syncs were asked for; the greatest count stays.
+    syncs: u64,
     /// The first sync that succeeds then drops the system's copies of the pages.
     drops_copies: bool,
     ghost fits: { file.sectors < 2 ^ 55 },
@@ -51,6 +53,7 @@ impl FileSectors {
             Ok(()) => Ok(FileSectors {
                 file,
                 failures: 0,
+                syncs: 0,
                 drops_copies: false,
             }),
             Err(error) => {
@@ -113,6 +116,7 @@ impl FileSectors {
     fn reported(&mut self, outcome: io::Result<()>) -> Result<(), DeviceFault>
         ensures reported { IsOk result ↔ (IsOk outcome × (self.old.failures < count_max)) }
         ensures file { self.new.file ≡ self.old.file }
+        ensures syncs { self.new.syncs ≡ self.old.syncs }
         ensures failures { IsCounted result self.old.failures self.new.failures }
     {
         if outcome.is_ok() && self.failures < u64::MAX {
@@ -125,6 +129,7 @@ impl FileSectors {
     /// Drops the system's copies of the pages, where that is still to be done.
     fn drop_copies(&mut self) -> io::Result<()>
         ensures file { self.new.file ≡ self.old.file }
+        ensures syncs { self.new.syncs ≡ self.old.syncs }
         ensures failures { self.new.failures ≡ self.old.failures }
         ensures dropped { self.old.drops_copies ≡ true → OnOk result (HadCopiesDropped self.old.file.file) }
         ensures once { self.new.drops_copies ≡ false }
@@ -149,6 +154,7 @@ fn with_whole_sectors(file: OpenedFile, drops_copies: bool) -> io::Result<FileSe
         Some(count) => Ok(FileSectors {
             file: CountedFile::new(file, count),
             failures: 0,
+            syncs: 0,
             drops_copies,
         }),
         None => Err(io::Error::from(ErrorKind::InvalidData)),
@@ -194,6 +200,8 @@ impl Sectors for FileSectors {
 
     ghost failures = { λ f. f.failures };
 
+    ghost syncs = { λ f. f.syncs };
+
     ghost keeps_model = { FileKeepsModel };
 
     ghost may_read = { λ f. facts.may_read f.file };
@@ -217,6 +225,7 @@ impl Sectors for FileSectors {
     /// It makes one call of the file: one that failed isn't tried again.
     fn read(&mut self, at: u64, into: &mut Sector) -> Result<(), DeviceFault>
         requires { at ≤ self.old.file.sectors }
+        ensures syncs { self.new.syncs ≡ self.old.syncs }
         ensures failures { IsCounted result self.old.failures self.new.failures }
         ensures long { length into.new ≡ 512 }
         ensures one_call { self.new.file ≡ file_after_call self.old.file }
@@ -228,6 +237,7 @@ impl Sectors for FileSectors {
     /// It makes one call of the file: one that failed isn't tried again.
     fn write(&mut self, at: u64, from: &Sector) -> Result<(), DeviceFault>
         requires { at ≤ self.old.file.sectors }
+        ensures syncs { self.new.syncs ≡ self.old.syncs }
         ensures failures { IsCounted result self.old.failures self.new.failures }
         ensures long { length from.now ≡ 512 }
         ensures one_call { self.new.file ≡ file_after_call self.old.file }
@@ -239,6 +249,7 @@ impl Sectors for FileSectors {
     /// It makes one call of the file: one that failed isn't tried again.
     fn read_sectors(&mut self, at: u64, into: &mut [u8]) -> Result<(), DeviceFault>
         requires { at ≤ self.old.file.sectors }
+        ensures syncs { self.new.syncs ≡ self.old.syncs }
         ensures failures { IsCounted result self.old.failures self.new.failures }
         ensures long { length into.new ≡ length into.old }
         ensures one_call { self.new.file ≡ file_after_call self.old.file }
@@ -251,6 +262,7 @@ impl Sectors for FileSectors {
     /// It makes one call of the file: one that failed isn't tried again.
     fn write_sectors(&mut self, at: u64, from: &[u8]) -> Result<(), DeviceFault>
         requires { at ≤ self.old.file.sectors }
+        ensures syncs { self.new.syncs ≡ self.old.syncs }
         ensures failures { IsCounted result self.old.failures self.new.failures }
         ensures one_call { self.new.file ≡ file_after_call self.old.file }
         ensures happened { ReportsOutcome result self.old.failures (WasWritten self.old.file (at * 512) from.now) }
@@ -262,6 +274,7 @@ impl Sectors for FileSectors {
     /// It makes one call of the file: one that failed isn't tried again. Of a file that was opened, the first that succeeds then drops the
     /// system's copies of its pages; where these can't be dropped, it fails.
     fn sync(&mut self) -> Result<(), DeviceFault>
+        ensures syncs { RoseByOne self.old.syncs self.new.syncs }
         ensures failures { IsCounted result self.old.failures self.new.failures }
         ensures one_call { self.new.file ≡ file_after_call self.old.file }
         ensures happened { (ok : Bool) × WasSynced self.old.file ok × (IsOk result → ok ≡ true) }
@@ -269,6 +282,7 @@ impl Sectors for FileSectors {
         // Where the system's copies were still to be dropped, they were.
         ensures dropped { self.old.drops_copies ≡ true → OnOk result (HadCopiesDropped self.old.file.file) }
     {
+        self.syncs = self.syncs.saturating_add(1);
         let outcome = match self.file.sync() {
             Ok(()) => self.drop_copies(),
             Err(error) => Err(error),

@@ -2,7 +2,7 @@
 ghost use Rattle.std.specs.Prelude.{◌≡◌, ◌<◌, ◌≤◌, ◌%◌, ◌^◌, ◌↔◌, length, IfOk, OnOk};
 ghost use Rattle.std.specs.Prelude.{IsErr, IsTrue, MatchBool, MatchResult, map, replicate};
 ghost use Rattle.std.specs.List.{concat};
-ghost use Rattle.sector.specs.Failures.{IsCounted, Rose, Stayed};
+ghost use Rattle.sector.specs.Counts.{IsCounted, KeepsCounts, Rose, RoseByOne, Stayed};
 ghost use Rattle.sector.specs.Settled.{AreSettledBefore, AreSettledFrom};
 
 use crate::{DeviceFault, SECTOR_SIZE, Sector, Sectors};
@@ -64,6 +64,8 @@ pub struct MemSectors {
     /// Where sectors may be unsettled: from the first to the last that was written since the last sync.
     unsettled: Span,
     failures: u64,
+    /// How many syncs were asked for; the greatest count stays.
+    syncs: u64,
     /// The call that is to fail, counted from the next one as 1; 0 for none.
     failing_call: u64,
     ghost before: { AreSettledBefore unsettled.start slots.items },
@@ -93,6 +95,7 @@ impl MemSectors {
             slots,
             unsettled: Span::empty(),
             failures: 0,
+            syncs: 0,
             failing_call: 0,
         })
     }
@@ -122,6 +125,7 @@ impl MemSectors {
             slots,
             unsettled: Span::empty(),
             failures: 0,
+            syncs: 0,
             failing_call: 0,
         })
     }
@@ -153,6 +157,7 @@ impl MemSectors {
             slots,
             unsettled: Span::empty(),
             failures: 0,
+            syncs: 0,
             failing_call: 0,
         }
     }
@@ -160,6 +165,7 @@ impl MemSectors {
     /// Counts a call, and says whether it fails.
     fn fails(&mut self) -> bool
         ensures slots { self.new.slots ≡ self.old.slots }
+        ensures syncs { self.new.syncs ≡ self.old.syncs }
         ensures fails { IsTrue result ↔ FailsNext self.old }
         ensures next { CountsDown self.old self.new }
         ensures failures { MatchBool result (Rose self.old.failures self.new.failures)
@@ -218,6 +224,8 @@ impl Sectors for MemSectors {
 
     ghost failures = { λ m. m.failures };
 
+    ghost syncs = { λ m. m.syncs };
+
     ghost keeps_model = { Unit {0} };
 
     ghost may_read = { MayRead };
@@ -240,7 +248,7 @@ impl Sectors for MemSectors {
 
     fn read(&mut self, at: u64, into: &mut Sector) -> Result<(), DeviceFault>
         requires { at < length self.old.slots.items }
-        ensures size { length self.new.slots.items ≡ length self.old.slots.items }
+        ensures counts { KeepsCounts (λ m. length m.slots.items) (λ m. m.syncs) self.old self.new }
         ensures failures { IsCounted result self.old.failures self.new.failures }
         ensures gives { OnOk result (MayRead self.old at into.new) }
 
@@ -260,7 +268,7 @@ impl Sectors for MemSectors {
 
     fn write(&mut self, at: u64, from: &Sector) -> Result<(), DeviceFault>
         requires { at < length self.old.slots.items }
-        ensures size { length self.new.slots.items ≡ length self.old.slots.items }
+        ensures counts { KeepsCounts (λ m. length m.slots.items) (λ m. m.syncs) self.old self.new }
         ensures failures { IsCounted result self.old.failures self.new.failures }
         ensures crash { FollowsWrite at (MayBeLeft self.old) (MayBeLeft self.new) }
 
@@ -284,7 +292,8 @@ impl Sectors for MemSectors {
     }
 
     fn sync(&mut self) -> Result<(), DeviceFault>
-        ensures size { length self.new.slots.items ≡ length self.old.slots.items }
+        ensures counts { (length self.new.slots.items ≡ length self.old.slots.items)
+            × RoseByOne self.old.syncs self.new.syncs }
         ensures failures { IsCounted result self.old.failures self.new.failures }
         ensures settles { OnOk result (Syncs (λ m. length m.slots.items) MayRead MayBeLeft self.old self.new) }
         ensures crash { LeavesNoMore (MayBeLeft self.old) (MayBeLeft self.new) }
@@ -297,6 +306,7 @@ impl Sectors for MemSectors {
         ensures sectors { MatchResult result (λ _. IsSettledAs self.old self.new)
             (λ _. HasSameSectors self.old self.new) }
     {
+        self.syncs = self.syncs.saturating_add(1);
         if self.fails() {
             Err(DeviceFault)
         } else {

@@ -2,10 +2,12 @@
 use Rattle.std.specs.BTreeMap.{is_at}
 use Rattle.std.specs.Map.{lookup}
 use Rattle.std.specs.Ordering.{nat_cmp}
-use Rattle.std.specs.Prelude.{◌≡◌, ◌⊎◌, ℕ, ◌+◌, Bool, true, false, List, [], map, Option, Some, None, option_map}
+use Rattle.std.specs.Prelude.{◌≡◌, ◌⊎◌, ◌≤◌, ℕ, ◌+◌, Bool, true, false, List, [], map, Option, Some, None, option_map}
 use Rattle.std.specs.Prelude.{Result, Ok, Err}
 use Rattle.model.specs.Leading.{LeadsBy}
+use Rattle.sector.specs.Counts.{Stayed}
 pub use Rattle.sector.specs.declared.device.Sectors.{Ghosts}
+use Rattle.commit_log.specs.LogState.{sync_count}
 use Rattle.commit_log.specs.declared.faults.Unopened.{Unopened}
 use Rattle.commit_log.specs.declared.log.Log.{Log}
 use Rattle.engine.specs.Meaning.{StandsFor as EngineStandsFor, device_of, failures_of}
@@ -49,6 +51,10 @@ device hub = device_of hub.engine
 abbrev pub failures : {D : Type 0} {g : Ghosts D} → Hub D g → ℕ
 failures hub = failures_of hub.engine
 
+-- how many syncs that device was asked for
+abbrev pub syncs : {D : Type 0} {g : Ghosts D} → Hub D g → ℕ
+syncs hub = sync_count (log hub)
+
 -- the device after an opening: that of the hub, or the one that was returned
 abbrev pub device_after : {D : Type 0} {g : Ghosts D} → Result (Hub D g) (Unopened D) → D
 device_after (Ok hub) = device hub
@@ -79,6 +85,13 @@ pub record AddsRecord {D : Type 0} {g : Ghosts D} (old new : Hub D g) (e : HubEv
 abbrev pub CountsRecords : {D : Type 0} {g : Ghosts D} → Hub D g → Hub D g → HubEvent → Type 0
 CountsRecords old new e =
     (h : HubState) → StandsFor old h → (records_of new ≡ records_of old) ⊎ AddsRecord old new e
+
+-- What an event asks of the device: nothing of a store that is stopped; two syncs at most of one that runs, and none
+-- where no record was added and no call failed.
+pub record AsksDevice {D : Type 0} {g : Ghosts D} (old new : Hub D g) : Type 0 where
+  pub still : is_stopped old ≡ true → device new ≡ device old
+  pub few : syncs new ≤ syncs old + 2
+  pub quiet : records_of new ≡ records_of old → Stayed (failures old) (failures new) → syncs new ≡ syncs old
 
 -- by a choice that is possible, an event leads to this state and outcome
 pub record Reaches (h : HubState) (e : HubEvent) (c : Choice) (later : HubState) (outcome : Outcome) : Type 0 where

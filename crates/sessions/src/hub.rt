@@ -13,7 +13,8 @@ ghost use Rattle.sessions.specs.OneOrder.{RestartsHaveOneHistory};
 ghost use Rattle.sessions.specs.Readings.{RunsHaveOneReading};
 ghost use Rattle.sessions.specs.SessionStreams.{HubState, is_above, hub_over, Joins, Receives, Serves, Sends, Leaves};
 ghost use Rattle.sessions.specs.StandsFor.{HubLeads, StandsFor, event_of, status_of, room_of, pending_of, device};
-ghost use Rattle.sessions.specs.StandsFor.{CountsRecords, failures, has_written, is_stopped, log, records_of};
+ghost use Rattle.sessions.specs.StandsFor.{AsksDevice, CountsRecords, failures, has_written, is_stopped, log};
+ghost use Rattle.sessions.specs.StandsFor.{records_of};
 
 use crate::events::{Event, Outcome, SESSIONS_MAX, SessionView, Status};
 use crate::present::Present;
@@ -286,14 +287,14 @@ impl<D: Sectors> Hub<D> {
     /// buffer for a reply whose text is longer than 536 bytes. `Bytes`, `Sent` and `Left` take no memory.
     ///
     /// A crash at any moment of the event leaves the map committed before it or, where it executes a COMMIT, that with the
-    /// transaction's writes; after the event it leaves the map that is then committed. A store that is stopped leaves the device alone.
-    /// The event, alone, is a run. It adds a record to the log only where it serves a request of a session whose transaction has written:
-    /// one, and that transaction is over.
+    /// transaction's writes; after the event it leaves the map that is then committed. The event, alone, is a run. It adds a record to the
+    /// log only where it serves a request of a session whose transaction has written: one, and that transaction is over. It asks the device
+    /// for two syncs at most, and for none where it adds no record and no call fails. A store that is stopped leaves the device alone.
     #[inline(always)]
     pub fn step(&mut self, event: &Event<'_>) -> Outcome
         ensures step { HubLeads self.old self.new (event_of event.now) result }
         ensures crash { D.keeps_model → AppliesWhole self.old self.new (event_of event.now) }
-        ensures still { is_stopped self.old ≡ true → device self.new ≡ device self.old }
+        ensures asks { AsksDevice self.old self.new }
         ensures stored { D.keeps_model → KeepsCommitted self.new }
         ensures ran { RunsAlone self.old self.new (event_of event.now) }
         ensures device { failures self.old ≤ failures self.new }

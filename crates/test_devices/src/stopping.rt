@@ -1,6 +1,6 @@
 //! A device in memory that fails from a chosen call on.
 ghost use Rattle.std.specs.Prelude.{◌≡◌, length};
-ghost use Rattle.sector.specs.Failures.{IsCounted};
+ghost use Rattle.sector.specs.Counts.{IsCounted};
 
 use sector::{DeviceFault, MemSectors, Sector, Sectors};
 
@@ -12,6 +12,8 @@ pub struct Stopping {
     pub device: MemSectors,
     calls_left: u64,
     failures: u64,
+    /// How many syncs were asked for.
+    pub syncs: u64,
 }
 
 impl Stopping {
@@ -21,12 +23,14 @@ impl Stopping {
             device,
             calls_left: calls,
             failures: 0,
+            syncs: 0,
         }
     }
 
     fn is_running(&mut self) -> bool
         ensures device { self.new.device ≡ self.old.device }
         ensures failures { self.new.failures ≡ self.old.failures }
+        ensures syncs { self.new.syncs ≡ self.old.syncs }
     {
         let runs = self.calls_left > 0;
         self.calls_left = self.calls_left.saturating_sub(1);
@@ -36,6 +40,7 @@ impl Stopping {
     fn reported(&mut self, outcome: Result<(), DeviceFault>) -> Result<(), DeviceFault>
         ensures device { self.new.device ≡ self.old.device }
         ensures counted { IsCounted result self.old.failures self.new.failures }
+        ensures syncs { self.new.syncs ≡ self.old.syncs }
     {
         if outcome.is_ok() && self.failures < u64::MAX {
             return Ok(());
@@ -49,6 +54,8 @@ impl Sectors for Stopping {
     ghost size = { λ s. length s.device.slots.items };
 
     ghost failures = { λ s. s.failures };
+
+    ghost syncs = { λ s. s.syncs };
 
     ghost keeps_model = { ⊥ };
 
@@ -87,6 +94,7 @@ impl Sectors for Stopping {
     }
 
     fn sync(&mut self) -> Result<(), DeviceFault> {
+        self.syncs = self.syncs.saturating_add(1);
         if !self.is_running() {
             return self.reported(Err(DeviceFault));
         }

@@ -70,6 +70,13 @@ fn failure_of_each_call_of_an_opening(rt: HostRuntime) {
     }
 }
 
+/// The opening syncs once, and the append twice.
+#[test]
+fn syncs_of_an_append(rt: HostRuntime) {
+    let device = after_append(&rt, Stopping::new(one_record(&rt), 100));
+    assert_eq!(rt; device.syncs, 3);
+}
+
 /// The append writes the body at 4 and a closed gate at 5, syncs, opens the gate at 3, and syncs.
 #[test]
 fn crash_points_of_an_append(rt: HostRuntime) {

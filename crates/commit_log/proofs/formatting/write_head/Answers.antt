@@ -19,9 +19,9 @@ returns-clause-formatted g c keeps =
         arith,
         second.settled.size_is,
         c.requires,
-        c.write.ensures.size,
+        c.write.ensures.counts.sectors,
         c.sync.ensures.size,
-        c.write-2.ensures.size,
+        c.write-2.ensures.counts.sectors,
         c.sync-2.ensures.size,
       ))
           (λ s at. c.in_ok-write-2.ensures.written keeps s (second.was_read 0 s at) ∙ c.head_sector.ensures)
@@ -37,7 +37,7 @@ head g c keeps =
     let first = gate_written g.D.Sectors c.args.device.now c.write.new.self (g.met.D.Sectors.only_now keeps c.args.device.now) (c.write.ensures.crash keeps)
     (c.write.ensures.time keeps) in
     let settled = gate_settled g.D.Sectors c.args.device.now c.write.new.self c.sync.new.self (g.D.Sectors.size c.sync.new.self)
-    (omega (arith, c.requires, c.write.ensures.size, c.sync.ensures.size)) (λ s read. c.in_ok-write.ensures.written keeps s read
+    (omega (arith, c.requires, c.write.ensures.counts.sectors, c.sync.ensures.size)) (λ s read. c.in_ok-write.ensures.written keeps s read
     ∙ c.closed_gate.ensures) first (c.in_ok-sync.ensures.settles keeps) (c.sync.ensures.time keeps) in
     head_written g.D.Sectors c.args.device.now c.sync.new.self c.write-2.new.self settled (c.write-2.ensures.crash keeps) (c.write-2.ensures.time keeps)
 

@@ -32,7 +32,7 @@ returns-in_err-record-clause-found g c keeps image size reads = grind (arith, co
 
 pub records-preserved : goal.records-preserved
 records-preserved g c = record {
-  size = c.read_record.ensures.size ∙ c.read.ensures.size ∙ c.records.invariant.size;
+  size = c.read_record.ensures.size ∙ c.read.ensures.counts.sectors ∙ c.records.invariant.size;
   failures = c.in_ok-record.ensures.fault ∙ c.in-Ok.ensures.failures.0 ∙ c.records.invariant.failures;
   only_reads = λ keeps. reads_joined g.D.Sectors _ _ c.read.new.self _ (c.records.invariant.only_reads keeps) (c.read.ensures.reads keeps)
       (c.read.ensures.crash keeps) (c.read.ensures.time keeps) (c.read_record.ensures.only_reads keeps);

@@ -31,7 +31,7 @@ returns-clause-acknowledged g c keeps lists writes is proper here =
     let opening = after_open g.D.Sectors lists writes c.args.device.now c.write.new.self c.args.gate is proper here
     (g.met.D.Sectors.only_now keeps c.args.device.now) (c.write.ensures.crash keeps) (c.write.ensures.time keeps) in
     acknowledged g.D.Sectors lists writes c.write.new.self c.sync.new.self c.args.gate (g.D.Sectors.size c.sync.new.self) (c.in_ok-sync.ensures.settles keeps)
-    c.open_gate.result is proper (omega (arith, c.requires, c.write.ensures.size, c.sync.ensures.size)) (c.in_ok-write.ensures.written keeps)
+    c.open_gate.result is proper (omega (arith, c.requires, c.write.ensures.counts.sectors, c.sync.ensures.size)) (c.in_ok-write.ensures.written keeps)
     (ap is_gate_open c.open_gate.ensures ∙ open_gate_open) opening.left
 
 opened : (g : Over) (c : After-write g) → g.D.Sectors.keeps_model → OnlyWrites g.D.Sectors c.args.gate 1 c.args.device.now c.write.new.self

@@ -62,7 +62,8 @@ returns-clause-staged g c keeps lists writes is here =
     + length c.args.body.now / 512) (omega (arith, is.gate_is)) body (c.write.ensures.crash keeps) (c.write.ensures.time keeps) in
     staged_by g.D.Sectors lists writes c.write.new.self c.sync.new.self c.args.gate (g.D.Sectors.size c.sync.new.self) (c.in_ok-sync.ensures.settles keeps)
     c.write_sectors.new.self c.args.body.now c.closed_gate.result is
-    (omega (arith, c.requires.room, c.write_sectors.ensures.size, c.write.ensures.size, c.sync.ensures.size)) (c.in_ok-write_sectors.ensures.written keeps)
+    (omega (arith, c.requires.room, c.write_sectors.ensures.counts.sectors, c.write.ensures.counts.sectors, c.sync.ensures.size))
+    (c.in_ok-write_sectors.ensures.written keeps)
     (c.write.ensures.others keeps) (c.in_ok-write.ensures.written keeps) (ap is_gate_open c.closed_gate.ensures ∙ closed_gate_shut) gate.left
 
 gate_written : (g : Over) (c : After-write g) → g.D.Sectors.keeps_model

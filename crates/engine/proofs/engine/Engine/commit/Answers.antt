@@ -6,7 +6,7 @@ use Rattle.model.specs.declared.refusals.Refusal.TheVariants.{NotOpen}
 use Rattle.commit_log.specs.LogState.{log_device}
 use Rattle.engine.proofs.Calls.{refused_outside}
 use Rattle.engine.proofs.Committing.{cleared_still, ended_refused, ended_overwritten, ended_fault, joined, risen}
-use Rattle.engine.proofs.Committing.{not_risen, commit_memory, unwritten, crash_stored, added_none, added_once}
+use Rattle.engine.proofs.Committing.{not_risen, commit_memory, unwritten, crash_stored, added_faulty, added_once}
 use Rattle.engine.specs.Meaning.{device_of}
 
 pub returns-in_default-clause-step : goal.returns-in_default-clause-step
@@ -45,7 +45,7 @@ returns-in-Err-Device-clause-appends g c =
     let j = (c.in-Clear.ensures c.args.self.now c.args.s refl refl (sym c.in-Some.ensures.value)).0 in
     let stops = c.in-Err-Device.ensures.fails.stopped (ap Err c.in-Err-Device.field-0-is) in
     record {
-      once = rw c.refuse-in-Err-Device.ensures.leaves.store.log (added_none _ _ stops.records);
+      once = rw c.refuse-in-Err-Device.ensures.leaves.store.log (added_faulty _ _ c.in-Some.transaction.now.writes stops);
       read_only = λ m h none. absurd (stops.written (unwritten c.args.self.now c.args.s c.in-Some.transaction.now m h j none));
     }
 

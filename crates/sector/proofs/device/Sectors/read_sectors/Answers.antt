@@ -9,7 +9,10 @@ returns-in_err-read-clause-time g c keeps =
 
 pub loop-k-preserved : goal.loop-k-preserved
 loop-k-preserved g c = record {
-  size = c.read.ensures.size ∙ c.loop-k.invariant.size;
+  counts = record {
+    sectors = c.read.ensures.counts.sectors ∙ c.loop-k.invariant.counts.sectors;
+    synced = c.read.ensures.counts.synced ∙ c.loop-k.invariant.counts.synced;
+  };
   failures = (
     c.in_ok-read.ensures.failures.0 ∙ c.loop-k.invariant.failures.0,
     λ some. omega (arith, c.in_ok-read.ensures.failures.1, c.loop-k.invariant.failures.0),

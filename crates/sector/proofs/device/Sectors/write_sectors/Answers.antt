@@ -18,7 +18,10 @@ returns-in_err-write-clause-time g c keeps =
 
 pub loop-k-preserved : goal.loop-k-preserved
 loop-k-preserved g c = record {
-  size = c.write.ensures.size ∙ c.loop-k.invariant.size;
+  counts = record {
+    sectors = c.write.ensures.counts.sectors ∙ c.loop-k.invariant.counts.sectors;
+    synced = c.write.ensures.counts.synced ∙ c.loop-k.invariant.counts.synced;
+  };
   failures = (
     c.in_ok-write.ensures.failures.0 ∙ c.loop-k.invariant.failures.0,
     λ some. omega (arith, c.in_ok-write.ensures.failures.1, c.loop-k.invariant.failures.0),

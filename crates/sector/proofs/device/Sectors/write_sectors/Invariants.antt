@@ -1,11 +1,11 @@
 use Rattle.sector.proofs.device.Sectors.write_sectors.Given as goal
 use Rattle.std.proofs.Common.{◌≡◌, ◌<◌, ◌+◌, ◌/◌, ℕ, List, length}
-use Rattle.sector.specs.Failures.{StayedOver}
+use Rattle.sector.specs.Counts.{KeepsCounts, StayedOver}
 use Rattle.sector.specs.SectorModel.{Elapses, FollowsWrites, IsOutside, sector_in}
 
 abbrev pub invariant-loop-k : goal.invariant-loop-k
 invariant-loop-k g l = record {
-  size : g.Self.Sectors.size l.self ≡ g.Self.Sectors.size l.fn.self;
+  counts : KeepsCounts g.Self.Sectors.size g.Self.Sectors.syncs l.fn.self l.self;
   failures : StayedOver l.k (g.Self.Sectors.failures l.fn.self) (g.Self.Sectors.failures l.self);
   written : g.Self.Sectors.keeps_model → (j : ℕ) (s : List ℕ) → j < l.k → g.Self.Sectors.may_read l.self (l.at + j) s → s ≡ sector_in l.from j;
   others : g.Self.Sectors.keeps_model → (i : ℕ) (s : List ℕ) → IsOutside l.at (length l.from / 512) i → g.Self.Sectors.may_read l.self i s

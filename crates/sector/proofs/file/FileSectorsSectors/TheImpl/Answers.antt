@@ -27,7 +27,7 @@ write-tells x c =
     let keep : FileKeepsModel → WriteKeeps c.args.self.now.file c.args.at c.args.from.now c.ensures.happened.0 =
     λ keeps. keeps.writes _ _ _ _ c.ensures.happened.1 in
     record {
-      size = search rules;
+      counts = record { sectors = search rules; synced = c.ensures.syncs };
       failures = c.ensures.failures;
       written = λ keeps. grind (arith, common_steps, written_one _ _ _ _ c.ensures.long (keep keeps));
       others = grind (arith, common_steps);

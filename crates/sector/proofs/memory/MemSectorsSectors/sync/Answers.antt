@@ -18,8 +18,8 @@ returns-else-fails-clause-sectors c =
     let is : c.settle_all.new.slots.items ≡ map settled_slot c.args.self.now.slots.items = rw c.fails.ensures.slots at c.settle_all.ensures in
     (ap written is ∙ written-settled c.args.self.now.slots.items, rw is (all_settled c.args.self.now.slots.items))
 
-pub invariant_of-self : goal.invariant_of-self
-invariant_of-self c =
+pub invariant_of-self-else-fails : goal.invariant_of-self-else-fails
+invariant_of-self-else-fails c =
     let all : All IsSettledSlot c.settle_all.new.slots.items = rw c.settle_all.ensures (all_settled c.fails.new.self.slots.items) in
     record {
       before = λ k d lt less. all k d lt;

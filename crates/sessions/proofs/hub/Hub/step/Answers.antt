@@ -17,6 +17,13 @@ returns-clause-ran g c =
     c.apply-outcome.ensures.crash)
     c.apply-outcome.ensures.still
 
+pub returns-clause-asks : goal.returns-clause-asks
+returns-clause-asks g c = record {
+  still = c.apply-outcome.ensures.still;
+  few = c.apply-outcome.ensures.records.syncs;
+  quiet = c.apply-outcome.ensures.records.quiet;
+}
+
 pub returns-clause-records : goal.returns-clause-records
 returns-clause-records g c =
     counts c.args.self.now c.apply-outcome.new.self (event_of c.args.event.now) c.apply-outcome.result c.apply-outcome.ensures.step
