@@ -8,8 +8,8 @@ The timer looks each minute, and begins a compaction if more than half of the se
 rate. The watch looks each second, and begins one at half where the log would be full within two minutes. A compaction goes over the gates of the c
 commits since the last one, reads them, and copies K keys, while the server runs. The copy follows what comes meanwhile, which takes the share
 f = r / FOLLOWED of the time again, of that the same share, and so on; then all of it is read, and it follows once more. If that takes T seconds, with
-those until the watch sees it, r T commits are behind the map in the new file. A rate is sustained where it is below half full then, and where the old
-one had room for them.
+those until the watch sees it, r T commits are behind the map in the new file, or fewer where they wrote the same keys. A rate is sustained where it is
+below half full then, and where the old one had room for them.
 """
 import argparse
 import math

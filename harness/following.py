@@ -1,8 +1,8 @@
 """Compaction while the server runs: a copy that follows its data file, `ssikvd-follow`, and how long `ssikvd-compact` stops a server.
 
 Writes and deletions come between any two steps: before the place is noted, while the map is copied, and between each two runs of the tool. The copy
-then has the map of the data file, and the program reads it. A copy or a data file that isn't the noted one, a damaged record and a full copy are
-refused, and nothing is changed. Each image that a crash within a run may leave is a log of so many records. A tool that is killed is run again.
+then has the map of the data file, and the program reads it. Of what is written again and again only the last write of each key is appended. A copy or
+a data file that isn't the noted one, a damaged record and a full copy are refused, and nothing is changed. Each image that a crash within a run may leave is a log of so many records. A tool that is killed is run again.
 Clients write while `ssikvd-compact` runs, none of their commits is lost, and how long each of them wasn't served is printed. Finally, the judges are
 shown tools with a planted fault.
 """
@@ -105,6 +105,16 @@ def follows(tally):
             judge_copy(pair, follow_through(pair, port))
     with tally.run("many records between two steps"), served_pair(chance) as (pair, port):
         judge_copy(pair, follow_through(pair, port, most=400))
+    with tally.run("more than is held at once"), served_pair(chance) as (pair, port), folder() as place:
+        script = planted(place, "ssikvd-follow", *FEW_HELD)
+        shutil.copy(os.path.join(DIST, "ssikvd-verify"), place)
+        judge_copy(pair, follow_through(pair, port, script, most=100))
+    with tally.run("the last write of each key alone"), served_pair(chance) as (pair, port):
+        pair.copy(port, 10)
+        before = check(pair.new)[0]
+        pair.commit(port, 100)
+        judge_copy(pair, pair.follow("--once", pair.data, pair.new))
+        expect(check(pair.new)[0] == before + 1, f"of 40 keys it appended {check(pair.new)[0] - before} records")
 
 
 def refusals(tally):
@@ -191,11 +201,13 @@ def crashes(tally):
             pair.copy(server.port, 4)
             pair.follow(pair.data, pair.new)
             pair.commit(server.port, 5)
+        tool_module.OF_RECORD = 4    # so that it appends several records
         print(f"  ssikvd-follow: {judge_crashes(tool_module, pair, chance)} images of crashes", flush=True)
 
 
 def judge_crashes(tool_module, pair, chance):
     before, images = log_of(pair.new), 0
+    appended = -(-len({key for writes in log_of(pair.data)[-5:] for key, _ in writes}) // 4)
     recorder = Recorder(bytes_of(pair.new), os.path.getsize(pair.new), tool_module.read_state(pair.state)["new"]["place"])
     own = tool_module.os.pwrite, tool_module.os.fsync
 
@@ -210,7 +222,7 @@ def judge_crashes(tool_module, pair, chance):
                     found = read_log(lambda at: image[SECTOR * at:SECTOR * (at + 1)], len(image) // SECTOR)[0]
                 except Damaged as damage:
                     raise Deviation(f"a crash leaves a damaged record {damage}") from None
-                expect(len(found) in (len(before), len(before) + 5), f"a crash leaves {len(found)} records")
+                expect(len(found) in (len(before), len(before) + appended), f"a crash leaves {len(found)} records")
             return result
 
         return judge
@@ -363,12 +375,15 @@ def fill(port, keys):
 
 # Tools with a fault
 
+FEW_HELD = ("MOST, OF_EACH = 1 << 28, 200", "MOST, OF_EACH = 1 << 12, 200")
 WRONG = {
-    "a record that is left out": ("            target.append(piece, payloads)\n", "            target.append(piece, payloads[:3])\n"),
-    "an index that isn't its own": ("OPEN_GATE, stop - start, index, digest)", "OPEN_GATE, stop - start, index + 1, digest)"),
-    "a digest without those before it": ("sha256(digest + index.to_bytes", "sha256(index.to_bytes"),
+    "a record that is left out": ("            writes.add(piece, payloads)\n", "            writes.add(piece, payloads[:3])\n"),
+    "a first write": ("                last[key] = value\n", "                last.setdefault(key, value)\n"),
+    "a deletion that is left out": ("        keys = sorted(last)\n", "        keys = sorted(key for key in last if last[key] is not None)\n"),
+    "an index that isn't its own": ("len(payload), log.records, digest)", "len(payload), log.records + 1, digest)"),
+    "a digest without those before it": ("sha256(log.digest + log.records", "sha256(log.records"),
 }
-OTHER_BYTES = ("write(self.file, content[SECTOR * closed:size], SECTOR", 'write(self.file, bytes(content[SECTOR * closed:size - 1]) + b"\\1", SECTOR')
+OTHER_BYTES = ("write(self.file, content[closed:], SECTOR", 'write(self.file, content[closed:-1] + b"\\1", SECTOR')
 NO_CATCH_UP = '    line=$(ssikvd-follow --once --state "$data.new.state" "$data" "$data.new") || {'
 CHECKED = '    line=$(ssikvd-follow --state "$data.new.state" "$data" "$data.new" --while'
 WRONG_COMPACTIONS = {

@@ -16,6 +16,7 @@ import math
 import os
 import re
 import socket
+import struct
 import subprocess
 import threading
 import time
@@ -27,7 +28,7 @@ from ssikvd_harness.deviations import expect, is_refused
 from ssikvd_harness.examples import simple_client
 from ssikvd_harness.frames import frame
 from ssikvd_harness.limits import VALUE_MAX, WRITES_MAX
-from ssikvd_harness.log_format import log_image, log_of, map_of
+from ssikvd_harness.log_format import BODY_MAX, SECTOR, log_image, log_of, map_of
 from ssikvd_harness.server import check, create, folder
 from ssikvd_harness.settings import PATIENCE, PROGRAM, text_of
 from ssikvd_harness.tools import DIST, ENVIRONMENT, in_memory, loaded, tool
@@ -347,6 +348,18 @@ def descriptors_of():
     return len(os.listdir("/proc/self/fd"))
 
 
+def grown_by_largest(data, records):
+    """A step after which a log of the largest size has this many of the largest records, of which only what the watch reads is there."""
+    def step(_):
+        with open(data, "wb") as file:
+            file.write(log_image([], 4))
+            for index in range(records):
+                file.seek(SECTOR * (1 + (BODY_MAX + 1) * index))
+                file.write(b"\1".ljust(SECTOR, b"\0") + struct.pack(">IQ", SECTOR * BODY_MAX - 44, index))
+            file.truncate(SECTOR * LARGE)
+    return step
+
+
 def set_back(state, seconds):
     """A step after which the last look is this many seconds older."""
     def step(_):
@@ -421,6 +434,9 @@ def judge_watch(module):
             file.write(b"\xff")
         expect_end("a damaged file", (61, 504, [f"{data}: damaged record 0"]), few, half)
         forget(state)
+        grown_by_largest(data, 300)(None)
+        expect_end("the largest records, which take long to read", (3, 2_082 * 435 + 2, []), *(grown_by_largest(data, it) for it in (325, 410, 435)))
+        forget(state)
         half(None)
         os.mkdir(state)
         expect_end("a state that can't be written", (1, 522, [f"no state in {state}: Is a directory"]), more)
@@ -430,8 +446,9 @@ WRONG_WATCHES = {
     "a rate between two logs": ("if is_same and before is not None", "if before is not None"),
     "a log that isn't half full": ("is_half_full = 100 * count > above * sectors and ", "is_half_full = "),
     "a log that lasts": ("sectors - count < within * rate", "rate"),
-    "a compaction that is begun late": ("sectors - count < times * meanwhile", "False"),
-    "a compaction that doesn't make room": (" and meanwhile < count", ""),
+    "a compaction that is begun late": ("is_late = ", "is_late = False and "),
+    "large records that are read as fast as small ones": (" + max(count - LARGE * records, 0) / HASHED", ""),
+    "a compaction that doesn't make room": (" and rate * at_least(sectors) < count", ""),
     "a compaction that has failed": (" and not self.has_failed()", ""),
     "a compaction of another log": ("return log.goes_on(*used.end_of(found))", "return True"),
     "a clock of the day": ("before, self.at = self.at, time.monotonic()", "before, self.at = self.at, time.time()"),
