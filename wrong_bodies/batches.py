@@ -34,6 +34,8 @@ GOAL = re.compile(r"\(`([^`]+)`\)")
 ANSWER = re.compile(r"pub (\S+) :")
 # What is said where a proof names a fact of the real body that the wrong one lacks: that the contract refuses it isn't shown by that.
 NAMED = re.compile(r"has no field|\(nearest: |that can be named from here")
+# What is said of a function that calls, or passes on, what isn't proved: of its own body nothing is known then.
+WAITS = re.compile(r"\bit (?:calls|passes) ")
 # So many copies are checked at once.
 AT_ONCE = 60
 
@@ -113,6 +115,12 @@ def kind_of(goal):
     """What a goal is about, wherever in the body it stands: a clause of the contract, an invariant, or what a callee asks."""
     words = goal.split("-")
     return "-".join(words[:2 if words[0] in ("invariant_of", "loop") else 1]), goal.partition("-clause-")[2]
+
+
+def waits_for(said):
+    """What a function calls or passes on and isn't proved, by what a check reports of it."""
+    found = WAITS.search(said)
+    return set(re.findall(r"`([^`]+)`", said[found.end():])) if found else set()
 
 
 def by_form(function, printed, crate):
@@ -209,37 +217,35 @@ class Crate:
             for file in shutil.copytree(proof, proof.parent / f"{proof.name}_{word}").rglob("*.antt"):
                 file.write_text(file.read_text().replace(f"{place}.", f"{place}_{word}."))
 
-    def judge_copies(self, chosen, in_place):
-        """Tries these, by function, each in a copy of its function, and some in place: those of which nothing can be said yet stay."""
+    def judge_copies(self, chosen):
+        """Tries these, by function, each in a copy of its function: those of which nothing can be said yet stay."""
         self.restore()
         words = {edit: f"wrong_{i}" for i, edit in enumerate(edit for edits in chosen.values() for edit in edits)}
         unchanged = {"unchanged": None} if self.controls else {}
         for function in sorted(chosen, key=lambda it: -it.head):
             self.copy_function(function, {**unchanged, **{words[edit]: edit for edit in chosen[function]}})
         names = [function.copy(word) for function, edits in chosen.items() for word in [*unchanged, *(words[edit] for edit in edits)]]
-        self.change(in_place.values())
-        found, printed = self.check([*names, *in_place], [*words, *in_place.values()])
+        found, printed = self.check(names, words)
         if not found:
-            self.leave_out_faults(chosen, words, in_place, printed)
+            self.leave_out_faults(chosen, words, printed)
             return
-        self.take(in_place, found, printed)
         for function, edits in chosen.items():
             if unchanged and not found.get(function.copy("unchanged"), "").startswith("proved"):
                 print(f"{self.name}: an unchanged copy of {function.name} isn't proved", flush=True)
             else:
                 self.take({function.copy(words[edit]): edit for edit in edits}, found, printed)
 
-    def leave_out_faults(self, chosen, words, in_place, printed):
+    def leave_out_faults(self, chosen, words, printed):
         """Where a check of copies says nothing: leaves those in which it finds a fault to be tried in place, or tries the halves."""
         names = {self.function_with(file, int(line)) for file, line in FAULT.findall(printed)}
         faulty = {edit for edit, word in words.items() if any(name.endswith(f"_{word}") for name in names)}
         left = {function: [edit for edit in edits if edit not in faulty] for function, edits in chosen.items()}
         items = [(function, edits) for function, edits in left.items() if edits]
         if faulty and items:
-            self.judge_copies(dict(items), in_place)
+            self.judge_copies(dict(items))
         elif len(items) > 1:
-            self.judge_copies(dict(items[:len(items) // 2]), {})
-            self.judge_copies(dict(items[len(items) // 2:]), {})
+            self.judge_copies(dict(items[:len(items) // 2]))
+            self.judge_copies(dict(items[len(items) // 2:]))
 
     def function_with(self, file, number):
         """The name of the function with this line."""
@@ -254,7 +260,7 @@ class Crate:
         if not found or any("could not tell" in it for it in found.values()):
             self.verdicts[edit] = "BAD"
         else:
-            against = [it for it, said in found.items() if not said.startswith(("proved", "assumed")) and "calls" not in said]
+            against = [it for it, said in found.items() if not said.startswith(("proved", "assumed")) and not waits_for(said)]
             self.verdicts[edit] = "refused" if any(not it.startswith(("proved", "assumed")) for it in found.values()) else "PROVED"
             self.formal |= {edit} if against and all(by_form(it, printed, self.folder) for it in against) else set()
 
@@ -267,12 +273,12 @@ class Crate:
             left += new
         return found
 
-    def batch(self, of_trait=False):
-        """One wrong body of each function, or of each that a trait asks for, of which none is known to call another."""
+    def batch(self):
+        """One wrong body of each function, of which none is known to call another."""
         chosen = {}
         for edit in self.edits:
             function = self.functions[edit] and self.functions[edit].name
-            if edit not in self.verdicts and function and function not in chosen and (self.functions[edit].of_trait or not of_trait):
+            if edit not in self.verdicts and function and function not in chosen:
                 if not any(it in self.below(function) or function in self.below(it) for it in chosen):
                     chosen[function] = edit
         return chosen
@@ -292,9 +298,9 @@ class Crate:
     def take(self, chosen, found, printed):
         """Takes down what a check reports of the wrong bodies in these functions, or copies of functions. Was anything clear?"""
         for name, said in found.items():
-            self.calls.setdefault(re.sub(r"_wrong_\d+$", "", name), set()).update(re.findall(r"`([^`]+)`", said.partition("calls")[2]))
+            self.calls.setdefault(re.sub(r"_wrong_\d+$", "", name), set()).update(waits_for(said))
         told = {name: found.get(name, "nothing") for name in chosen}
-        clear = [name for name, said in told.items() if said.startswith(("proved", "not proved", "no proof")) and "calls" not in said]
+        clear = [name for name, said in told.items() if said.startswith(("proved", "not proved", "no proof")) and not waits_for(said)]
         for name in clear:
             self.verdicts[chosen[name]] = "PROVED" if told[name].startswith("proved") else "refused"
             self.formal |= {chosen[name]} if by_form(name, printed, self.folder) else set()
@@ -314,8 +320,9 @@ class Crate:
         return [it for it in parts if it]
 
     def run(self):
+        # (what is edited in place isn't proved, so nothing could be said of a copy that calls it: the two are never in one check)
         for part in self.parts():
-            self.judge_copies(part, {} if self.controls else self.batch(of_trait=True))
+            self.judge_copies(part)
         while chosen := self.batch():
             self.judge(chosen)
         for edit in self.edits:
