@@ -36,6 +36,8 @@ ANSWER = re.compile(r"pub (\S+) :")
 NAMED = re.compile(r"has no field|\(nearest: |that can be named from here")
 # What is said of a function that calls, or passes on, what isn't proved: of its own body nothing is known then.
 WAITS = re.compile(r"\bit (?:calls|passes) ")
+# What is said where no proof of the wrong body can be tried at all: that the contract refuses it isn't shown by that either.
+UNCOVERED = "does not cover this function"
 # So many copies are checked at once.
 AT_ONCE = 60
 
@@ -257,7 +259,7 @@ class Crate:
         function = self.functions[edit]
         found, printed = self.check_in_place([edit], [function.name]) if function else ({}, "")
         found, printed = (found, printed) if found else self.check_in_place([edit], [])
-        if not found or any("could not tell" in it for it in found.values()):
+        if not found or any("could not tell" in it or UNCOVERED in it for it in found.values()):
             self.verdicts[edit] = "BAD"
         else:
             against = [it for it, said in found.items() if not said.startswith(("proved", "assumed")) and not waits_for(said)]
@@ -302,7 +304,7 @@ class Crate:
         told = {name: found.get(name, "nothing") for name in chosen}
         clear = [name for name, said in told.items() if said.startswith(("proved", "not proved", "no proof")) and not waits_for(said)]
         for name in clear:
-            self.verdicts[chosen[name]] = "PROVED" if told[name].startswith("proved") else "refused"
+            self.verdicts[chosen[name]] = "PROVED" if told[name].startswith("proved") else "BAD" if UNCOVERED in told[name] else "refused"
             self.formal |= {chosen[name]} if by_form(name, printed, self.folder) else set()
         return bool(clear)
 
