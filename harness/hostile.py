@@ -1,7 +1,8 @@
 """Clients that don't behave, against `serve`, while a good client is served.
 
 Half frames and silence, urgent bytes, broken frames with much before and after them, floods of pipelined requests, peers that acknowledge late or
-don't read, as many connections as there are and more, also all at once, resets within a reply, random bytes, and every session at its limits at once.
+don't read, transactions in one piece to one key, as many connections as there are and more, also all at once, resets within a reply, random bytes, and
+every session at its limits at once.
 The good client's slowest reply stays under a bound, the server doesn't end, what may be answered is the model's, and the memory of the process stays
 under the bound that its limits give.
 
@@ -317,6 +318,21 @@ def flood_of_commits(siege):
         expect(replies[:-1] == [OK] * (len(clients) + 1) and replies[-1][:1] == b":", "a DEL was refused")
 
 
+def whole_transactions(siege):
+    """Each place sends transactions to one key, each in one piece. Each is served whole, so that none meets another, or too many that are open."""
+    clients, times = take_every_place(siege), siege.times(5, 50)
+    for _ in range(times):
+        for client in clients:
+            client.send(BEGIN + frame("SET", "whole", "1") + COMMIT)
+        for client in clients:
+            replies = [client.reply(), client.reply(), client.reply() or b""]
+            expect(replies[:2] == [OK, OK] and replies[2][:1] == b":", f"a transaction in one piece was answered {replies}")
+    close_all(clients)
+    with siege.join() as client:  # the map is to be as it was
+        client.send(BEGIN + frame("DEL", "whole") + COMMIT)
+        expect([client.reply(), client.reply()] == [OK, OK] and client.reply()[:1] == b":", "a DEL was refused")
+
+
 # Peers that don't read, and peers that reset
 
 def never_reads(siege):
@@ -584,7 +600,7 @@ def judge_memory(tally, peak, idle, commits):
 SCENES = (
     half_a_frame, one_byte_at_a_time, urgent_bytes, broken_frames, broken_frame_behind_much, value_above_the_bound,
     held_behind_broken_frames, without_end_behind_a_broken_frame, flood_of_transactions, replies_of_two_turns, flood_before_reading,
-    flood_of_commits, never_reads, reads_late, resets, two_hundred_connections, burst, random_bytes, every_session_at_its_limits)
+    flood_of_commits, whole_transactions, never_reads, reads_late, resets, two_hundred_connections, burst, random_bytes, every_session_at_its_limits)
 
 
 def play(tally, siege, scene):
