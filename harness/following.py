@@ -2,7 +2,8 @@
 
 Writes and deletions come between any two steps: before the place is noted, while the map is copied, and between each two runs of the tool. The copy
 then has the map of the data file, and the program reads it. Of what is written again and again only the last write of each key is appended. A copy or
-a data file that isn't the noted one, a damaged record and a full copy are refused, and nothing is changed. Each image that a crash within a run may leave is a log of so many records. A tool that is killed is run again.
+a data file that isn't the noted one, a damaged record and a full copy are refused, and nothing is changed. Each image that a crash within a run may
+leave is a log of so many records. A tool that is killed is run again.
 Clients write while `ssikvd-compact` runs, none of their commits is lost, and how long each of them wasn't served is printed. Finally, the judges are
 shown tools with a planted fault.
 """
