@@ -54,8 +54,8 @@ ALLOCATORS = ["C library", "mxfast=0, trim_threshold=131072", "jemalloc", "jemal
 LATE_MS, TRIES = 50, 3
 # At a million keys in this order, as long as there is time.
 PAUSE_SCENES = ["quiet", "load", "written_again", "old_commit", "younger", "half_deleted", "straddling", "queue", "coming_and_going", "beside_writers",
-                "largest_ranges", "middle_ranges", "same_key", "first_long_reply", "overlapping", "refilled", "written_before", "large_commits",
-                "old_commits", "sparse_ranges"]
+                "whole_transactions", "largest_ranges", "middle_ranges", "same_key", "first_long_reply", "overlapping", "refilled", "written_before",
+                "large_commits", "old_commits", "sparse_ranges"]
 
 
 # What was measured, and where

@@ -578,6 +578,28 @@ def beside_writers(options):
     return scene
 
 
+def write_at_once(scene, clients):
+    """Each sends a whole transaction in one piece, and all of them stand ready in one turn."""
+    with scene.stopped():
+        for number, client in enumerate(clients):
+            client.socket.sendall(BEGIN + sets([scattered(number)]) + COMMIT)
+    for client in clients:
+        for _ in range(3):
+            client.reply()
+
+
+def whole_transactions(options):
+    """The first of each client isn't foreseen; from then on each takes turns."""
+    with Scene(options, options.keys, options.keys // COMMIT_WRITES + 2 * FLOODING + 8) as scene:
+        clients = [scene.client() for _ in range(FLOODING)]
+        write_at_once(scene, clients)
+        scene.turns.begin()
+        scene.wait_until_idle()
+        with scene.part("60 clients with whole transactions in one piece, all at once, after their first"):
+            write_at_once(scene, clients)
+    return scene
+
+
 # Crowds: what many clients ask for in one turn
 
 def all_commit(scene, clients):
@@ -631,7 +653,7 @@ SCENES = {
     "quiet": quiet, "load": load, "written_again": written_again, "old_commit": old_commit, "younger": younger, "same_key": same_key, "queue": queue,
     "half_deleted": half_deleted, "refilled": refilled, "straddling": straddling, "overlapping": overlapping, "written_before": written_before,
     "largest_ranges": largest_ranges, "middle_ranges": middle_ranges, "coming_and_going": coming_and_going,
-    "first_long_reply": first_long_reply, "beside_writers": beside_writers,
+    "first_long_reply": first_long_reply, "beside_writers": beside_writers, "whole_transactions": whole_transactions,
 }
 CROWDS = {"large_commits": large_commits, "old_commits": old_commits, "sparse_ranges": sparse_ranges}
 

@@ -10,8 +10,8 @@ ones; one key written again and again while many lists of older versions are lef
 ranges over them; ranges over keys that were deleted at their begin and are set again; 256 ranges over a run of written keys that straddles the
 begin, side by side and each within the next; many COMMITs that have read all that was written before their begin; 60 clients with the largest
 RANGEs, and with such of a quarter of the bytes; 128 connections coming and going; the first long reply after an old transaction, whose versions
-were freed; 16 clients that read and 16 that write, where a sync takes 1 ms. Three more are crowds, whose requests all stand ready in one turn:
-COMMITs of 1 MiB, COMMITs of old transactions, and RANGEs over keys most of which were deleted. Each has a server of its own over a data file in
+were freed; 16 clients that read and 16 that write, where a sync takes 1 ms; 60 clients that send whole transactions in one piece, all at once. Three
+more are crowds, whose requests all stand ready in one turn: COMMITs of 1 MiB, COMMITs of old transactions, and RANGEs over keys most of which were deleted. Each has a server of its own over a data file in
 memory (--folder).
 
 The figures of each: the median of the waits, what all but one in a thousand stay below, the longest; the longest CPU time of the server

@@ -1,4 +1,4 @@
-"""For how long `serve` looks at nobody else: the longest CPU time between two polls, in the scenes of bench/pauses.py, each below its bound. In one
+"""For how long `serve` looks at nobody else: the longest CPU time between two polls, in the scenes of bench/pauses.py, each below its bound. In two
 of them also the most syncs between two polls, for which all others wait. `long` has the crowds, over a larger store.
 
 The CPU time is that of the server's thread alone, so other work of the machine is hardly in it. `polls.c` measures it. A virtual machine counts as
@@ -46,14 +46,18 @@ QUICK_MS = {
     "idle turns, until what an old transaction saw is freed": 6,
     "the first RANGE of 100 pairs after that": 2.5,
     "16 clients that read and 16 that write, where a sync takes 1 ms": 16,
+    "60 clients with whole transactions in one piece, all at once, after their first": 4,
 }
 LONG_MS = {
     "24 COMMITs of 64 values of 16,384 bytes, all in one turn": 670,
     "60 COMMITs of ones with 256 ranges and 64 writes, after everything was written again, all in one turn": 170,
     "60 clients with 21 RANGEs of 128 over keys of which one in 384 is left, all in one turn": 1340,
 }
-# Where they are judged, the most syncs between two polls: those of one of 16 that commit.
-SYNCS = {"16 clients that read and 16 that write, where a sync takes 1 ms": 2}
+# Where they are judged, the most syncs between two polls: those of one COMMIT.
+SYNCS = {
+    "16 clients that read and 16 that write, where a sync takes 1 ms": 2,
+    "60 clients with whole transactions in one piece, all at once, after their first": 2,
+}
 
 
 def scenes_and_bounds():

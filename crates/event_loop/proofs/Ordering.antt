@@ -1,5 +1,5 @@
 -- Whose turn it is.
-use Rattle.std.proofs.Common.{◌≡◌, ◌≢◌, ◌⊎◌, inl, inr, ℕ, zero, suc, ◌+◌, ◌<◌, ◌≤◌, Bool, true, false, cond, List, []}
+use Rattle.std.proofs.Common.{◌≡◌, ◌⊎◌, inl, inr, ℕ, zero, suc, ◌<◌, ◌≤◌, Bool, true, false, cond, List, []}
 use Rattle.std.proofs.Common.{◌∷◌, Option, Some, None, refl, sym, ap, subst, ◌∙◌, arith, not, ◌==◌}
 use Rattle.std.proofs.lemmas.Bool.{cases_eq, and_parts, cases_Bool}
 use Rattle.std.proofs.lemmas.Bool.Decides.{nat_tests}
@@ -30,7 +30,6 @@ use Rattle.event_loop.specs.Numbers.{HasPlace, HavePlaces, WasRegisteredAs}
 use Rattle.event_loop.specs.Order.{after_turn, behind, is_passed, is_ready_slot, waits_as, AreNext, HasNextTurn}
 use Rattle.event_loop.specs.Order.{ComesNearer}
 use Rattle.event_loop.specs.Order.{in_turn, is_of_kind, writes_in}
-use Rattle.event_loop.specs.declared.order.Kind.{Kind}
 use Rattle.event_loop.specs.declared.order.Kind.TheVariants.{Any, Reader, Writer}
 use Rattle.event_loop.specs.declared.order.Turns.{Turns}
 use Rattle.event_loop.specs.Sockets.{IsNewSocket}

@@ -19,9 +19,9 @@ use Rattle.socket_calls.specs.declared.counted.AcceptedSocket.{AcceptedSocket}
 use Rattle.stream_driver.proofs.Carry.{run_then}
 use Rattle.stream_driver.proofs.States.{at_point, point_of}
 use Rattle.stream_driver.specs.Appends.{UsesShare}
-use Rattle.stream_driver.specs.Buffers.{buffered_in, fresh, has_had_share, share_of, traffic_through}
+use Rattle.stream_driver.specs.Buffers.{fresh, has_had_share, share_of, traffic_through}
 use Rattle.stream_driver.specs.Drives.{LeavesIfGone, Why}
-use Rattle.stream_driver.specs.Entries.{DrivenAll, DrivenEntry, DrivenIn, EndsIn, entry_state_after, state_at_end}
+use Rattle.stream_driver.specs.Entries.{DrivenAll, DrivenIn, EndsIn, entry_state_after, state_at_end}
 use Rattle.stream_driver.specs.Sessions.{AwaitsMore, Leads, Point, inbox_in, pending_at}
 use Rattle.stream_driver.specs.Traffic.{Traffic}
 use Rattle.stream_driver.specs.Waits.{EachEntry, IsSound, SaysWhyBlocked, WaitsSince}
@@ -45,7 +45,7 @@ use Rattle.event_loop.specs.Numbers.{SessionsAreBelow}
 use Rattle.event_loop.specs.Order.{after_turn, in_turn}
 use Rattle.event_loop.specs.Peers.{AreRested, IdleWait, IsRested, LackNothing, WaitsForPeer}
 use Rattle.event_loop.specs.Progress.{UsesTurn}
-use Rattle.event_loop.specs.Sockets.{CameShort, IsNewSocket, SocketsReport, traffic_of}
+use Rattle.event_loop.specs.Sockets.{CameShort, IsNewSocket, traffic_of}
 use Rattle.event_loop.specs.Tables.{Admits, AdmitsEach, EndsTurn, LetsIn, TableStands, after_event, after_poll}
 use Rattle.event_loop.specs.Tables.{join_of, join_tried, joins_of, reported_slot, slot_at}
 use Rattle.event_loop.specs.Tables.AdmitsEach.{Nobody, OneMore}

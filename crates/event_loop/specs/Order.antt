@@ -34,9 +34,9 @@ ComesNearer waits last next key = HasNextTurn waits last next → last < 128 →
     → (key ≡ next) ⊎ (behind next key < behind last key)
 
 module _ {T D : Type 0} {g : Ghosts D} (hub : Hub D g) where
-  -- has the session's open transaction written, or did its last drive append a record?
+  -- has the session's open transaction written, or did the last drive that answered it append a record?
   abbrev pub is_writer : Entry (BufferedStream T) → Bool
-  is_writer entry = has_written hub entry.session || entry.stream.appended
+  is_writer entry = has_written hub entry.session || entry.stream.is_writer
 
   -- of those that take turns: all, those that write, and the others, whose last drive was heavy
   abbrev pub is_of_kind : Kind → Entry (BufferedStream T) → Bool

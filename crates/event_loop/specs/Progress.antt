@@ -1,8 +1,6 @@
 -- That a session that is driven gets on: it is served, or it waits for its peer.
 use Rattle.std.specs.Prelude.{◌≡◌, ◌⊎◌, ◌+◌, ℕ, true, List, length, Option, Some}
-use Rattle.sector.specs.declared.device.Sectors.{Ghosts}
 use Rattle.sessions.specs.SessionStreams.{HubState, stream_of}
-use Rattle.sessions.specs.StandsFor.{StandsFor}
 use Rattle.stream_driver.specs.Appends.{UsesShare}
 use Rattle.stream_driver.specs.Buffers.{share_of, traffic_through}
 use Rattle.stream_driver.specs.Calls.{served_in}

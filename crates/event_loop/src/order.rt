@@ -20,7 +20,7 @@ use stream_driver::{BufferedStream, Entry, EntryState};
 pub enum Kind {
     /// All of them.
     Any,
-    /// Those that write: whose open transaction has written, or whose last drive appended a record.
+    /// Those that write: whose open transaction has written, or who was answered last in a drive that appended a record.
     Writer,
     /// The others: whose last drive was heavy.
     Reader,
@@ -50,11 +50,11 @@ impl Turns {
     }
 }
 
-// Has the session's open transaction written, or did its last drive append a record?
+// Has the session's open transaction written, or did the last drive that answered it append a record?
 fn is_writer<D: Sectors>(hub: &Hub<D>, entry: &Entry<BufferedStream<Socket>>) -> bool
     ensures { result ≡ is_writer hub.now entry.now }
 {
-    hub.has_written(entry.session) || entry.stream.has_appended()
+    hub.has_written(entry.session) || entry.stream.is_writer()
 }
 
 // Is it of this kind?

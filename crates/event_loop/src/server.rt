@@ -145,10 +145,11 @@ impl<D: Sectors> EventLoop<D> {
     ///
     /// It is the turn of each that has written nothing and whose last drive was short, of one at most that writes, and of one at most whose
     /// last drive was heavy, as it took more than `LIGHT_MAX` bytes. So nobody waits for more than one of each. Those write whose open
-    /// transaction has written, or whose last drive appended a record. Of the two kinds together the next by key, round the table, has its
-    /// turn, and beside it one of the other kind; the rest are ready in the next turn, which doesn't wait. So each is driven within as many
-    /// turns as the table has places (`law_each_has_its_turn`). An append ends the share of its stream, so what comes behind it in one
-    /// piece waits for a turn as well: a turn appends one record at most for each session that it drives.
+    /// transaction has written, or who were answered last in a drive that appended a record. Of the two kinds together the next by key,
+    /// round the table, has its turn, and beside it one of the other kind; the rest are ready in the next turn, which doesn't wait. So each
+    /// is driven within as many turns as the table has places (`law_each_has_its_turn`). An append ends the share of its stream, so what
+    /// comes behind it in one piece waits for a turn as well. So a turn appends one record at most for the one that writes, and one for
+    /// each other that comes with a whole transaction in one piece: from then on it writes, until a drive answers it and appends nothing.
     ///
     /// It drives before it accepts: so an event of this poll can't be taken for one of a connection that came since under the same key,
     /// and the places of those that left are free for those that come.

@@ -91,10 +91,15 @@ module _ {T : Type 0} where
   write_fails old new answer none stays = grind arith
 
   same_turn : {b : BufferedStream T} → KeepsTurn b b
-  same_turn = record { share = refl; appended = refl; heavy = refl }
+  same_turn = record { share = refl; appended = refl; writer = refl; heavy = refl }
 
   turn_then : {a b c : BufferedStream T} → KeepsTurn a b → KeepsTurn b c → KeepsTurn a c
-  turn_then p q = record { share = q.share ∙ p.share; appended = q.appended ∙ p.appended; heavy = q.heavy ∙ p.heavy }
+  turn_then p q = record {
+    share = q.share ∙ p.share;
+    appended = q.appended ∙ p.appended;
+    writer = q.writer ∙ p.writer;
+    heavy = q.heavy ∙ p.heavy;
+  }
 
   -- what has failed to leave, if there is any
   fails_with : (b : BufferedStream T) → b.has_failed ≡ true → (buffered : List ℕ) → buffered_in b.buffered ≡ buffered

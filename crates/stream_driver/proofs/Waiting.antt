@@ -7,7 +7,7 @@ use Rattle.model.proofs.Lookups.{some_same}
 use Rattle.stream_driver.proofs.OneEntry.{below, get_set}
 use Rattle.stream_driver.specs.Buffers.{ShortAfter, WhyTook, buffered_in}
 use Rattle.stream_driver.specs.Traffic.{Traffic}
-use Rattle.stream_driver.specs.Types.{BufferedStream, Call, Entry, Read, Write, ReadAnswer, Moved, Blocked, Failed}
+use Rattle.stream_driver.specs.Types.{BufferedStream, Call, Entry, Read, ReadAnswer, Moved, Blocked, Failed}
 use Rattle.stream_driver.specs.Types.{Ended, CallCounts, WriteAnswer, Wrote, WriteBlocked, WriteFailed}
 use Rattle.stream_driver.specs.Waits.{ComesShort, EachEntry, IsSound, StaysSound, SaysWhyBlocked, WhyBlocked}
 use Rattle.stream_driver.specs.Waits.{WhyReadBlocked, WhyWriteBlocked}

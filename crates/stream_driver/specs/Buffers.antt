@@ -36,6 +36,7 @@ module _ {T : Type 0} where
     pub reads_on : b.reads_on ≡ false
     pub share : b.share ≡ 262144
     pub appended : b.appended ≡ false
+    pub writer : b.is_writer ≡ false
     pub heavy : b.is_heavy ≡ false
     pub counts : counted b.counts ≡ untouched
 
@@ -47,9 +48,9 @@ module _ {T : Type 0} where
   abbrev pub has_had_share : BufferedStream T → Bool
   has_had_share b = b.share == 0
 
-  -- a drive appended a record, and with a reply of so many bytes its share ends
+  -- a drive appended a record, and with a reply of so many bytes its share ends: it is a writer's
   abbrev pub share_ended : ℕ → BufferedStream T → BufferedStream T
-  share_ended reply b = record b { share = min b.share reply; appended = true }
+  share_ended reply b = record b { share = min b.share reply; appended = true; is_writer = true }
 
   -- what is left of its share, which a drive that appends a record ends
   abbrev pub share_of : BufferedStream T → Share
@@ -93,6 +94,7 @@ module _ {T : Type 0} where
   pub record KeepsTurn (old new : BufferedStream T) : Type 0 where
     pub share : new.share ≡ old.share
     pub appended : new.appended ≡ old.appended
+    pub writer : new.is_writer ≡ old.is_writer
     pub heavy : new.is_heavy ≡ old.is_heavy
 
   pub record ReadsShort (old : BufferedStream T) (len : ℕ) (answer : ReadAnswer) (new : BufferedStream T) : Type 0 where
@@ -113,6 +115,12 @@ module _ {T : Type 0} where
   is_heavy_after WriteBlocked b = b.is_heavy
   is_heavy_after WriteFailed b = b.is_heavy
 
+  -- a reply that isn't the one to an append, with which a share ends, is none of a writer
+  abbrev pub is_writer_after : WriteAnswer → BufferedStream T → Bool
+  is_writer_after (Wrote n) b = b.appended
+  is_writer_after WriteBlocked b = b.is_writer
+  is_writer_after WriteFailed b = b.is_writer
+
   -- and what was written uses up its share
   pub record Drains (old : BufferedStream T) (answer : WriteAnswer) (new : BufferedStream T) : Type 0 where
     pub drained : new.is_drained ≡ is_drained_after answer old
@@ -120,6 +128,7 @@ module _ {T : Type 0} where
     pub reads_on : new.reads_on ≡ old.reads_on
     pub share : new.share + bytes_written answer ≡ old.share
     pub appended : new.appended ≡ old.appended
+    pub writer : new.is_writer ≡ is_writer_after answer old
     pub heavy : new.is_heavy ≡ is_heavy_after answer old
 
   -- Nothing of what is buffered has left, and whether it failed to leave is as it was; or some has, and it has not

@@ -40,8 +40,9 @@ pub enum Flushed {
 /// and writes are answered `Blocked` with no call of the inner stream, until the next drive begins. No poll reports that, so whoever drives
 /// it asks whether it `has_had_its_share`. A reply that is larger than the share is taken in parts, over several turns.
 ///
-/// A drive that appends a record ends the share with the reply to it. That it did is kept (`has_appended`) until the stream begins a turn
-/// of its own, and so is that a drive took more than `LIGHT_MAX` bytes (`is_heavy`).
+/// A drive that appends a record ends the share with the reply to it. From then on the stream is a writer's (`is_writer`), until it takes
+/// bytes in a turn of its own that no such drive has ended. That a drive took more than `LIGHT_MAX` bytes (`is_heavy`) is kept until a turn
+/// of its own begins.
 #[derive(Drop)]
 pub struct BufferedStream<S: Stream> {
     inner: S,
@@ -58,7 +59,9 @@ pub struct BufferedStream<S: Stream> {
     share: usize,
     /// The last drive of a turn of its own appended a record.
     appended: bool,
-    /// And it took more than `LIGHT_MAX` bytes.
+    /// And so did the last in which it took bytes.
+    is_writer: bool,
+    /// The last drive of a turn of its own took more than `LIGHT_MAX` bytes.
     is_heavy: bool,
     counts: CallCounts,
 }
@@ -84,6 +87,7 @@ impl<S: Stream> BufferedStream<S> {
             reads_on: false,
             share: SHARE_MAX,
             appended: false,
+            is_writer: false,
             is_heavy: false,
             counts: CallCounts::new(),
         })
@@ -127,11 +131,11 @@ impl<S: Stream> BufferedStream<S> {
         self.share == 0
     }
 
-    /// Did its last drive append a record? Takes no memory.
-    pub fn has_appended(&self) -> bool
-        ensures { result ≡ self.now.appended }
+    /// Did the last drive in which it took bytes append a record? One in which nothing is answered changes nothing. Takes no memory.
+    pub fn is_writer(&self) -> bool
+        ensures { result ≡ self.now.is_writer }
     {
-        self.appended
+        self.is_writer
     }
 
     /// Did its last drive take more than `LIGHT_MAX` bytes? Takes no memory.
@@ -340,6 +344,7 @@ impl<S: Stream> Stream for BufferedStream<S> {
             self.is_drained = self.is_drained || self.is_short;
             self.share -= n;
             self.is_heavy = self.is_heavy || self.share < SHARE_MAX - LIGHT_MAX;
+            self.is_writer = self.appended;
         }
         self.counts.note_write(answer);
         answer
@@ -352,5 +357,6 @@ impl<S: Stream> Stream for BufferedStream<S> {
     {
         self.share = self.share.min(reply);
         self.appended = true;
+        self.is_writer = true;
     }
 }

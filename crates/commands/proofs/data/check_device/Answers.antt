@@ -1,5 +1,5 @@
 use Rattle.commands.proofs.data.check_device.Goals as goal
-use Rattle.std.proofs.Common.{subst, Ok, Err}
+use Rattle.std.proofs.Common.{subst}
 use Rattle.commands.proofs.Printed.{ends_as}
 use Rattle.commands.specs.Checking.{Counting}
 use Rattle.commands.specs.Checking.Checks.{NotCounted, Counted}

@@ -1,5 +1,5 @@
 use Rattle.event_loop.proofs.connections.let_in.Goals as goal
-use Rattle.std.proofs.Common.{◌≡◌, ℕ, inl, inr, refl, sym, ap, subst, arith, ◌∙◌}
+use Rattle.std.proofs.Common.{ℕ, inr, refl, sym, ap, subst, arith, ◌∙◌}
 use Rattle.sessions.specs.SessionStreams.{Joins}
 use Rattle.sessions.specs.declared.events.Outcome.TheVariants.{Done}
 use Rattle.stream_driver.specs.declared.entries.EntryState.TheVariants.{Ready}

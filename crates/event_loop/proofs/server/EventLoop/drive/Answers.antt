@@ -1,7 +1,5 @@
 use Rattle.event_loop.proofs.server.EventLoop.drive.Goals as goal
-use Rattle.std.proofs.Common.{ap, subst, ◌∙◌}
 use Rattle.mio.specs.Events.{items}
-use Rattle.mio.specs.declared.event.event.Event.{Event}
 use Rattle.stream_driver.proofs.States.{leads_map, stands_after}
 use Rattle.event_loop.proofs.Departing.{drives_serve}
 use Rattle.event_loop.proofs.Entries.{driven_entries, ended_entries, ended_remain, polled_entries, polled_remain}
@@ -11,9 +9,7 @@ use Rattle.event_loop.proofs.Peers.{drives_use, drives_wait, ended_rested, leads
 use Rattle.event_loop.proofs.Polled.{TakesTurns}
 use Rattle.event_loop.proofs.TableBytes.{drives_bytes}
 use Rattle.event_loop.proofs.Tables.{below_after}
-use Rattle.event_loop.specs.Order.{after_turn, is_passed}
 use Rattle.event_loop.specs.Sockets.{CameShort}
-use Rattle.event_loop.specs.Tables.{after_poll, slot_at}
 use Rattle.event_loop.specs.contracts.socket.SocketStream.TheImpl.{ghosts}
 
 pub drive_ready-requires : goal.drive_ready-requires
