@@ -1,9 +1,9 @@
 """Compaction while the server runs: a copy that follows its data file, `ssikvd-follow`, and how long `ssikvd-compact` stops a server.
 
-Writes and deletions come between any two steps: before the place is noted, while the map is copied, and between each two runs of the tool. The copy
-then has the map of the data file, and the program reads it. Of what is written again and again only the last write of each key is appended. A copy or
-a data file that isn't the noted one, a damaged record and a full copy are refused, and nothing is changed. Each image that a crash within a run may
-leave is a log of so many records. A tool that is killed is run again.
+Writes and deletions come between any two steps: before the copy is made, and between each two runs of the tool. The copy then has the map of the data
+file, and the program reads it. Of what is written again and again only the last write of each key is appended. A copy or a data file that isn't the
+noted one, a damaged record, a closed gate and a full copy are refused, and nothing is changed. Each image that a crash within a run may leave is a log
+of so many records. A tool that is killed is run again.
 Clients write while `ssikvd-compact` runs, none of their commits is lost, and how long each of them wasn't served is printed. Finally, the judges are
 shown tools with a planted fault.
 """
@@ -54,16 +54,21 @@ class Pair:
     def follow(self, *words, script="ssikvd-follow"):
         return tool(script, "--state", self.state, *words)
 
-    def copy(self, port, before, between=0, behind=0, script="ssikvd-follow"):
-        """Notes a place and makes a copy, with this many commits before, between and after these."""
+    def copy_by_command(self, port, before, between, behind, script="ssikvd-follow"):
+        """Notes a place and copies by `ssikvd compact`, with this many commits before, between and after these."""
         self.commit(port, before)
         expect(self.follow(self.data, script=script)[0] == 0, "no place could be noted")
         self.commit(port, between)
-        self.compact()
+        subprocess.run([PROGRAM, "compact", "--from", self.data, "--to", self.new], check=True, capture_output=True)
         self.commit(port, behind)
 
-    def compact(self, *words):
-        subprocess.run([PROGRAM, "compact", "--from", self.data, "--to", self.new, *words], check=True, capture_output=True)
+    def copy(self, port, before, behind=0, script="ssikvd-follow"):
+        """Makes a copy by the tool alone, with this many commits before and after that."""
+        self.commit(port, before)
+        create(self.new, SECTORS)
+        found = self.follow("--once", self.data, self.new, script=script)
+        expect(found[0] == 0, f"it ended with {found}")
+        self.commit(port, behind)
 
 
 @contextlib.contextmanager
@@ -87,10 +92,13 @@ def judge_copy(pair, found):
     expect(found[1] == f"records {records} sectors {sectors} of {count}\n", f"it printed {found[1]!r}, check says {records}, {sectors}, {count}")
 
 
-def follow_through(pair, port, script="ssikvd-follow", most=12):
+def follow_through(pair, port, script="ssikvd-follow", most=12, by_command=False):
     """Commits between any two steps. Returns what the last run of the tool answered."""
     counts = [pair.chance.choice((0, 1, pair.chance.randint(2, most))) for _ in range(5)]
-    pair.copy(port, *counts[:3], script)
+    if by_command:
+        pair.copy_by_command(port, *counts[:3], script)
+    else:
+        pair.copy(port, *counts[:2], script)
     found = pair.follow(pair.data, pair.new, script=script)
     expect(found[0] == 0, f"it ended with {found}")
     pair.commit(port, counts[3])
@@ -103,19 +111,30 @@ def follows(tally):
     chance = random.Random(58)
     for number in range(60 if is_long() else 6):
         with tally.run(f"commits between any two steps, {number}"), served_pair(chance) as (pair, port):
-            judge_copy(pair, follow_through(pair, port))
+            judge_copy(pair, follow_through(pair, port, by_command=number % 2 == 0))
     with tally.run("many records between two steps"), served_pair(chance) as (pair, port):
         judge_copy(pair, follow_through(pair, port, most=400))
     with tally.run("more than is held at once"), served_pair(chance) as (pair, port), folder() as place:
         script = planted(place, "ssikvd-follow", *FEW_HELD)
         shutil.copy(os.path.join(DIST, "ssikvd-verify"), place)
         judge_copy(pair, follow_through(pair, port, script, most=100))
+    with tally.run("an empty copy gets all at once"), folder() as place:
+        judge_first(place, *FEW_HELD)
     with tally.run("the last write of each key alone"), served_pair(chance) as (pair, port):
         pair.copy(port, 10)
         before = check(pair.new)[0]
         pair.commit(port, 100)
         judge_copy(pair, pair.follow("--once", pair.data, pair.new))
         expect(check(pair.new)[0] == before + 1, f"of 40 keys it appended {check(pair.new)[0] - before} records")
+
+
+def judge_first(place, right, wrong):
+    """However few bytes are held later, a first run appends each key once, with this text of the tool in the place of another."""
+    script = planted(place, "ssikvd-follow", right, wrong)
+    shutil.copy(os.path.join(DIST, "ssikvd-verify"), place)
+    with served_pair(random.Random(2)) as (pair, port):
+        pair.copy(port, 100, script=script)
+        expect(check(pair.new)[0] == 1, f"40 keys are in {check(pair.new)[0]} records")
 
 
 def refusals(tally):
@@ -141,6 +160,7 @@ def refusals(tally):
         another = "another log than the one that was noted"
         refused("a data file that was compacted", 2, another, lambda: _compacted(pair.data))
         refused("a data file with a damaged record", 2, "damaged record", lambda: _damage(pair.data))
+        refused("a data file with a closed gate", 2, "closed gate of record", lambda: _close(pair.data))
         refused("another copy", 2, another, lambda: _compacted(pair.data, pair.new))
         refused("a copy that goes on behind the place", 2, another, lambda: _put(pair.state, _older(kept["state"])))
         refused("a copy that is no log", 2, "not a log", lambda: _put(pair.new, bytes(len(kept["new"]))))
@@ -160,14 +180,26 @@ def _compacted(name, to=None):
     os.replace(name + ".other", to or name)
 
 
-def _damage(name):
-    """Turns over a byte of the last record but one."""
+def _places(name):
+    """The sectors of the gates of a log."""
     with loaded("ssikvd-used").Log(name) as log:
         places = [log.place]
         while log.step():
             places.append(log.place)
+    return places
+
+
+def _close(name):
+    """Closes the gate of the last record but one."""
     with open(name, "r+b") as file:
-        file.seek(SECTOR * (places[-3] + 1) + 60)
+        file.seek(SECTOR * _places(name)[-3])
+        file.write(b"\0")
+
+
+def _damage(name):
+    """Turns over a byte of the last record but one."""
+    with open(name, "r+b") as file:
+        file.seek(SECTOR * (_places(name)[-3] + 1) + 60)
         byte = file.read(1)
         file.seek(-1, 1)
         file.write(bytes([byte[0] ^ 1]))
@@ -238,11 +270,18 @@ def judge_crashes(tool_module, pair, chance):
 
 
 def kills(tally):
-    """A run that is killed, at any moment: the next one either goes on, or refuses."""
+    """A run that is killed, at any moment: the next one either goes on, or refuses. Two of three times it is the first run, which makes the copy, or
+    follows one that `ssikvd compact` has made."""
     chance = random.Random(9)
     for number in range(40 if is_long() else 4):
         with tally.run(f"a kill, {number}"), served_pair(chance) as (pair, port):
-            pair.copy(port, 5, behind=60)
+            if number % 3 == 1:
+                pair.commit(port, 65)
+                create(pair.new, SECTORS)
+            elif number % 3 == 2:
+                pair.copy_by_command(port, 5, 0, 60)
+            else:
+                pair.copy(port, 5, behind=60)
             words = [os.path.join(DIST, "ssikvd-follow"), "--state", pair.state, pair.data, pair.new]
             process = subprocess.Popen(words, stdout=subprocess.DEVNULL, stderr=subprocess.DEVNULL)
             time.sleep(chance.uniform(0.03, 0.15))
@@ -327,10 +366,13 @@ class Watcher(Returning):
         self.join(PATIENCE)
 
 
-def beside_a_load(tally, script="ssikvd-compact"):
-    """Clients write while the file is compacted: nothing is lost, and the copy is used."""
+def beside_a_load(tally):
+    """Clients write while the file is compacted, in each of the two ways: nothing is lost, and the copy is used."""
     with tally.run("ssikvd-compact while clients write"), in_memory() as place:
-        print(f"  not served for {judge_load(place, script):.2f} s at most", flush=True)
+        print(f"  not served for {judge_load(place, 'ssikvd-compact'):.2f} s at most", flush=True)
+    with tally.run("the same where ssikvd-follow makes the copy"), in_memory() as place:
+        copy_tools(place)
+        print(f"  not served for {judge_load(place, planted(place, 'ssikvd-compact', *BY_FOLLOWER)):.2f} s at most", flush=True)
 
 
 def judge_load(place, script):
@@ -376,7 +418,7 @@ def fill(port, keys):
 
 # Tools with a fault
 
-FEW_HELD = ("MOST, OF_EACH = 1 << 28, 200", "MOST, OF_EACH = 1 << 12, 200")
+FEW_HELD = ("MOST, OF_EACH = 1 << 28, 200", "MOST, OF_EACH, verify.PIECE = 1 << 12, 200, 1 << 15")
 WRONG = {
     "a record that is left out": ("            writes.add(piece, payloads)\n", "            writes.add(piece, payloads[:3])\n"),
     "a first write": ("                last[key] = value\n", "                last.setdefault(key, value)\n"),
@@ -385,13 +427,14 @@ WRONG = {
     "a digest without those before it": ("sha256(log.digest + log.records", "sha256(log.records"),
 }
 OTHER_BYTES = ("write(self.file, content[closed:], SECTOR", 'write(self.file, content[closed:-1] + b"\\1", SECTOR')
-NO_CATCH_UP = '    line=$(ssikvd-follow --once --state "$data.new.state" "$data" "$data.new") || {'
-CHECKED = '    line=$(ssikvd-follow --state "$data.new.state" "$data" "$data.new" --while'
+FEW_AT_FIRST = (
+    'writes, most = Writes(), MOST if found["new"]["records"] else math.inf', "writes, most, verify.PIECE = Writes(), 1 << 12, 1 << 15")
+BY_FOLLOWER = ("if ends_in_time; then copy=copy_by_command; else copy=copy_by_follower; fi", "copy=copy_by_follower")
+NO_CATCH_UP = '[ -e "$data.new" ] || return 1\n    line=$(ssikvd-follow --once --state "$data.new.state" "$data" "$data.new")'
 WRONG_COMPACTIONS = {
     "a copy that is taken as it is": ("ssikvd-compact", NO_CATCH_UP, NO_CATCH_UP.replace(
         'ssikvd-follow --once --state "$data.new.state" "$data"', "ssikvd-used")),
-    "a place that is noted too late": ("ssikvd-compact", CHECKED, (
-        '    sleep 0.1\n    rm "$data.new.state"\n    ssikvd-follow --state "$data.new.state" "$data"\n' + CHECKED)),
+    "a place that is noted too late": ("ssikvd-follow", "        source.look_behind()\n", "        source.walk()\n"),
 }
 
 
@@ -408,12 +451,18 @@ def wrong_tools(tally):
             pair.copy(port, 3, behind=3)
             found = pair.follow(pair.data, pair.new, script=script)
             expect(found[0] == 2 and "what was appended isn't there" in found[2], f"it ended with {found}")
+    with tally.run("a first run that holds few writes is reported"), folder() as place:
+        expect(is_refused(judge_first, place, *FEW_AT_FIRST), "it was not reported")
     for name, texts in WRONG_COMPACTIONS.items():
         with tally.run(f"{name} is reported"), in_memory() as place:
-            for other in ("ssikvd-compact", "ssikvd-follow", "ssikvd-verify"):
-                shutil.copy(os.path.join(DIST, other), place)
+            copy_tools(place)
             planted(place, *texts)
             expect(is_refused(judge_load, place, os.path.join(place, "ssikvd-compact")), f"{name} was not reported")
+
+
+def copy_tools(place):
+    for name in ("ssikvd-compact", "ssikvd-follow", "ssikvd-used", "ssikvd-verify"):
+        shutil.copy(os.path.join(DIST, name), place)
 
 
 def planted(place, tool_name, right, wrong):

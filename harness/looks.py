@@ -5,10 +5,11 @@ of that is filled while a look is under way; then they fill 60 of 100 in a minut
 compaction, and no COMMIT is answered `FULL log`. Each that was acknowledged is there at the end. By the fill alone the looks before the rise do
 nothing, and it is met. What a look says after few and after many commits, and after a compaction, is what the rule asks for.
 
-`ssikvd-watch` ends where its rule asks for it, over logs that grow slowly or fast, stand still, are replaced, absent or damaged, and where a compaction
-has failed, on a clock of the harness's. Tools with a planted fault are reported. In the long form the largest file is served from memory, with small
-commits as fast as the program can, and with the largest at a quarter of that, while the timer's looks and the watch begin compactions as their units
-do: no full log is met. It is met where the watch begins too late.
+`ssikvd-watch` ends where its rule asks for it, over logs that grow slowly or fast, stand still, are replaced, absent or damaged, and where
+a compaction has failed, on a clock of the harness's. Tools with a planted fault are reported. In the long form a compaction ends before the
+log is full while clients fill it with the largest commits as fast as they are answered; one that copies by `ssikvd compact` then doesn't.
+The largest file is served from memory, with small commits and with large ones as fast as the program can, while the timer's looks and the
+watch begin compactions as their units do: no full log is met. It is met where the watch begins too late.
 """
 import contextlib
 import json
@@ -24,7 +25,7 @@ from types import ModuleType
 
 from ssikvd_harness.arguments import is_long, run_harness
 from ssikvd_harness.cases import Harness
-from ssikvd_harness.deviations import expect, is_refused
+from ssikvd_harness.deviations import expect, is_refused, missing, wait_for
 from ssikvd_harness.examples import simple_client
 from ssikvd_harness.frames import frame
 from ssikvd_harness.limits import VALUE_MAX, WRITES_MAX
@@ -32,7 +33,7 @@ from ssikvd_harness.log_format import BODY_MAX, SECTOR, log_image, log_of, map_o
 from ssikvd_harness.server import check, create, folder
 from ssikvd_harness.settings import PATIENCE, PROGRAM, text_of
 from ssikvd_harness.tools import DIST, ENVIRONMENT, in_memory, loaded, tool
-from ssikvd_harness.trials import Trial
+from ssikvd_harness.trials import Trial, write_script
 
 CLIENTS, AT_ONCE = 4, 16
 BEGIN, COMMIT, FULL = frame("BEGIN"), frame("COMMIT"), b"-FULL log\r\n"
@@ -40,14 +41,12 @@ BEGIN, COMMIT, FULL = frame("BEGIN"), frame("COMMIT"), b"-FULL log\r\n"
 
 class Load:
     """Clients of which each counts in a key of its own, some transactions at once, and comes again where its connection is lost. Together they
-    begin no more transactions than they are allowed, or than this many a second; one that had to wait doesn't catch up. Each transaction also sets
-    this many further keys, to values of the longest size."""
+    begin no more transactions than they are allowed. Each transaction also sets this many further keys, to values of the longest size."""
 
-    def __init__(self, port, further=0, rate=0.0):
-        self.rate, self.since = rate, time.monotonic()
+    def __init__(self, port, further=0):
         self.port, self.is_over, self.lock = port, threading.Event(), threading.Lock()
         self.further = [b"".join(frame("SET", f"client {number} {key}", b"v" * VALUE_MAX) for key in range(further)) for number in range(CLIENTS)]
-        self.replies, self.at_once = 3 + further, 1 if further else AT_ONCE
+        self.replies, self.at_once = 3 + further, max(AT_ONCE // (1 + further), 1)
         self.acknowledged, self.full, self.other = [0] * CLIENTS, 0, set()
         self.begun = self.allowed = 0
         self.threads = [threading.Thread(target=self._work, args=(number,), daemon=True) for number in range(CLIENTS)]
@@ -64,10 +63,6 @@ class Load:
 
     def _take(self):
         with self.lock:
-            if self.rate:
-                now = time.monotonic()
-                self.allowed = min(self.allowed + self.rate * (now - self.since), self.begun + max(self.rate / 10, 1.0))
-                self.since = now
             if self.begun + self.at_once > self.allowed:
                 return False
             self.begun += self.at_once
@@ -120,9 +115,9 @@ class Looks:
         create(self.trial.data, sectors)
         self.trial.start()
 
-    def look(self, *words, within):
+    def look(self, *words, within, script="ssikvd-compact"):
         starts = ["--stop", self.trial.bin + "/stops", "--start", self.trial.bin + "/starts"]
-        return tool("ssikvd-compact", *starts, "--above", "50", "--within", str(within), "--state", self.state, *words, self.trial.data,
+        return tool(script, *starts, "--above", "50", "--within", str(within), "--state", self.state, *words, self.trial.data,
                     seconds=6 * PATIENCE)
 
     def watch(self, above, times, seconds):
@@ -188,17 +183,15 @@ def keeps_up(tally):
 # The default size, which is the largest. Looks come each minute, a watch begins again a second after a compaction.
 LARGE, MINUTE, AGAIN = 4_194_304, 60.0, 1.0
 COMPACTIONS = 12
-LARGEST_SHARE = 0.25    # of the highest rate of commits of 1 MiB, what is sustained
 
 
-def highest_rate(further, above=50, times=2, compactions=COMPACTIONS, share=1):
+def highest_rate(further, above=50, times=2, compactions=COMPACTIONS):
     """The timer's looks and the watch, as their units begin them, over the largest file in memory, while clients write as fast as they are
-    answered, or at a share of that: the load, its rate, and what the compactions said."""
+    answered: the load, its rate, what the compactions said, and how many sectors of the fullest log were used."""
     with looks_at(LARGE) as looks:
-        limit = share * measured_rate(looks.trial.port, further) if share < 1 else 0.0
-        with Load(looks.trial.port, further, limit) as load:
-            load.allow(0 if limit else 1 << 60)
-            said, begun = [], time.monotonic()
+        with Load(looks.trial.port, further) as load:
+            load.allow(1 << 60)
+            said, most, begun = [], 0, time.monotonic()
             next_look = begun + MINUTE
             while sum(": compaction\n" in out for out in said) < compactions and not load.full:
                 looks.watch(above, times, next_look - time.monotonic())
@@ -207,18 +200,11 @@ def highest_rate(further, above=50, times=2, compactions=COMPACTIONS, share=1):
                 status, out, err = looks.look(within=600)
                 expect(status == 0 and not err, f"a look ended with {status}: {out}{err}")
                 said.append(out)
+                most = max(most, used_in(looks.trial.data + ".old")) if ": compaction\n" in out else most
                 time.sleep(AGAIN)
             rate = sum(load.acknowledged) / (time.monotonic() - begun)
         judge_kept(load, found_in(looks.trial))
-        return load, rate, said
-
-
-def measured_rate(port, further):
-    """The highest rate of such commits, over some seconds."""
-    with Load(port, further) as load:
-        load.allow(1 << 60)
-        time.sleep(5.0)
-        return sum(load.acknowledged) / 5.0
+        return load, rate, said, most
 
 
 def found_in(trial):
@@ -234,6 +220,48 @@ def found_in(trial):
     return found
 
 
+# 512 MiB of the largest commits, and what of it is used when a compaction begins. The copy and what came meanwhile have to fit into the rest.
+GROWING, BEGUN_AT = 1_048_576, 0.25
+# The copy by a command that reads on as long as the log grows, hardly faster than a server writes.
+BY_COMPACT = ("if ends_in_time; then copy=copy_by_command; else copy=copy_by_follower; fi", "copy=copy_by_command")
+
+
+def judge_growing(script):
+    """A compaction while clients write the largest commits as fast as they are answered: none of them meets a full log, and none is lost."""
+    with looks_at(GROWING) as looks:
+        trial = looks.trial
+        with Load(trial.port, WRITES_MAX - 1) as load:
+            load.allow(1 << 60)
+            looks.look("--part", "look", within=0)
+            wait_for(lambda: used_in(trial.data) > BEGUN_AT * GROWING, "clients aren't served", 6 * PATIENCE)
+            found = looks.look(within=10 ** 9, script=script)
+            expect(found[0] == 0 and "copied while the server ran" in found[1] and not found[2], f"it ended with {found}")
+            expect(load.full == 0, f"{load.full} commits met a full log; {used_in(trial.data + '.old')} of {GROWING} sectors were used")
+            print(f"  a compaction of {BEGUN_AT * GROWING:.0f} sectors ended at {used_in(trial.data + '.old')} of {GROWING}", flush=True)
+        judge_kept(load, found_in(trial))
+
+
+def used_in(data):
+    with loaded("ssikvd-used").Log(data) as log:
+        return log.walk().used
+
+
+def ends_in_time(tally):
+    """How much more a log takes that grows fast while it is compacted."""
+    with in_memory() as place:
+        room = os.statvfs(place)
+        if room.f_bavail * room.f_frsize < 3 * SECTOR * GROWING:
+            missing("a compaction under the largest commits", "1.5 GiB of memory")
+            return
+    with tally.run("a compaction under the largest commits"):
+        judge_growing("ssikvd-compact")
+    with tally.run("one that reads on as long as the log grows is reported"), folder() as place:
+        text, script = text_of(os.path.join("dist", "ssikvd-compact")), os.path.join(place, "ssikvd-compact")
+        expect(text.count(BY_COMPACT[0]) == 1, f"{BY_COMPACT[0]!r} stands {text.count(BY_COMPACT[0])} times in ssikvd-compact")
+        write_script(script, text.replace(*BY_COMPACT))
+        expect(is_refused(judge_growing, script), "it was not reported")
+
+
 def judge_kept(load, found):
     for number, value in enumerate(load.acknowledged):
         expect(int(found.get(b"client %d" % number, 0)) >= value, f"client {number} has lost a commit: {value} was acknowledged")
@@ -241,13 +269,13 @@ def judge_kept(load, found):
 
 
 def keeps_up_at_once(tally):
-    """The highest rate of small commits. Of those of 1 MiB it is what docs/OPERATIONS.md calls sustained: `compact` reads them hardly faster than a
-    server writes them."""
-    for name, further, share in (("small commits", 0, 1), ("the largest commits", WRITES_MAX - 1, LARGEST_SHARE)):
+    """The highest rate of commits of three sizes, up to those of 1 MiB, which fill 2 GiB within 15 seconds."""
+    for name, further in (("small commits", 0), ("commits of 16 KiB", 1), ("the largest commits", WRITES_MAX - 1)):
         with tally.run(f"the highest rate of {name}"):
-            load, rate, said = highest_rate(further, share=share)
+            load, rate, said, most = highest_rate(further)
             beside = sum("copied while the server ran" in out for out in said)
-            print(f"  {name}: {sum(load.acknowledged)}, {rate:.0f} a second, {beside} compactions begun while the server ran", flush=True)
+            print(f"  {name}: {sum(load.acknowledged)}, {rate:.0f} a second, {beside} compactions begun while the server ran, "
+                  f"{100 * most / LARGE:.0f} % of the fullest log used", flush=True)
             expect(load.full == 0, f"{load.full} commits met a full log: {said}")
             expect(beside >= COMPACTIONS, f"it was compacted {beside} times")
     with tally.run("a watch that begins too late is reported"):
@@ -256,6 +284,12 @@ def keeps_up_at_once(tally):
 
 def rule(tally):
     """What a look alone says."""
+    with tally.run("a log that stands still for a moment"), folder() as place:
+        data, read = os.path.join(place, "data"), loaded("ssikvd-used")
+        grown(data, 10)(None)
+        state = {**read.figures(data, {}, 100.0, None)[0], "rate": 40.0}
+        rates = [read.figures(data, state, 100.0 + seconds, None)[0]["rate"] for seconds in (0.3, 1.2)]
+        expect(rates == [40.0, 0.0], f"after 0.3 and 1.2 seconds its rate is {rates}")
     with looks_at(1_024) as looks:
         def due(within, number):
             return looks.look("--part", "look", within=within)[0] == number
@@ -405,9 +439,9 @@ def judge_watch(module):
 
         few, half, more = grown(data, 10), grown(data, 251), grown(data, 260)
         few(None)
-        expect_end("a log that isn't half full", (4, None, []), grown(data, 100), grown(data, 140), grown(data, 180))
+        expect_end("a log that isn't half full", (4, None, []), grown(data, 60), grown(data, 100), grown(data, 140))
         few(None)
-        expect_end("one that would be full before it is compacted", (3, 402, []), grown(data, 100), grown(data, 150), grown(data, 200))
+        expect_end("one that would be full before it is compacted", (2, 302, []), grown(data, 60), grown(data, 150), grown(data, 200))
         forget(state)
         half(None)
         expect_end("a log that doesn't grow", (3, None, []), nothing, nothing)
@@ -434,8 +468,14 @@ def judge_watch(module):
             file.write(b"\xff")
         expect_end("a damaged file", (61, 504, [f"{data}: damaged record 0"]), few, half)
         forget(state)
+        grown_by_largest(data, 740)(None)
+        expect_end("a log that takes a while to read", (2, 2_082 * 774 + 2, []), *(grown_by_largest(data, it) for it in (745, 774, 775)))
+        forget(state)
         grown_by_largest(data, 300)(None)
-        expect_end("the largest records, which take long to read", (3, 2_082 * 435 + 2, []), *(grown_by_largest(data, it) for it in (325, 410, 435)))
+        expect_end("one that fills fast", (2, 2_082 * 410 + 2, []), *(grown_by_largest(data, it) for it in (325, 410, 435)))
+        forget(state)
+        grown_by_largest(data, 10)(None)
+        expect_end("one whose compaction would make little room", (3, 2_082 * 620 + 2, []), *(grown_by_largest(data, it) for it in (200, 400, 620)))
         forget(state)
         half(None)
         os.mkdir(state)
@@ -447,8 +487,10 @@ WRONG_WATCHES = {
     "a log that isn't half full": ("is_half_full = 100 * count > above * sectors and ", "is_half_full = "),
     "a log that lasts": ("sectors - count < within * rate", "rate"),
     "a compaction that is begun late": ("is_late = ", "is_late = False and "),
-    "large records that are read as fast as small ones": (" + max(count - LARGE * records, 0) / HASHED", ""),
-    "a compaction that doesn't make room": (" and rate * at_least(sectors) < count", ""),
+    "reading that takes no time": (" + count / COPIED", ""),
+    "reading of what was there alone": (" / (1 - rate / COPIED)", ""),
+    "a compaction that doesn't make room": (" and rate * at_least(sectors) < 3 * count", ""),
+    "a compaction that is put off": (" < 3 * count", " < count"),
     "a compaction that has failed": (" and not self.has_failed()", ""),
     "a compaction of another log": ("return log.goes_on(*used.end_of(found))", "return True"),
     "a clock of the day": ("before, self.at = self.at, time.monotonic()", "before, self.at = self.at, time.time()"),
@@ -484,7 +526,7 @@ class LooksOfTheTimer(Harness):
     NAME = "looks"
     NEEDS = (PROGRAM,)
     PARTS = (rule, watches, keeps_up)
-    PARTS_OF_LONG = (keeps_up_at_once,)
+    PARTS_OF_LONG = (ends_in_time, keeps_up_at_once)
 
 
 if __name__ == "__main__":
