@@ -127,6 +127,11 @@ class Place:
         self.judge_outside(found)
         expect((found[0] == 0) == (not found[2]), f"it ended with {found}")
 
+    def judge_raced(self, found):
+        """The same of a compaction that somebody works against: it may have copied all of it again, and said so."""
+        self.judge_outside(found)
+        expect((found[0] == 0) == (not found[2] or found[2].endswith("all of it is copied again\n")), f"it ended with {found}")
+
 
 @contextlib.contextmanager
 def place_of(changes=()):
@@ -266,7 +271,7 @@ def compact(tally):
         for name in (".new", ".new.state", ".new.state.tmp", ".lock", ".old"):
             with planter(place, place.data + name):
                 for _ in range(30 if is_long() else 2):
-                    place.judge(place.compact())
+                    place.judge_raced(place.compact())
 
 
 WRONG = {
