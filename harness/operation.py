@@ -361,10 +361,11 @@ OWNER = (0o640, 12_345 if os.getuid() == 0 else os.getuid(), 12_346 if os.getuid
 
 
 @contextlib.contextmanager
-def trial_of(script, commits=30):
+def trial_of(script, commits=30, sectors=1_024):
+    """A trial of the script, with its server started on a file of so many sectors and so many commits made."""
     with folder() as place:
         trial = Trial(place, script)
-        create(trial.data, 1_024)
+        create(trial.data, sectors)
         os.chmod(trial.data, OWNER[0])
         os.chown(trial.data, *OWNER[1:])
         try:
@@ -469,6 +470,8 @@ def compactions(tally):
         expect(found[0] == 0 and check(trial.data)[3] == 2_048, f"it ended with {found[:3]}")
     with tally.run("ssikvd-compact of a file whose map fills it"):
         growing(script)
+    with tally.run("ssikvd-compact of a full file whose map needs more"):
+        full(script)
     with tally.run("the lock"), trial_of(script) as trial:
         lock(trial)
     with tally.run("a loss of power at each step of ssikvd-compact"):
@@ -520,19 +523,28 @@ def broken_off(tally, script, step, line):
 
 def growing(script):
     """Where the map takes more than half of the new file, the file grows to twice the map."""
-    with folder() as place:
-        trial = Trial(place, script)
-        create(trial.data, 64)
-        try:
-            trial.start()
-            simple_client.Client(trial.port).transact(lambda store: store.ask("SET", "large", "v" * 16_000))
-            due = trial.contents()
-            status, out, err, _ = trial.run()
-            _, _, used, count = check(trial.data)
-            expect(status == 0 and count >= 2 * used > 64, f"{used} of {count} sectors are used; it said {out}{err}")
-            expect(trial.contents() == due, "a commit is lost")
-        finally:
-            trial.stop()
+    with trial_of(script, 0, 64) as trial:
+        simple_client.Client(trial.port).transact(lambda store: store.ask("SET", "large", "v" * 16_000))
+        due = trial.contents()
+        status, out, err, _ = trial.run()
+        _, _, used, count = check(trial.data)
+        expect(status == 0 and count >= 2 * used > 64, f"{used} of {count} sectors are used; it said {out}{err}")
+        expect(trial.contents() == due, "a commit is lost")
+
+
+def full(script):
+    """Where the map of a full file doesn't fit into one of that size, since other keys share a record, the file grows as well."""
+    with trial_of(script, 0, 9) as trial:
+        store = simple_client.Client(trial.port)
+        for first, size, longest in ((0, 4, 0), (1, 12, 127)):    # two records that fill their sectors, of 64 keys each
+            pairs = [("%04d" % key, "v" * (size + 16 * (key == longest))) for key in range(first, 128, 2)]
+            store.transact(lambda store, pairs=pairs: [store.ask("SET", *pair) for pair in pairs])
+        due = trial.contents()
+        expect(check(trial.data)[1:] == (128, 9, 9), f"the file isn't full: {check(trial.data)}")
+        status, out, err, _ = trial.run()
+        _, keys, used, count = check(trial.data)
+        expect(status == 0 and keys == 128 and used == 10 and count >= 18, f"{used} of {count} sectors are used; it said {status} {out}{err}")
+        expect(trial.contents() == due, "a commit is lost")
 
 
 def show_that_they_fail(tally, script):
