@@ -85,9 +85,9 @@ module _ {D : Type 0} {g : Ghosts D} where
         turn.driven.lingering.queue.items turned.now) in
         let kept = then_on came (closed_if turn.accepted.backlog turn.accepted.hub turn.accepted.table.slots (lingers_in turn.driven.lingering) came.now) in
         let lingering = same_on refl refl (ap (λ (l : Lingerers). l.all) turn.lingerers_are) kept in
-        let rests = then_on lingering (rests_goes turn.accepted.hub new.hub turn.collects.hub.ran turn.accepted.table.slots
+        let rests = then_on lingering (rests_goes turn.accepted.hub new.hub turn.rests.hub turn.accepted.table.slots
         turn.accepted.lingering.queue.items lingering.now) in
-        same_on refl (same_table turn.accepted new turn.collects.table) (same_lingerers turn.accepted new turn.collects.lingering) rests
+        same_on refl (same_table turn.accepted new turn.rests.table) (same_lingerers turn.accepted new turn.rests.lingering) rests
 
     turn_on : GoesOn s.served new.hub new.table.slots new.lingering.queue.items
     turn_on = then_on driven rest_on

@@ -192,8 +192,8 @@ module _ {D : Type 0} {g : Ghosts D} (reports : Type 0) (traffic : Socket
   accepted_stays : (due : Bool) → Accepted due turn.driven turn.accepted → (entry : Entry (BufferedStream Socket))
       → slot_at turn.driven.table.slots key ≡ Some entry → slot_at new.table.slots key ≡ Some entry
   accepted_stays true accepts entry e =
-      ap (λ (t : Slab (Entry (BufferedStream Socket))). slot_at t.slots key) turn.collects.table ∙ each_stays accepts.became.0 key entry e
-  accepted_stays false untouched entry e = ap (λ (t : Slab (Entry (BufferedStream Socket))). slot_at t.slots key) (turn.collects.table ∙ untouched.table) ∙ e
+      ap (λ (t : Slab (Entry (BufferedStream Socket))). slot_at t.slots key) turn.rests.table ∙ each_stays accepts.became.0 key entry e
+  accepted_stays false untouched entry e = ap (λ (t : Slab (Entry (BufferedStream Socket))). slot_at t.slots key) (turn.rests.table ∙ untouched.table) ∙ e
 
   -- one that was passed over is ready at the end
   still_ready : (was : Entry (BufferedStream Socket)) → slot_at turn.drives.ready key ≡ Some was → was.state ≡ Idle → was.stream.share ≡ 0

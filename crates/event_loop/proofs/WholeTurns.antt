@@ -35,7 +35,7 @@ use Rattle.event_loop.specs.Sockets.{IsNewSocket, SocketsReport, traffic_of}
 use Rattle.event_loop.specs.TableBytes.{HaveBytes, KeepBytes, SpeaksFor}
 use Rattle.event_loop.specs.Tables.{Admits, AdmitsEach, LetsIn, TableStands, join_of, join_tried, joins_of, slot_at}
 use Rattle.event_loop.specs.Tables.AdmitsEach.{Nobody, OneMore}
-use Rattle.event_loop.specs.Turns.{Accepted, CollectsGarbage, accepted_joins}
+use Rattle.event_loop.specs.Turns.{Accepted, Rests, accepted_joins}
 use Rattle.event_loop.specs.declared.server.EventLoop.{EventLoop}
 use Rattle.event_loop.specs.declared.socket.Socket.{Socket}
 
@@ -166,10 +166,10 @@ module _ {D : Type 0} {g : Ghosts D} (follow : Follow D g) (old : Hub D g) (driv
       (subst (λ (x : Hub D g). KeepBytes old slots x driven.table.slots) (sym untouched.hub) keeps)
 
 -- what led to the hub before it rested leads to it
-module _ {D : Type 0} {g : Ghosts D} (follow : Follow D g) (old : Hub D g) (accepted new : EventLoop D g) (received : CollectsGarbage accepted new) where
+module _ {D : Type 0} {g : Ghosts D} (follow : Follow D g) (old : Hub D g) (accepted new : EventLoop D g) (rests : Rests accepted new) where
   pub rest_leads : (P : Point → Point → Type 0) → Leads old accepted.hub P → Leads old new.hub P
   rest_leads P leads =
-      leads_then follow old accepted.hub new.hub P _ P leads (leads_rest received.hub.ran) (λ h k l stands p same. subst (λ (x : Point). P h x) (sym same) p)
+      leads_then follow old accepted.hub new.hub P _ P leads (leads_rest rests.hub) (λ h k l stands p same. subst (λ (x : Point). P h x) (sym same) p)
 
   pub rest_keeps : (slots : Slots (BufferedStream Socket)) → KeepBytes old slots accepted.hub accepted.table.slots → KeepBytes old slots new.hub new.table.slots
-  rest_keeps slots keeps = subst (λ (t : Slab (Entry (BufferedStream Socket))). KeepBytes old slots new.hub t.slots) (sym received.table) (rest_leads _ keeps)
+  rest_keeps slots keeps = subst (λ (t : Slab (Entry (BufferedStream Socket))). KeepBytes old slots new.hub t.slots) (sym rests.table) (rest_leads _ keeps)

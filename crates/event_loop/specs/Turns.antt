@@ -9,7 +9,7 @@ use Rattle.mio.specs.Events.{items, capacity as events_capacity}
 use Rattle.mio.specs.declared.event.event.Event.{Event}
 use Rattle.mio.specs.declared.token.Token.{Token}
 use Rattle.sector.specs.declared.device.Sectors.{Ghosts}
-use Rattle.sessions.specs.Laws.{CollectsStep, HasRun}
+use Rattle.sessions.specs.Laws.{CollectsStep, HasRun, Ran}
 use Rattle.sessions.specs.SessionStreams.{HubEvent, HubState, Choice}
 use Rattle.sessions.specs.StandsFor.{StandsFor, device}
 use Rattle.sessions.specs.declared.hub.Hub.{Hub}
@@ -86,10 +86,9 @@ pub record IsUntouched {D : Type 0} {g : Ghosts D} (old new : EventLoop D g) : T
   pub refused : new.refused ≡ old.refused
   pub turns : new.turns ≡ old.turns
 
--- what no open transaction needs has gone, a step of it, and whether garbage is left is known; but for that all is as
--- it was
-pub record CollectsGarbage {D : Type 0} {g : Ghosts D} (old new : EventLoop D g) : Type 0 where
-  pub hub : CollectsStep old.hub new.hub new.has_garbage
+-- no event came to the hub; and but for it and for whether garbage is left all is as it was
+pub record Rests {D : Type 0} {g : Ghosts D} (old new : EventLoop D g) : Type 0 where
+  pub hub : Ran old.hub new.hub []
   pub table : new.table ≡ old.table
   pub next : new.next ≡ old.next
   pub port : new.port ≡ old.port
@@ -129,10 +128,10 @@ accepts_now Empty events = is_reported_of LISTENER events
 accepts_now More events = true
 accepts_now Failed events = true
 
--- One turn: a poll, the drives, by the events that it reported, then the accepts, and then a step of what no open
--- transaction needs is freed. The events of these drives, followed by the joins of these accepts, are one run of the
--- hub: lawful at each moment, with the device's failures counted, and what a crash leaves known. After the drives it
--- turned those that linger; they were closed where an accept failed.
+-- One turn: a poll, the drives, by the events that it reported, and then the accepts. The events of these drives,
+-- followed by the joins of these accepts, are one run of the hub: lawful at each moment, with the device's failures
+-- counted, and what a crash leaves known. After the drives it turned those that linger; they were closed where an
+-- accept failed.
 pub record IsTurn {D : Type 0} {g : Ghosts D} (reports : Type 0) (traffic : Socket
     → Traffic) (old new : EventLoop D g) : Type 0 where
   pub reported : WasReported old.poller.poll (items new.poller.events)
@@ -150,10 +149,16 @@ pub record IsTurn {D : Type 0} {g : Ghosts D} (reports : Type 0) (traffic : Sock
   pub accepted : EventLoop D g
   pub accepts : Accepted (accepts_now old.backlog (items new.poller.events)) driven accepted
   pub lingerers_are : lingers_in accepted.lingering ≡ unless_failed accepted.backlog (lingers_in driven.lingering)
-  pub collects : CollectsGarbage accepted new
+  pub rests : Rests accepted new
   pub run : Leads old.hub new.hub (λ h l. (k : Point)
       × DrivenAll reports (traffic_through traffic) h drives.ready k drives.driven
       × Adds k (accepted_joins (accepts_now old.backlog (items new.poller.events)) driven accepted accepts) l)
+
+-- a turn ends with a step of the garbage, which no open transaction needs, and whether some is left is known
+pub record EndsWithGarbage {D : Type 0} {g : Ghosts D} (reports : Type 0) (traffic : Socket
+    → Traffic) (old new : EventLoop D g) : Type 0 where
+  pub turn : IsTurn reports traffic old new
+  pub collects : CollectsStep turn.accepted.hub new.hub new.has_garbage
 
 -- what a turn does to its hub is a run of the hub
 abbrev pub TurnsAreRuns : {D : Type 0} {g : Ghosts D} → Type 0 → (Socket → Traffic) → EventLoop D g → Type 0

@@ -71,6 +71,7 @@ pub struct EventLoop<D: Sectors> {
 impl<D: Sectors> EventLoop<D> {
     ghost use Rattle.std.specs.Prelude.{◌≡◌, true, IfOk, MatchResult, OnOk, OnErr};
     ghost use Rattle.mio.specs.Events.{items};
+    ghost use Rattle.sessions.specs.Laws.{CollectsStep};
     ghost use Rattle.sessions.specs.Restarts.{IsOpened, IsServed};
     ghost use Rattle.sessions.specs.SessionStreams.{HubState};
     ghost use Rattle.sessions.specs.StandsFor.{StandsFor, device};
@@ -79,7 +80,7 @@ impl<D: Sectors> EventLoop<D> {
     ghost use Rattle.event_loop.specs.Loops.{HasItsSessions, HasAddress, ListensFor, hub_of};
     ghost use Rattle.event_loop.specs.Sockets.{SocketsReport, traffic_of};
     ghost use Rattle.event_loop.specs.TableBytes.{KeepBytes};
-    ghost use Rattle.event_loop.specs.Turns.{Accepted, DrivesAndEnds, CollectsGarbage, IsTurn, IsUntouched};
+    ghost use Rattle.event_loop.specs.Turns.{Accepted, DrivesAndEnds, EndsWithGarbage, IsTurn, IsUntouched, Rests};
     ghost use Rattle.event_loop.specs.Turns.{EachBecomesReady, EachGetsOn, EachHasItsTurn, TurnsAreRuns, Waits};
     ghost use Rattle.event_loop.specs.Turns.{accepts_now, has_work, is_reported_of, turn_waits};
     ghost use Rattle.event_loop.specs.Waits.{nanos_of};
@@ -188,6 +189,8 @@ impl<D: Sectors> EventLoop<D> {
     pub fn turn(&mut self, timeout: Option<Duration>) -> io::Result<()>
         ensures turned { OnOk result
             (IsTurn ⟦<Socket as Stream>⟧.reports ⟦<Socket as Stream>⟧.traffic self.old self.new) }
+        ensures collects { OnOk result
+            (EndsWithGarbage ⟦<Socket as Stream>⟧.reports ⟦<Socket as Stream>⟧.traffic self.old self.new) }
         ensures fault { OnErr result (IsUntouched self.old self.new) }
         ensures bytes { OnOk result (KeepBytes self.old.hub self.old.table.slots self.new.hub self.new.table.slots) }
         ensures waits { Waits timeout self.old result self.new }
@@ -272,7 +275,8 @@ impl<D: Sectors> EventLoop<D> {
 
     // Frees what no open transaction needs, a step of it, and has the C library join what was freed.
     fn collect_garbage(&mut self)
-        ensures collects { CollectsGarbage self.old self.new }
+        ensures collects { CollectsStep self.old.hub self.new.hub self.new.has_garbage }
+        ensures rests { Rests self.old self.new }
         ensures poller { self.new.poller ≡ self.old.poller }
         ensures turns { self.new.turns ≡ self.old.turns }
     {

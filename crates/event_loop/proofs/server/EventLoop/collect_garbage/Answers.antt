@@ -35,3 +35,6 @@ invariant_of-self g c =
       next_place = old.next_place;
       beside_place = old.beside_place;
     }
+
+pub returns-clause-collects : goal.returns-clause-collects
+returns-clause-collects g c = c.reclaim_step-self.ensures

@@ -4,7 +4,7 @@ use Rattle.std.proofs.lemmas.Result.{err_from_is_err_and}
 use Rattle.mio.specs.Events.{items}
 use Rattle.socket_calls.specs.HappenedCalls.{WasReported}
 use Rattle.event_loop.proofs.Departing.{is_served, turns_serve}
-use Rattle.event_loop.proofs.OneTurn.{turned_by}
+use Rattle.event_loop.proofs.OneTurn.{ends_with, turned_by}
 use Rattle.event_loop.proofs.WholeTurns.{accepts_keep, rest_keeps, rest_leads, then_accepts}
 use Rattle.event_loop.specs.Lingerings.{lingers_in}
 use Rattle.event_loop.specs.Polls.{WasAskedOnce, polls_of}
@@ -20,8 +20,8 @@ invariant_of-self-3-clause-serving g c =
     c.is_reported-comes_more.result
     (lingers_in c.drive.new.self.lingering) (lingers_in c.turn.new.self) c.turn.ensures c.drive.new.self.serving
 
-pub returns-clause-turned : goal.returns-clause-turned
-returns-clause-turned g c =
+pub returns-clause-collects : goal.returns-clause-collects
+returns-clause-collects g c =
     let due : accepts_now c.args.self.now.backlog (items c.collect_garbage.new.self.poller.events)
     ≡ accepts_now c.drive.new.self.backlog (items c.drive.new.self.poller.events) =
     ap (λ (p : Poller). accepts_now c.args.self.now.backlog (items p.events)) (c.collect_garbage.ensures.poller ∙ c.accept_reported.ensures.poller)
@@ -29,21 +29,26 @@ returns-clause-turned g c =
     in
     let same : c.collect_garbage.new.self.poller ≡ c.wait.new.self = c.collect_garbage.ensures.poller ∙ c.accept_reported.ensures.poller
     ∙ c.drive.ensures.poller in
-    turned_by ghosts.reports ghosts.traffic c.args.self.now _ c.accept_reported.new.self c.collect_garbage.new.self (c.collect_garbage.ensures.turns
+    ends_with ghosts.reports ghosts.traffic c.args.self.now c.accept_reported.new.self c.collect_garbage.new.self
+    (turned_by ghosts.reports ghosts.traffic c.args.self.now _ c.accept_reported.new.self c.collect_garbage.new.self (c.collect_garbage.ensures.turns
     ∙ c.accept_reported.ensures.turns) c.drive.ensures.next c.drive.ensures.port c.drive.ensures.backlog
-    c.drive.ensures.refused c.accept_reported.ensures.lingerers c.collect_garbage.ensures.collects
+    c.drive.ensures.refused c.accept_reported.ensures.lingerers c.collect_garbage.ensures.rests
     (subst (λ (p : Poller). WasReported c.args.self.now.poller.poll (items p.events)) (sym same) c.in_ok-wait.ensures.reported) c.wait.new.self same _ due
     c.is_reported-comes_more.result (c.is_reported-comes_more.ensures
     ∙ ap (λ (p : Poller). is_reported_of LINGERER (items p.events)) c.drive.ensures.poller) c.drive.ensures.drives.0
     (record { begun = lingers_in c.drive.new.self.lingering; left = c.drive.ensures.drives.1; turned = rw c.device.ensures at c.turn.ensures })
     c.accept_reported.ensures.accepts
-    (rest_leads c.law_runs_follow.ensures.follow c.args.self.now.hub c.accept_reported.new.self c.collect_garbage.new.self c.collect_garbage.ensures.collects _
+    (rest_leads c.law_runs_follow.ensures.follow c.args.self.now.hub c.accept_reported.new.self c.collect_garbage.new.self c.collect_garbage.ensures.rests _
     (then_accepts c.law_runs_follow.ensures.follow c.args.self.now.hub _ c.accept_reported.new.self _ c.drive.ensures.drives.0.drives.leads _
-    c.accept_reported.ensures.accepts))
+    c.accept_reported.ensures.accepts)))
+    c.collect_garbage.ensures.collects
+
+pub returns-clause-turned : goal.returns-clause-turned
+returns-clause-turned g c = (returns-clause-collects g c).turn
 
 pub returns-clause-bytes : goal.returns-clause-bytes
 returns-clause-bytes g c =
-    rest_keeps c.law_runs_follow.ensures.follow c.args.self.now.hub c.accept_reported.new.self c.collect_garbage.new.self c.collect_garbage.ensures.collects
+    rest_keeps c.law_runs_follow.ensures.follow c.args.self.now.hub c.accept_reported.new.self c.collect_garbage.new.self c.collect_garbage.ensures.rests
     c.args.self.now.table.slots
     (accepts_keep c.law_runs_follow.ensures.follow c.args.self.now.hub _ c.accept_reported.new.self c.args.self.now.table.slots c.drive.ensures.keeps _
     c.accept_reported.ensures.accepts)
