@@ -78,7 +78,7 @@ impl<D: Sectors> EventLoop<D> {
     ghost use Rattle.event_loop.specs.AllThatLeft.{HaveOneRun};
     ghost use Rattle.event_loop.specs.Lingerings.{lingers_in, unless_failed};
     ghost use Rattle.event_loop.specs.Loops.{HasItsSessions, HasAddress, ListensFor, hub_of};
-    ghost use Rattle.event_loop.specs.Sockets.{SocketsReport, traffic_of};
+    ghost use Rattle.event_loop.specs.Sockets.{SocketsReport};
     ghost use Rattle.event_loop.specs.TableBytes.{KeepBytes};
     ghost use Rattle.event_loop.specs.Turns.{Accepted, DrivesAndEnds, EndsWithGarbage, IsTurn, IsUntouched, Rests};
     ghost use Rattle.event_loop.specs.Turns.{EachBecomesReady, EachGetsOn, EachHasItsTurn, TurnsAreRuns, Waits};
