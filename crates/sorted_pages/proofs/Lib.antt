@@ -1,4 +1,5 @@
 pub mod Deals
+pub mod FirstBytes
 pub mod Keys
 pub mod Placings
 pub mod Seen

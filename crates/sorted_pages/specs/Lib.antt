@@ -1,6 +1,7 @@
 -- What contracts say of pages.
 pub mod Blanks
 pub mod Gaps
+pub mod Heads
 pub mod Summaries
 pub mod Pages
 pub mod Rooms

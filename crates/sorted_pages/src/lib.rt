@@ -5,6 +5,7 @@
 mod aging;
 mod changing;
 mod gap;
+mod heads;
 mod insertion_point;
 mod older;
 mod page;

@@ -14,9 +14,11 @@ ghost use Rattle.sorted_pages.specs.Rooms.{HasRoomFor, IsEmptyFor};
 ghost use Rattle.sorted_pages.specs.Trims.{changed_at, passes};
 
 use crate::aging::Aging;
+use crate::heads::{SoughtKey, first_head, renewed_head};
 use crate::summary::Summary;
 use model::{Key, KeyRef};
 use std::alloc::{AllocError, Global};
+use std::boxed::Box;
 use std::cmp::Ordering;
 use std::marker::Model;
 use std::mem;
@@ -78,19 +80,33 @@ fn deal<V: Drop>(
     }
 }
 
+// The summary of no entries, in memory of its own.
+fn new_summary(alloc: Global) -> Result<Box<Summary>, AllocError>
+    ensures live { IfOk result (λ s. s.value.live ≡ 0) }
+    ensures whole { IfOk result (λ s. s.value.left_out ≡ None) }
+{
+    match Box::new(alloc, Summary::new()) {
+        Ok(summary) => Ok(summary),
+        Err(_) => Err(AllocError),
+    }
+}
+
 // Entries by rising key. A clause sees them, and how many more fit without memory.
 #[derive(Drop)]
 pub(crate) struct Page<V: Aging> {
     entries: Vec<(Key, V)>,
+    // that of the first key
+    head: u128,
     // of so many of the first entries no number sees anything
     blank: usize,
-    summary: Summary,
+    summary: Box<Summary>,
 }
 
 impl<V: Aging> Model for Page<V> {
     ghost use Rattle.std.specs.Prelude.{ℕ, List, ◌-◌};
     ghost use Rattle.std.specs.Vec.{vec_len, vec_capacity};
     ghost use Rattle.sorted_pages.specs.Blanks.{IsBlankTo};
+    ghost use Rattle.sorted_pages.specs.Heads.{IsHead};
     ghost use Rattle.sorted_pages.specs.Summaries.{IsSummaryBut};
 
     ghost Value = { List (List ℕ × V) × ℕ };
@@ -98,7 +114,8 @@ impl<V: Aging> Model for Page<V> {
     ghost view = { λ p. (p.entries.items, vec_capacity p.entries - vec_len p.entries) };
 
     ghost invariant = { λ p. IsBlankTo V.hides p.entries.items p.blank
-        × IsSummaryBut V.hides V.shows p.entries.items p.summary };
+        × IsSummaryBut V.hides V.shows p.entries.items p.summary.value
+        × IsHead p.entries.items p.head };
 }
 
 // Which of the entry's key and another stands first.
@@ -125,10 +142,12 @@ impl<V: Aging> Page<V> {
     pub(crate) fn with_room(alloc: Global, room: usize) -> Result<Page<V>, AllocError>
         ensures { IfOk result (λ p. p ≡ ([], room)) }
     {
+        let summary = new_summary(alloc)?;
         Ok(Page {
             entries: Vec::with_capacity(alloc, room)?,
+            head: 0,
             blank: 0,
-            summary: Summary::new(),
+            summary,
         })
     }
 
@@ -153,12 +172,13 @@ impl<V: Aging> Page<V> {
     }
 
     // Is the first key at most this one?
-    pub(crate) fn starts_by(&self, key: KeyRef<'_>) -> bool
-        ensures { result ≡ starts_by key.entry.bytes.now self.now.0 }
+    pub(crate) fn starts_by(&self, sought: SoughtKey<'_>) -> bool
+        ensures { result ≡ starts_by sought.entry.key.bytes.now self.now.0 }
     {
         match self.entries.first() {
             None => true,
-            Some(entry) => compare(entry, key).is_le(),
+            Some(_) if self.head != sought.head => self.head < sought.head,
+            Some(entry) => compare(entry, sought.key).is_le(),
         }
     }
 
@@ -209,7 +229,7 @@ impl<V: Aging> Page<V> {
     pub(crate) fn seen_from(&self, number: u64) -> &[(Key, V)]
         ensures { shown (V.hides number) result.now ≡ shown (V.hides number) self.now.0 }
     {
-        if self.summary.hides(&self.entries, number) {
+        if self.summary.as_ref().hides(&self.entries, number) {
             return &[];
         }
         &self.entries()[self.blank..]
@@ -242,7 +262,7 @@ impl<V: Aging> Page<V> {
         ensures value { find (slice_cmp nat_cmp) key.entry.bytes.now self.old.0 ≡ Some result.now }
     {
         self.blank = self.blank.min(i);
-        self.summary = self.summary.leave_out(&self.entries, i);
+        *self.summary.as_mut() = self.summary.as_ref().leave_out(&self.entries, i);
         let entry = &mut self.entries[i];
         &mut entry.1
     }
@@ -251,7 +271,7 @@ impl<V: Aging> Page<V> {
     pub(crate) fn look_again(&mut self)
         ensures { self.new ≡ self.old }
     {
-        self.summary = self.summary.take_in(&self.entries);
+        *self.summary.as_mut() = self.summary.as_ref().take_in(&self.entries);
     }
 
     // Makes room for `n` more entries. Where it is missing the places become whole steps.
@@ -276,13 +296,14 @@ impl<V: Aging> Page<V> {
         ensures room { self.old.1 ≡ self.new.1 + 1 }
     {
         self.blank = self.blank.min(i);
-        self.summary = self.summary.take_in(&self.entries);
+        let mut summary = self.summary.as_ref().take_in(&self.entries);
         match self.entries.insert(i, (key, value)) {
             Ok(()) => {}
             Err(_) => unreachable!(),
         }
-        self.summary.left_out = Some(i);
-        self.summary = self.summary.take_in(&self.entries);
+        self.head = renewed_head(&self.entries, i, self.head);
+        summary.left_out = Some(i);
+        *self.summary.as_mut() = summary.take_in(&self.entries);
     }
 }
 
@@ -295,10 +316,11 @@ impl<V: Aging + Drop> Page<V> {
     {
         self.reserve(1)?;
         let last = self.entries.len();
-        self.summary = self.summary.take_in(&self.entries);
+        let mut summary = self.summary.as_ref().take_in(&self.entries);
         self.entries.push_reserved((key, value));
-        self.summary.left_out = Some(last);
-        self.summary = self.summary.take_in(&self.entries);
+        self.head = renewed_head(&self.entries, last, self.head);
+        summary.left_out = Some(last);
+        *self.summary.as_mut() = summary.take_in(&self.entries);
         Ok(())
     }
 
@@ -312,14 +334,17 @@ impl<V: Aging + Drop> Page<V> {
         let alloc = *self.entries.allocator();
         let mut lower = vector_for(alloc, at, n)?;
         let mut upper = vector_for(alloc, self.entries.len() - at, n)?;
+        let mut summary = new_summary(alloc)?;
         let entries = mem::replace(&mut self.entries, Vec::new(alloc));
         deal(entries, at, &mut lower, &mut upper);
         self.blank = self.blank.min(at);
-        self.summary = Summary::of(&lower);
+        *self.summary.as_mut() = Summary::of(&lower);
         self.entries = lower;
-        let summary = Summary::of(&upper);
+        *summary.as_mut() = Summary::of(&upper);
+        let head = first_head(&upper);
         Ok(Page {
             entries: upper,
+            head,
             blank: 0,
             summary,
         })
@@ -336,13 +361,13 @@ impl<V: Aging> Page<V> {
     {
         match self.search(key) {
             Ok(i) => {
-                self.summary = self.summary.leave_out(&self.entries, i);
+                *self.summary.as_mut() = self.summary.as_ref().leave_out(&self.entries, i);
                 let entry = &mut self.entries[i];
                 entry.1.trim(numbers);
                 let left = entry.1.has(number);
                 self.blank = blank_from(&self.entries, self.blank.min(i));
-                self.summary = self.summary.take_in(&self.entries);
-                self.summary = self.summary.active(&self.entries, numbers);
+                let summary = self.summary.as_ref().take_in(&self.entries);
+                *self.summary.as_mut() = summary.active(&self.entries, numbers);
                 left
             }
             Err(_) => false,

@@ -4,6 +4,7 @@ ghost use Rattle.model.specs.Map.{Bytes};
 ghost use Rattle.sorted_pages.specs.Pages.{IsInOrder, IsPlace, count_at, room_at};
 
 use crate::aging::Aging;
+use crate::heads::SoughtKey;
 use crate::page::Page;
 use model::KeyRef;
 
@@ -13,8 +14,9 @@ pub(crate) fn place<V: Aging>(pages: &[Page<V>], key: KeyRef<'_>) -> usize
     requires some { 0 < length pages.now }
     ensures { IsPlace pages.now key.entry.bytes.now result }
 {
+    let sought = SoughtKey::new(key);
     pages
-        .partition_point(|page| page.starts_by(key))
+        .partition_point(|page| page.starts_by(sought))
         .saturating_sub(1)
 }
 

@@ -1,26 +1,34 @@
 use Rattle.sorted_pages.proofs.page.Page.insert.Goals as goal
 use Rattle.std.proofs.Common.{refl, ◌∙◌, arith}
+use Rattle.sorted_pages.proofs.FirstBytes.{head-insert}
 use Rattle.sorted_pages.proofs.Seen.{blank-insert, but_none, inserted_but}
 
-pub take_in-self-inside-requires-2 : goal.take_in-self-inside-requires-2
-take_in-self-inside-requires-2 g c =
+pub renewed_head-self-inside-requires : goal.renewed_head-self-inside-requires
+renewed_head-self-inside-requires g c = λ later.
     let es = c.self.inside.entries.items in
-    let s = c.take_in-self-inside.result in
     let gap = rw (← c.self.view_is) at c.requires.gap in
-    inserted_but g.V.Aging.hides g.V.Aging.shows es c.deref-2.result.now c.args.i (
+    rw (c.deref-2.ensures.value, c.in-Ok.ensures.items) (head-insert es c.args.i c.self.inside.head _ later gap.in_range c.self.invariant.2)
+
+pub take_in-requires : goal.take_in-requires
+take_in-requires g c =
+    let es = c.self.inside.entries.items in
+    let s = c.take_in-summary.result in
+    let gap = rw (← c.self.view_is) at c.requires.gap in
+    inserted_but g.V.Aging.hides g.V.Aging.shows es c.deref-3.result.now c.args.i (
       c.args.key,
       c.args.value,
-    ) s _ (c.deref-2.ensures.value ∙ c.in-Ok.ensures.items) gap.in_range refl refl refl refl refl refl
-    (rw c.deref.ensures.value at c.take_in-self-inside.ensures.summary)
+    ) s _ (c.deref-3.ensures.value ∙ c.in-Ok.ensures.items) gap.in_range refl refl refl refl refl refl
+    (rw c.deref.ensures.value at c.take_in-summary.ensures.summary)
 
 pub invariant_of-self : goal.invariant_of-self
 invariant_of-self g c =
     let es = c.self.inside.entries.items in
-    let s = c.take_in-self-inside-2.result in
+    let s = c.take_in.result in
     let gap = rw (← c.self.view_is) at c.requires.gap in
     let within = gap.in_range in (
       rw c.in-Ok.ensures.items
           (blank-insert g.V.Aging.hides es c.self.inside.blank c.min-self-inside.result c.args.i _ within (omega arith) (omega arith) c.self.invariant.0),
-      but_none g.V.Aging.hides g.V.Aging.shows c.insert.new.self.items s c.take_in-self-inside-2.ensures.whole
-          (rw c.deref-2.ensures.value at c.take_in-self-inside-2.ensures.summary),
+      but_none g.V.Aging.hides g.V.Aging.shows c.insert.new.self.items s c.take_in.ensures.whole
+          (rw c.deref-3.ensures.value at c.take_in.ensures.summary),
+      rw c.deref-2.ensures.value at c.renewed_head-self-inside.ensures,
     )

@@ -1,22 +1,30 @@
 use Rattle.sorted_pages.proofs.page.Page.push.Goals as goal
 use Rattle.std.proofs.Common.{◌≡◌, length, refl, ◌∙◌, arith}
+use Rattle.sorted_pages.proofs.FirstBytes.{head-push}
 use Rattle.sorted_pages.proofs.Seen.{blank-push, but_none, pushed_but}
 
-pub take_in-self-inside-requires-2 : goal.take_in-self-inside-requires-2
-take_in-self-inside-requires-2 g c =
+pub renewed_head-self-inside-requires : goal.renewed_head-self-inside-requires
+renewed_head-self-inside-requires g c = λ later.
     let es = c.self.inside.entries.items in
-    let s = c.take_in-self-inside.result in
     let long : c.len-last.result ≡ length es = (let w = c.self.inside.entries.ok.0 in omega arith) in
-    pushed_but g.V.Aging.hides g.V.Aging.shows es c.deref-2.result.now c.len-last.result (
+    rw (c.deref-2.ensures.value, c.push_reserved.ensures.items) (head-push es c.self.inside.head _ (omega (arith, long, later)) c.self.invariant.2)
+
+pub take_in-requires : goal.take_in-requires
+take_in-requires g c =
+    let es = c.self.inside.entries.items in
+    let s = c.take_in-summary.result in
+    let long : c.len-last.result ≡ length es = (let w = c.self.inside.entries.ok.0 in omega arith) in
+    pushed_but g.V.Aging.hides g.V.Aging.shows es c.deref-3.result.now c.len-last.result (
       c.args.key,
       c.args.value,
-    ) s _ (c.deref-2.ensures.value ∙ c.push_reserved.ensures.items) long refl refl refl refl refl refl
-    (rw c.deref.ensures.value at c.take_in-self-inside.ensures.summary)
+    ) s _ (c.deref-3.ensures.value ∙ c.push_reserved.ensures.items) long refl refl refl refl refl refl
+    (rw c.deref.ensures.value at c.take_in-summary.ensures.summary)
 
 pub invariant_of-self : goal.invariant_of-self
 invariant_of-self g c =
-    let s = c.take_in-self-inside-2.result in (
+    let s = c.take_in.result in (
       rw c.push_reserved.ensures.items (blank-push g.V.Aging.hides c.self.inside.entries.items c.self.inside.blank _ c.self.invariant.0),
-      but_none g.V.Aging.hides g.V.Aging.shows c.push_reserved.new.self.items s c.take_in-self-inside-2.ensures.whole
-          (rw c.deref-2.ensures.value at c.take_in-self-inside-2.ensures.summary),
+      but_none g.V.Aging.hides g.V.Aging.shows c.push_reserved.new.self.items s c.take_in.ensures.whole
+          (rw c.deref-3.ensures.value at c.take_in.ensures.summary),
+      rw c.deref-2.ensures.value at c.renewed_head-self-inside.ensures,
     )

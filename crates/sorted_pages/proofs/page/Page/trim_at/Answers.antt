@@ -10,13 +10,13 @@ blank_from-self-inside-requires g c =
     rw c.deref-in-Ok.ensures.value
     (blank-set g.V.Aging.hides c.self.inside.entries.items c.self.inside.blank c.min.result c.in-Ok.i _ (omega arith) (omega arith) c.self.invariant.0)
 
-pub take_in-self-inside-requires : goal.take_in-self-inside-requires
-take_in-self-inside-requires g c =
+pub take_in-summary-requires : goal.take_in-summary-requires
+take_in-summary-requires g c =
     let es = c.self.inside.entries.items in
-    let s = c.leave_out-self-inside.result in
-    rw c.deref-in-Ok-2.ensures.value
-    (rest-set g.V.Aging.hides g.V.Aging.shows es s c.in-Ok.i _ c.leave_out-self-inside.ensures.left_out
-    (rw c.deref.ensures.value at c.leave_out-self-inside.ensures.summary))
+    let s = c.leave_out.result in
+    rw (c.deref-in-Ok-2.ensures.value, c.as_ref-in-Ok.ensures)
+    (rest-set g.V.Aging.hides g.V.Aging.shows es s c.in-Ok.i _ c.leave_out.ensures.left_out
+    (rw c.deref.ensures.value at c.leave_out.ensures.summary))
 
 pub returns-in-Ok : goal.returns-in-Ok
 returns-in-Ok g c =

@@ -3,6 +3,7 @@ use Rattle.std.proofs.Common.{arith, ap, ◌∙◌, ◌≡◌, ◌-◌, List, ge
 use Rattle.std.specs.FinMap.Entries.{find, put}
 use Rattle.std.specs.Vec.{vec_len, vec_capacity}
 use Rattle.model.specs.Map.{Bytes, key_cmp}
+use Rattle.sorted_pages.proofs.FirstBytes.{head-set}
 use Rattle.sorted_pages.proofs.Seen.{blank-set, rest-set}
 use Rattle.sorted_pages.specs.Lent.{with_value_in}
 use Rattle.sorted_pages.specs.Pages.{Page}
@@ -11,11 +12,13 @@ use Rattle.sorted_pages.specs.Pages.{Page}
 pub invariant_of-self-lent : goal.invariant_of-self-lent
 invariant_of-self-lent g c = λ w.
     let es = c.self.inside.entries.items in
-    let s = c.leave_out-self-inside.result in
-    let e : Bytes × g.row.V.Denot = (c.index_mut-entry.result.now.0, w) in (
+    let s = c.leave_out.result in
+    let d = c.index_mut-entry.result.now in
+    let e : Bytes × g.row.V.Denot = (d.0, w) in (
       blank-set g.V.Aging.hides es c.self.inside.blank c.min-self-inside.result c.args.i e (omega arith) (omega arith) c.self.invariant.0,
-      rest-set g.V.Aging.hides g.V.Aging.shows es s c.args.i e c.leave_out-self-inside.ensures.left_out
-          (rw c.deref.ensures.value at c.leave_out-self-inside.ensures.summary),
+      rest-set g.V.Aging.hides g.V.Aging.shows es s c.args.i e c.leave_out.ensures.left_out
+          (rw c.deref.ensures.value at c.leave_out.ensures.summary),
+      head-set es c.args.i c.self.inside.head e d c.index_mut-entry.ensures.value refl c.self.invariant.2,
     )
 
 pub returns : goal.returns
