@@ -5,6 +5,9 @@ use Rattle.std.proofs.Math.Nat.{mul-add}
 spread : (each m n : ℕ) → n ≤ m → each * m ≡ each * (m - n) + each * n
 spread each m n le = let is : m ≡ (m - n) + n = omega arith in ap (λ k. each * k) is ∙ mul-add each (m - n) n
 
+pub one_more : (each n : ℕ) → each * (n + 1) ≡ each * n + each * 1
+one_more each n = mul-add each n 1
+
 -- some moves are left of those that were left, and what is left to move was left before
 pub slower : (each most rest less was left now : ℕ) → rest ≤ most → less ≤ rest → was ≤ left + each * (most - rest) → left ≤ now + each * (rest - less)
     → was ≤ now + each * (most - less)

@@ -8,7 +8,8 @@ use Rattle.std.proofs.lemmas.List.{append_assoc, at_drop_all, drop-drop, drop-ma
 use Rattle.std.proofs.lemmas.List.{length-take-le, map-append, nil_from_length, set_at, take-append-drop, take_more}
 use Rattle.std.specs.List.{remove}
 use Rattle.std.specs.Prelude.{◌||◌}
-use Rattle.merging_runs.specs.RunSizes.{RunSize, left_above, has_alike, joined, IsBegun, lasts_of}
+use Rattle.merging_runs.specs.RunSizes.{AreNoLonger, RunSize, left_above, has_alike, joined, IsBegun, lasts_of}
+use Rattle.merging_runs.specs.RunSizes.{whole_of}
 
 -- ---- two runs beside one another
 
@@ -109,6 +110,30 @@ number_kept size number (q ∷ rs) (suc i) was is lt at same = ap (λ l. number 
 pub lasts_changed : {R : Type 0} (size : R → RunSize) (rs : List R) (i : ℕ) (was is : R) → i < length rs → was ≡ get_or rs i was
     → (size is).last ≡ (size was).last → lasts_of (map size (set rs i is)) ≡ lasts_of (map size rs)
 lasts_changed size rs i was is lt at same = number_kept size (λ r. r.last) rs i was is lt at same
+
+-- ---- how many elements runs have
+
+pub as_long : (rs : List RunSize) → AreNoLonger rs rs
+as_long [] = tt
+as_long (r ∷ rs) = (omega arith, as_long rs)
+
+pub no_longer_through : (rs qs ps : List RunSize) → AreNoLonger rs qs → AreNoLonger qs ps → AreNoLonger rs ps
+no_longer_through [] [] [] h g = tt
+no_longer_through (r ∷ rs) (q ∷ qs) (p ∷ ps) h g =
+    let first = h.0 in
+    let second = g.0 in
+    (omega (arith, first, second), no_longer_through rs qs ps h.1 g.1)
+no_longer_through [] [] (p ∷ ps) h g = absurd g
+no_longer_through [] (q ∷ qs) ps h g = absurd h
+no_longer_through (r ∷ rs) [] ps h g = absurd h
+no_longer_through (r ∷ rs) (q ∷ qs) [] h g = absurd g
+
+-- another in the place of a run
+pub no_longer_changed : {R : Type 0} (size : R → RunSize) (rs : List R) (i : ℕ) (was is : R) → i < length rs → was ≡ get_or rs i was
+    → whole_of (size is) ≤ whole_of (size was) → AreNoLonger (map size (set rs i is)) (map size rs)
+no_longer_changed size [] i was is lt at le = absurd (omega arith)
+no_longer_changed size (q ∷ rs) zero was is lt at le = (rw (sym at) le, as_long (map size rs))
+no_longer_changed size (q ∷ rs) (suc i) was is lt at le = (omega arith, no_longer_changed size rs i was is (omega arith) at le)
 
 -- nothing is left in a run, nor in those behind it
 pub none_left : {R : Type 0} (size : R → RunSize) (o : ℕ) (rs : List R) (i j : ℕ) (is : R) → j ≡ suc i → (size is).left ≡ 0

@@ -1,4 +1,5 @@
 -- How runs are merged, some elements at a time.
+use Rattle.std.specs.List.{AllZip}
 use Rattle.std.specs.Prelude.{◌≡◌, ◌≤◌, ◌+◌, ◌*◌, ◌-◌, ◌^◌, ◌++◌, ◌⊎◌, ◌&&◌, ◌||◌, ◌==◌, ℕ, Bool, true, false, nat_lt}
 use Rattle.std.specs.Prelude.{nat_le, max, min, map, drop, List, [], ◌∷◌, if◌then◌else◌}
 
@@ -80,25 +81,29 @@ moves_for count = min (16 * count + 64) (2 ^ 64 - 1)
 abbrev pub lasts_of : List RunSize → List ℕ
 lasts_of rs = map (λ r. r.last) rs
 
--- how many elements each run has, made or still to be moved
-abbrev pub wholes_of : List RunSize → List ℕ
-wholes_of rs = map (λ r. r.left + r.made) rs
+-- how many elements a run has, made or still to be moved
+abbrev pub whole_of : RunSize → ℕ
+whole_of r = r.left + r.made
+
+-- each run has at most as many as the one at its place had
+abbrev pub AreNoLonger : List RunSize → List RunSize → Type 0
+AreNoLonger new old = AllZip (λ r s. whole_of r ≤ whole_of s) new old
 
 -- so many moves of so many elements at most
 abbrev pub AtMostMoved : ℕ → ℕ → ℕ → List RunSize → List RunSize → Type 0
 AtMostMoved each o n old new = left_above o old ≤ left_above o new + each * n
 
--- Of a run, so many moves of so many elements at most were made. Where a move takes one alone, each is kept.
+-- Of a run, so many moves of so many elements at most were made. It may have fewer elements than before.
 pub record IsMerged (each moves : ℕ) (old new : RunSize) : Type 0 where
   pub last : new.last ≡ old.last
-  pub whole : each ≡ 1 → new.left + new.made ≡ old.left + old.made
+  pub whole : whole_of new ≤ whole_of old
   pub moved : new.left + moves ≤ old.left
   pub slowly : old.left ≤ new.left + each * moves
 
 -- so it is of these runs, which have numbers above that one where something was moved
 pub record AreMerged (each o moves : ℕ) (old new : List RunSize) : Type 0 where
   pub lasts : lasts_of new ≡ lasts_of old
-  pub wholes : each ≡ 1 → wholes_of new ≡ wholes_of old
+  pub wholes : AreNoLonger new old
   pub moved : left_above o new + moves ≤ left_above o old
   pub slowly : AtMostMoved each o moves old new
 
@@ -107,9 +112,9 @@ abbrev pub RestsFrom : ℕ → ℕ → List RunSize → List RunSize → Type 0
 RestsFrom o place old new = left_above o (drop (place + 1) old) ≡ 0 → left_above o (drop place new) ≡ 0
 
 -- What is to be moved was moved so many times, unless nothing is left to move; a move takes so many elements at most.
--- Where it takes one alone, each is kept.
+-- No run has more elements than before.
 pub record IsMoved (each o most : ℕ) (old new : List RunSize) : Type 0 where
   pub lasts : lasts_of new ≡ lasts_of old
-  pub wholes : each ≡ 1 → wholes_of new ≡ wholes_of old
+  pub wholes : AreNoLonger new old
   pub moved : left_above o new + min most (left_above o old) ≤ left_above o old
   pub slowly : AtMostMoved each o most old new

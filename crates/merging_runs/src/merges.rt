@@ -1,5 +1,5 @@
 //! Merges two neighbouring runs of a similar size, some elements at a time.
-ghost use Rattle.std.specs.Prelude.{◌≡◌, ◌≤◌, ◌<◌, ◌-◌, [], ◌∷◌, true, false, map, take, drop};
+ghost use Rattle.std.specs.Prelude.{◌≡◌, ◌≤◌, ◌<◌, ◌-◌, ◌&&◌, ℕ, Bool, [], ◌∷◌, true, false, map, nat_le, take, drop};
 ghost use Rattle.std.specs.Vec.{vec_len};
 ghost use Rattle.merging_runs.specs.RunSizes.{AreMerged, EndsIf, IsMerged, IsMoved, IsTried, RestsFrom, has_alike};
 
@@ -10,7 +10,7 @@ use crate::run::Run;
 fn open_at<R: Run>(runs: &mut Vec<R>, place: usize, oldest: u64, refused: &mut u64) -> bool
     requires some { 0 < place }
     requires within { place < vec_len runs.old }
-    ensures agree { R.agree oldest runs.new.items runs.old.items }
+    ensures agree { (begins : ℕ → Bool) → R.agree begins runs.new.items runs.old.items }
     ensures alike { EndsIf result (R.alike oldest) (map R.sizes runs.old.items) (map R.sizes runs.new.items) refused.old
         refused.new }
     ensures none { result ≡ false
@@ -34,7 +34,7 @@ fn open_at<R: Run>(runs: &mut Vec<R>, place: usize, oldest: u64, refused: &mut u
 // Begins to make one run of the last two beside one another that are alike. It takes memory; where that is refused, it counts the refusal,
 // and the runs stay.
 pub(crate) fn open_last<R: Run>(runs: &mut Vec<R>, oldest: u64, refused: &mut u64)
-    ensures agree { R.agree oldest runs.new.items runs.old.items }
+    ensures agree { (begins : ℕ → Bool) → R.agree begins runs.new.items runs.old.items }
     ensures tried { IsTried (R.alike oldest) (map R.sizes runs.old.items) (map R.sizes runs.new.items) refused.old
         refused.new }
 {
@@ -47,9 +47,9 @@ pub(crate) fn open_last<R: Run>(runs: &mut Vec<R>, oldest: u64, refused: &mut u6
 }
 
 // Moves elements of the run so many times at most: how many moves are left, which are none while there is something to move.
-fn move_on<R: Run>(run: &mut R, oldest: u64, most: usize) -> usize
+fn move_on<R: Run>(run: &mut R, oldest: u64, active: &R::Active, most: usize) -> usize
     requires { oldest < (R.sizes run.old).last }
-    ensures agree { R.agree oldest (run.new ∷ []) (run.old ∷ []) }
+    ensures agree { R.agree (λ b. nat_le oldest b && R.asks active.now b) (run.new ∷ []) (run.old ∷ []) }
     ensures most { result ≤ most }
     ensures merged { IsMerged R.each (most - result) (R.sizes run.old) (R.sizes run.new) }
     ensures ended { 0 < result → (R.sizes run.new).left ≡ 0 }
@@ -58,14 +58,20 @@ fn move_on<R: Run>(run: &mut R, oldest: u64, most: usize) -> usize
         if run.is_at_rest() {
             return most - moved;
         }
-        run.move_one(oldest);
+        run.move_one(oldest, active);
     }
     0
 }
 
 // Moves elements so many times at most in the run at the place, where there is one with numbers above `oldest`: how many moves are left.
-fn move_at<R: Run>(runs: &mut Vec<R>, place: usize, oldest: u64, most: usize) -> usize
-    ensures agree { R.agree oldest runs.new.items runs.old.items }
+fn move_at<R: Run>(
+    runs: &mut Vec<R>,
+    place: usize,
+    oldest: u64,
+    active: &R::Active,
+    most: usize,
+) -> usize
+    ensures agree { R.agree (λ b. nat_le oldest b && R.asks active.now b) runs.new.items runs.old.items }
     ensures most { result ≤ most }
     ensures len { vec_len runs.new ≡ vec_len runs.old }
     ensures merged { AreMerged R.each oldest (most - result) (map R.sizes runs.old.items) (map R.sizes runs.new.items) }
@@ -77,17 +83,17 @@ fn move_at<R: Run>(runs: &mut Vec<R>, place: usize, oldest: u64, most: usize) ->
     if runs[place].last() <= oldest {
         return most;
     }
-    move_on(&mut runs[place], oldest, most)
+    move_on(&mut runs[place], oldest, active, most)
 }
 
 // Moves elements so many times at most in the runs that are being made of two, in the last runs first: these are the shortest.
-pub(crate) fn move_runs<R: Run>(runs: &mut Vec<R>, oldest: u64, most: usize)
-    ensures agree { R.agree oldest runs.new.items runs.old.items }
+pub(crate) fn move_runs<R: Run>(runs: &mut Vec<R>, oldest: u64, active: &R::Active, most: usize)
+    ensures agree { R.agree (λ b. nat_le oldest b && R.asks active.now b) runs.new.items runs.old.items }
     ensures moved { IsMoved R.each oldest most (map R.sizes runs.old.items) (map R.sizes runs.new.items) }
 {
     let mut rest = most;
     for after in 0..runs.len() {
         let place = runs.len() - after - 1;
-        rest = move_at(runs, place, oldest, rest);
+        rest = move_at(runs, place, oldest, active, rest);
     }
 }

@@ -22,7 +22,7 @@ pub(crate) fn is_one_old<R: Run>(runs: &[R], oldest: u64) -> bool
 
 // Takes out a run that has no number above `oldest`, if there is one.
 pub(crate) fn take_old<R: Run>(runs: &mut Vec<R>, oldest: u64) -> Option<R>
-    ensures agree { R.agree oldest runs.new.items runs.old.items }
+    ensures agree { R.agree (nat_le oldest) runs.new.items runs.old.items }
     ensures none { result ≡ None → size_old R.from R.sizes R.held oldest runs.new.items ≡ 0 }
     ensures size { size_old R.from R.sizes R.held oldest runs.old.items
         ≡ size_of R.held result + size_old R.from R.sizes R.held oldest runs.new.items }

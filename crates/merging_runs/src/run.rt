@@ -1,6 +1,6 @@
 //! The trait of a run: what it offers so that it can be merged, freed and swept, and its laws.
-ghost use Rattle.std.specs.Prelude.{◌≡◌, ◌≤◌, ◌<◌, ◌+◌, ◌-◌, ◌^◌, ◌++◌, ◌||◌, ℕ, Bool, true, false, List, [], ◌∷◌};
-ghost use Rattle.std.specs.Prelude.{min, IfSome, ⊤};
+ghost use Rattle.std.specs.Prelude.{◌≡◌, ◌≤◌, ◌<◌, ◌+◌, ◌-◌, ◌^◌, ◌++◌, ◌&&◌, ◌||◌, ℕ, Bool, true, false, List, []};
+ghost use Rattle.std.specs.Prelude.{◌∷◌, min, nat_le, IfSome, ⊤};
 ghost use Rattle.merging_runs.specs.Next.{IsNext};
 ghost use Rattle.merging_runs.specs.RunSizes.{IsMerged, IsSwept, RunSize, joined};
 
@@ -14,6 +14,9 @@ pub trait Run: Drop {
 
     /// What is left of it while it is freed.
     type Stale: FreePart;
+
+    /// What says who may still ask.
+    type Active;
 
     /// How far it is merged.
     ghost sizes: { Self → RunSize };
@@ -45,8 +48,11 @@ pub trait Run: Drop {
     /// What a move may make of a run, where nothing is asked of the numbers up to that one.
     ghost makes: { ℕ → Self → Self → Type 0 } = { λ _ _ _. ⊤ };
 
-    /// Runs answer as others do, where nothing is asked of the numbers up to that one.
-    ghost agree: { ℕ → List Self → List Self → Type 0 };
+    /// Whether one who began at that number may still ask.
+    ghost asks: { Self.Active → ℕ → Bool };
+
+    /// Runs answer as others do, whoever asks that began at a number of these.
+    ghost agree: { (ℕ → Bool) → List Self → List Self → Type 0 };
 
     /// A number that none of its numbers is above. Takes no memory.
     fn last(&self) -> u64
@@ -81,19 +87,20 @@ pub trait Run: Drop {
         requires second { (sizes second).left ≡ 0 }
         requires room { fit ((sizes self.old).made + (sizes second).made) places }
         ensures sizes { sizes self.new ≡ joined (sizes self.old) (sizes second) }
-        ensures agree { (oldest : ℕ) → agree oldest (self.new ∷ []) (self.old ∷ second ∷ []) };
+        ensures agree { (begins : ℕ → Bool) → agree begins (self.new ∷ []) (self.old ∷ second ∷ []) };
 
     /// Is it not being made of two? Takes no memory.
     fn is_at_rest(&self) -> bool
         ensures rest { result ≡ true → (sizes self.now).left ≡ 0 }
         ensures under_way { result ≡ false → 0 < (sizes self.now).left };
 
-    /// Moves an element of the two, or more of one key, and frees their room once nothing is left of them. Takes no memory.
-    fn move_one(&mut self, oldest: u64)
+    /// Moves an element of the two, or more of one key, and frees their room once nothing is left of them. It may drop what none who may
+    /// still ask is answered by. Takes no memory.
+    fn move_one(&mut self, oldest: u64, active: &Self::Active)
         requires late { oldest < (sizes self.old).last }
         requires some { 0 < (sizes self.old).left }
         ensures makes { makes oldest self.old self.new }
-        ensures agree { agree oldest (self.new ∷ []) (self.old ∷ []) }
+        ensures agree { agree (λ b. nat_le oldest b && asks active.now b) (self.new ∷ []) (self.old ∷ []) }
         ensures merged { IsMerged each 1 (sizes self.old) (sizes self.new) }
         ensures room { (sizes self.new).left ≡ 0 → room self.new ≡ 0 };
 
@@ -101,7 +108,7 @@ pub trait Run: Drop {
     fn sweep(&mut self, oldest: u64)
         requires late { oldest < (sizes self.old).last }
         ensures from { oldest < from self.new }
-        ensures agree { agree oldest (self.new ∷ []) (self.old ∷ []) }
+        ensures agree { agree (nat_le oldest) (self.new ∷ []) (self.old ∷ []) }
         ensures swept { IsSwept (sizes self.old) (sizes self.new) }
         ensures held { held self.new ≤ held self.old }
         ensures room { (sizes self.new).left ≡ 0 → room self.new ≡ 0 };
@@ -111,17 +118,18 @@ pub trait Run: Drop {
         ensures { held self ≡ Self.Stale.left result };
 
     /// Runs answer as they do.
-    ghost same: { (o : ℕ) (rs : List Self) → agree o rs rs };
+    ghost same: { (begins : ℕ → Bool) (rs : List Self) → agree begins rs rs };
 
     /// They answer as what answers as they do.
-    ghost through: { (o : ℕ) (xs ys zs : List Self) → agree o xs ys → agree o ys zs → agree o xs zs };
+    ghost through: { (begins : ℕ → Bool) (xs ys zs : List Self) → agree begins xs ys → agree begins ys zs
+        → agree begins xs zs };
 
     /// So they do between others.
-    ghost between: { (o : ℕ) (front xs ys rest : List Self) → agree o xs ys
-        → agree o (front ++ (xs ++ rest)) (front ++ (ys ++ rest)) };
+    ghost between: { (begins : ℕ → Bool) (front xs ys rest : List Self) → agree begins xs ys
+        → agree begins (front ++ (xs ++ rest)) (front ++ (ys ++ rest)) };
 
-    /// A run without a number above that one answers as none.
-    ghost old: { (o : ℕ) (r : Self) → (sizes r).last ≤ o → agree o [] (r ∷ []) };
+    /// A run without a number above that one answers as none, whoever asks that didn't begin before it.
+    ghost old: { (o : ℕ) (r : Self) → (sizes r).last ≤ o → agree (nat_le o) [] (r ∷ []) };
 
     /// A run whose numbers are all from one on that is above that number holds nothing up to it.
     ghost later: { (o : ℕ) (r : Self) → o < from r → above o r };

@@ -1,6 +1,6 @@
 //! The list of runs: a commit adds one, merges go on in steps, and what is forgotten is dropped.
-ghost use Rattle.std.specs.Prelude.{◌≡◌, ◌≤◌, ◌<◌, ◌+◌, ◌-◌, ◌++◌, ◌||◌, ℕ, Bool, [], ◌∷◌, length, nat_lt, All, OnOk};
-ghost use Rattle.std.specs.Prelude.{None, false};
+ghost use Rattle.std.specs.Prelude.{◌≡◌, ◌≤◌, ◌<◌, ◌+◌, ◌-◌, ◌++◌, ◌&&◌, ◌||◌, ℕ, Bool, [], ◌∷◌, length, nat_le, nat_lt};
+ghost use Rattle.std.specs.Prelude.{All, OnOk, None, false};
 ghost use Rattle.std.specs.List.{list_any};
 ghost use Rattle.merging_runs.specs.Held.{HasSamePartial, garbage_upto, freed_a_forget, size_in, whole_upto};
 ghost use Rattle.merging_runs.specs.Next.{IsNext};
@@ -116,7 +116,7 @@ impl<R: Run> Runs<R> {
     /// Where memory for the merge is refused, it counts the refusal, and these two stay. `AllocError` where memory for the place of the run
     /// is refused. The runs answer as they did in each case. It takes the places of a run for the merge, and looks at each run.
     pub fn reserve(&mut self, oldest: u64) -> Result<(), AllocError>
-        ensures agree { R.agree oldest self.new.runs self.old.runs }
+        ensures agree { (begins : ℕ → Bool) → R.agree begins self.new.runs self.old.runs }
         ensures tried { IsTried (R.alike oldest) self.old.sizes self.new.sizes self.old.refused self.new.refused }
         ensures room { OnOk result (0 < self.new.places) }
     {
@@ -137,20 +137,20 @@ impl<R: Run> Runs<R> {
         }
     }
 
-    /// Moves on the merges that are under way, by 16 moves for each of so many elements, and 64, until nothing is left to move. Takes no
-    /// memory.
-    pub fn move_on(&mut self, oldest: u64, count: usize)
-        ensures agree { R.agree oldest self.new.runs self.old.runs }
+    /// Moves on the merges that are under way, by 16 moves for each of so many elements, and 64, until nothing is left to move. The runs
+    /// answer as they did, whoever asks that may still and didn't begin before `oldest`. Takes no memory.
+    pub fn move_on(&mut self, oldest: u64, active: &R::Active, count: usize)
+        ensures agree { R.agree (λ b. nat_le oldest b && R.asks active.now b) self.new.runs self.old.runs }
         ensures moved { IsMoved R.each oldest (moves_for count) self.old.sizes self.new.sizes }
         ensures refused { self.new.refused ≡ self.old.refused }
     {
         let most = count.saturating_mul(MOVES_EACH).saturating_add(MOVES_MORE);
-        move_runs(&mut self.runs, oldest, most);
+        move_runs(&mut self.runs, oldest, active, most);
     }
 
     // Takes out a run that has no number above `oldest`, if there is one.
     fn take_old(&mut self, oldest: u64) -> Option<R>
-        ensures agree { R.agree oldest self.new.runs self.old.runs }
+        ensures agree { R.agree (nat_le oldest) self.new.runs self.old.runs }
         ensures whole { whole_upto oldest self.old.held ≡ size_of R.held result + whole_upto oldest self.new.held }
         ensures partial { HasSamePartial oldest self.old.held self.new.held }
         ensures taken { self.new.held.taken ≡ self.old.held.taken }
@@ -199,7 +199,7 @@ impl<R: Run> Runs<R> {
     // Frees runs that have no number above `oldest`, 1,024 of their elements at most: how many more may be freed, which are none while such
     // a run is left.
     fn free_old(&mut self, oldest: u64) -> usize
-        ensures agree { R.agree oldest self.new.runs self.old.runs }
+        ensures agree { R.agree (nat_le oldest) self.new.runs self.old.runs }
         ensures whole { whole_upto oldest self.old.held + result ≡ whole_upto oldest self.new.held + freed_a_forget }
         ensures ended { 0 < result → whole_upto oldest self.new.held ≡ 0 }
         ensures partial { HasSamePartial oldest self.old.held self.new.held }
@@ -221,7 +221,7 @@ impl<R: Run> Runs<R> {
     fn sweep(&mut self, oldest: u64, most: usize) -> bool
         requires whole { whole_upto oldest self.old.held ≡ 0 }
         requires most { most ≤ freed_a_forget }
-        ensures agree { R.agree oldest self.new.runs self.old.runs }
+        ensures agree { R.agree (nat_le oldest) self.new.runs self.old.runs }
         ensures garbage { garbage_upto oldest self.new.held ≡ garbage_upto oldest self.old.held - most }
         ensures still { result ≡ nat_lt 0 (garbage_upto oldest self.new.held) }
         ensures above { result ≡ false → All (R.above oldest) self.new.runs }
@@ -238,7 +238,7 @@ impl<R: Run> Runs<R> {
     /// of n elements is swept at once, but only after n / 128 steps. Answers whether it has to be called again until all that is old is
     /// gone. Takes no memory.
     pub fn forget_step(&mut self, oldest: u64) -> bool
-        ensures agree { R.agree oldest self.new.runs self.old.runs }
+        ensures agree { R.agree (nat_le oldest) self.new.runs self.old.runs }
         ensures garbage { garbage_upto oldest self.new.held ≡ garbage_upto oldest self.old.held - freed_a_forget }
         ensures still { result ≡ nat_lt 0 (garbage_upto oldest self.new.held) }
         ensures above { result ≡ false → All (R.above oldest) self.new.runs }
@@ -254,7 +254,7 @@ impl<R: Run> Runs<R> {
     /// Drops all that has a number up to `oldest`: it frees the runs that have no other, and sweeps those that have. It takes the time of a
     /// look at each element of these runs, and no memory.
     pub fn forget(&mut self, oldest: u64)
-        ensures agree { R.agree oldest self.new.runs self.old.runs }
+        ensures agree { R.agree (nat_le oldest) self.new.runs self.old.runs }
         ensures garbage { garbage_upto oldest self.new.held ≡ 0 }
         ensures above { All (R.above oldest) self.new.runs }
         ensures merges { LeavesMerges oldest self.old.sizes self.new.sizes self.old.refused self.new.refused }

@@ -23,7 +23,7 @@ fn first_from<R: Run>(runs: &[R], oldest: u64) -> Option<usize>
 // no such run.
 fn sweep_first<R: Run>(runs: &mut Vec<R>, oldest: u64, most: usize) -> Option<usize>
     requires { size_old R.from R.sizes R.held oldest runs.old.items ≡ 0 }
-    ensures agree { R.agree oldest runs.new.items runs.old.items }
+    ensures agree { R.agree (nat_le oldest) runs.new.items runs.old.items }
     ensures whole { size_old R.from R.sizes R.held oldest runs.new.items ≡ 0 }
     ensures looked { LooksAt result most (size_partial R.from R.sizes R.held oldest runs.old.items)
         (size_partial R.from R.sizes R.held oldest runs.new.items) }
@@ -42,7 +42,7 @@ fn sweep_first<R: Run>(runs: &mut Vec<R>, oldest: u64, most: usize) -> Option<us
 // them, `None` where there is no more.
 pub(crate) fn sweep_for<R: Run>(runs: &mut Vec<R>, oldest: u64, most: usize) -> Option<usize>
     requires { size_old R.from R.sizes R.held oldest runs.old.items ≡ 0 }
-    ensures agree { R.agree oldest runs.new.items runs.old.items }
+    ensures agree { R.agree (nat_le oldest) runs.new.items runs.old.items }
     ensures whole { size_old R.from R.sizes R.held oldest runs.new.items ≡ 0 }
     ensures few { IfSome result (λ n. n < 2 ^ 63) }
     ensures looked { LooksFor result most (size_partial R.from R.sizes R.held oldest runs.old.items)
@@ -63,7 +63,7 @@ pub(crate) fn sweep_for<R: Run>(runs: &mut Vec<R>, oldest: u64, most: usize) -> 
 // Sweeps all runs that may have numbers up to `oldest`.
 pub(crate) fn sweep_all<R: Run>(runs: &mut Vec<R>, oldest: u64)
     requires { size_old R.from R.sizes R.held oldest runs.old.items ≡ 0 }
-    ensures agree { R.agree oldest runs.new.items runs.old.items }
+    ensures agree { R.agree (nat_le oldest) runs.new.items runs.old.items }
     ensures whole { size_old R.from R.sizes R.held oldest runs.new.items ≡ 0 }
     ensures partial { size_partial R.from R.sizes R.held oldest runs.new.items ≡ 0 }
     ensures none { All (R.above oldest) runs.new.items }

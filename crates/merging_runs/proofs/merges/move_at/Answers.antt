@@ -1,13 +1,15 @@
 use Rattle.merging_runs.proofs.merges.move_at.Goals as goal
-use Rattle.std.proofs.Common.{◌<◌, ◌+◌, ◌-◌, ◌*◌, length, ap, arith, rules}
+use Rattle.std.proofs.Common.{◌<◌, ◌+◌, ◌-◌, ◌*◌, ℕ, length, map, ap, arith, refl, rules}
+use Rattle.std.specs.Prelude.{◌&&◌, nat_le}
 use Rattle.merging_runs.proofs.Moves.{as_slow}
-use Rattle.merging_runs.proofs.RunSteps.{left_changed, lasts_changed, none_left, number_kept, other_agrees}
+use Rattle.merging_runs.proofs.RunSteps.{as_long, left_changed, lasts_changed, no_longer_changed, none_left, other_agrees}
 use Rattle.merging_runs.proofs.RunSteps.{passed_left, same_run}
 
 pub returns : goal.returns
 returns g c =
     let runs = c.args.runs.now in
     let o = c.args.oldest in
+    let begins = λ (b : ℕ). nat_le o b && g.R.Run.asks c.args.active.now b in
     let i = c.args.place in
     let size = g.R.Run.sizes in
     let within : i < length runs.items = omega (arith, c.if-place-len.false, c.len.ensures, runs.ok.0) in
@@ -19,12 +21,12 @@ returns g c =
     let late : o < (size was).last = omega (arith, same, c.last.ensures, c.if-last-oldest.false) in
     let left = left_changed size o runs.items i was new within at late merged.last in
     record {
-      agree = other_agrees (g.R.Run.agree o) (g.met.R.Run.between o) runs.items i was new within at c.move_on.ensures.agree;
+      agree = other_agrees (g.R.Run.agree begins) (g.met.R.Run.between begins) runs.items i was new within at c.move_on.ensures.agree;
       most = c.move_on.ensures.most;
       len = search rules;
       merged = record {
         lasts = lasts_changed size runs.items i was new within at merged.last;
-        wholes = λ one. number_kept size (λ s. s.left + s.made) runs.items i was new within at (merged.whole one);
+        wholes = no_longer_changed size runs.items i was new within at merged.whole;
         moved = omega (arith, left, merged.moved);
         slowly = as_slow _ _ (size was).left (size new).left (g.R.Run.each * (c.args.most - c.move_on.result)) left merged.slowly;
       };
@@ -35,3 +37,11 @@ pub returns-then-last-oldest-clause-ended : goal.returns-then-last-oldest-clause
 returns-then-last-oldest-clause-ended g c =
     λ some behind. passed_left g.R.Run.sizes c.args.oldest c.args.runs.now.items c.args.place (c.args.place
     + 1) c.index.result.now (omega arith) c.index.ensures (omega (arith, c.last.ensures, c.if-last-oldest.true)) behind
+
+pub returns-then-place-len-clause-merged : goal.returns-then-place-len-clause-merged
+returns-then-place-len-clause-merged g c =
+    record { lasts = refl; wholes = as_long (map g.R.Run.sizes c.args.runs.now.items); moved = omega arith; slowly = omega arith }
+
+pub returns-then-last-oldest-clause-merged : goal.returns-then-last-oldest-clause-merged
+returns-then-last-oldest-clause-merged g c =
+    record { lasts = refl; wholes = as_long (map g.R.Run.sizes c.args.runs.now.items); moved = omega arith; slowly = omega arith }

@@ -1,20 +1,20 @@
 use Rattle.merging_runs.proofs.merges.move_runs.Goals as goal
 use Rattle.std.proofs.Common.{◌≡◌, ◌≤◌, ◌+◌, ◌-◌, refl, ap, ◌∙◌, drop, map, arith, inl, inr}
 use Rattle.std.proofs.lemmas.Bool.{cases_lt}
-use Rattle.std.specs.Prelude.{min}
+use Rattle.std.specs.Prelude.{◌&&◌, min, nat_le}
 use Rattle.std.specs.Vec.{vec_len}
 use Rattle.merging_runs.proofs.Moves.{slower, slowest}
-use Rattle.merging_runs.proofs.RunSteps.{past_left}
+use Rattle.merging_runs.proofs.RunSteps.{as_long, no_longer_through, past_left}
 use Rattle.merging_runs.specs.RunSizes.{left_above}
 
 pub loop-after-init : goal.loop-after-init
 loop-after-init g c =
     let len = c.args.runs.now.ok.0 in
     record {
-      agree = g.met.R.Run.same c.args.oldest c.args.runs.now.items;
+      agree = g.met.R.Run.same (λ b. nat_le c.args.oldest b && g.R.Run.asks c.args.active.now b) c.args.runs.now.items;
       len = refl;
       most = omega arith;
-      merged = record { lasts = refl; wholes = λ one. refl; moved = omega arith; slowly = omega arith };
+      merged = record { lasts = refl; wholes = as_long (map g.R.Run.sizes c.args.runs.now.items); moved = omega arith; slowly = omega arith };
       ended = λ some. past_left g.R.Run.sizes c.args.oldest c.args.runs.now.items (vec_len c.args.runs.now - 0) (omega (arith, len));
     }
 
@@ -31,12 +31,12 @@ loop-after-preserved g c =
     let at : vec_len runs - (after + 1) ≡ c.len.result - after - 1 = omega (arith, len, is.len) in
     let behind : c.len.result - after - 1 + 1 ≡ vec_len runs - after = omega (arith, len, is.len, test, end) in
     record {
-      agree = g.met.R.Run.through o c.move_at-rest.new.runs.items c.loop-after.runs.items runs.items moved.agree is.agree;
+      agree = g.met.R.Run.through (λ b. nat_le o b && g.R.Run.asks c.args.active.now b) c.move_at-rest.new.runs.items c.loop-after.runs.items runs.items moved.agree is.agree;
       len = moved.len ∙ is.len;
       most = omega (arith, is.most, moved.most);
       merged = record {
         lasts = moved.merged.lasts ∙ is.merged.lasts;
-        wholes = λ one. moved.merged.wholes one ∙ is.merged.wholes one;
+        wholes = no_longer_through _ _ _ moved.merged.wholes is.merged.wholes;
         moved = omega (arith, is.merged.moved, moved.merged.moved, is.most, moved.most);
         slowly = slower g.R.Run.each c.args.most c.loop-after.rest c.move_at-rest.result _ _ _ is.most moved.most is.merged.slowly moved.merged.slowly;
       };

@@ -19,8 +19,8 @@ returns g c =
     let later = same_run runs.items i second c.index-2.result.now lt c.remove-second.ensures.value c.index-2.ensures in
     let are = (λ k. alike (size (of.0 k)) (size (later k))) ∙ sym c.is_alike.ensures.alike ∙ c.if-not-is_alike.false in
     record {
-      agree = one_agrees (g.R.Run.agree c.args.oldest) (g.met.R.Run.between c.args.oldest) runs.items _ first second is of.1
-          (c.join.ensures.agree c.args.oldest);
+      agree = λ begins. one_agrees (g.R.Run.agree begins) (g.met.R.Run.between begins) runs.items _ first second is of.1
+          (c.join.ensures.agree begins);
       alike = λ t. inl (begun size alike runs.items _ first second is of.1 are c.join.ensures.sizes, refl);
       none = λ f. absurd cc;
       stays = λ f. absurd cc;

@@ -1,5 +1,6 @@
 use Rattle.merging_runs.proofs.old.take_old.Goals as goal
 use Rattle.std.proofs.Common.{◌+◌, map, sym, ap, ◌∙◌}
+use Rattle.std.specs.Prelude.{nat_le}
 use Rattle.merging_runs.proofs.OldRuns.{old_at, partial_without, part_of, none_old}
 use Rattle.merging_runs.proofs.RunSteps.{left_without, rest_agrees}
 use Rattle.merging_runs.specs.Held.{partial_upto, size_upto}
@@ -18,7 +19,7 @@ returns-in-Some g c =
     let found = old_at size o rs c.deref.result.now i r (sym c.deref.ensures.value) (sym c.first_old.ensures ∙ c.in-Some.is) at in
     let items = c.remove.ensures.items in
     record {
-      agree = rw items (rest_agrees (g.R.Run.agree o) (g.met.R.Run.between o) rs i r found.0 at (g.met.R.Run.old o r found.1));
+      agree = rw items (rest_agrees (g.R.Run.agree (nat_le o)) (g.met.R.Run.between (nat_le o)) rs i r found.0 at (g.met.R.Run.old o r found.1));
       none = λ none. absurd cc;
       size = part_of held o rs i r found.0 at found.1 ∙ ap (λ l. (held r).size + size_upto o (map held l)) (sym items);
       partial = ap (λ l. partial_upto o (map held l)) items ∙ partial_without held o rs i r found.0 at found.1;
@@ -26,7 +27,7 @@ returns-in-Some g c =
     }
 
 pub returns-in-None-clause-agree : goal.returns-in-None-clause-agree
-returns-in-None-clause-agree g c = g.met.R.Run.same c.args.oldest c.args.runs.now.items
+returns-in-None-clause-agree g c = g.met.R.Run.same (nat_le c.args.oldest) c.args.runs.now.items
 
 pub returns-in-None-clause-none : goal.returns-in-None-clause-none
 returns-in-None-clause-none g c = λ none.

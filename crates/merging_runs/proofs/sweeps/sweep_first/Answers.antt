@@ -1,7 +1,7 @@
 use Rattle.merging_runs.proofs.sweeps.sweep_first.Goals as goal
 use Rattle.std.proofs.Common.{◌≡◌, ◌*◌, ap, sym, ◌∙◌, arith}
 use Rattle.std.proofs.lemmas.Bool.Decides.{nat_tests}
-use Rattle.std.specs.Prelude.{◌^◌, min}
+use Rattle.std.specs.Prelude.{◌^◌, min, nat_le}
 use Rattle.merging_runs.proofs.RunSteps.{other_agrees, same_run}
 use Rattle.merging_runs.proofs.SweptRuns.{found_at, left_swept, partial_at, partial_swept, none_found, whole_swept}
 use Rattle.merging_runs.specs.Value.{held_of}
@@ -49,7 +49,7 @@ returns-then-work-most g c =
     ) in
     let partial = partial_swept f o rs i was is found.within at found.from found.last c.sweep.ensures.from in
     record {
-      agree = other_agrees (g.R.Run.agree o) (g.met.R.Run.between o) rs i was is found.within at c.sweep.ensures.agree;
+      agree = other_agrees (g.R.Run.agree (nat_le o)) (g.met.R.Run.between (nat_le o)) rs i was is found.within at c.sweep.ensures.agree;
       whole = whole_swept f o rs i was is found.within at found.last swept.last ∙ c.requires;
       looked = (omega (arith, looked), omega (arith, looked), omega (arith, looked, partial), grind (arith, nat_tests, looked, partial));
       none = λ none. absurd cc;

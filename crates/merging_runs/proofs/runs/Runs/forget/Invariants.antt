@@ -1,11 +1,12 @@
 use Rattle.merging_runs.proofs.runs.Runs.forget.Given as goal
 use Rattle.std.proofs.Common.{◌≡◌}
+use Rattle.std.specs.Prelude.{nat_le}
 use Rattle.merging_runs.specs.Held.{whole_upto}
 use Rattle.merging_runs.specs.RunSizes.{left_above}
 
 abbrev pub invariant-old : goal.invariant-old
 invariant-old g l = record {
-  agree : g.R.Run.agree l.oldest l.self.runs l.fn.self.runs;
+  agree : g.R.Run.agree (nat_le l.oldest) l.self.runs l.fn.self.runs;
   left : left_above l.oldest l.self.sizes ≡ left_above l.oldest l.fn.self.sizes;
   refused : l.self.refused ≡ l.fn.self.refused;
 }

@@ -1,11 +1,12 @@
 use Rattle.merging_runs.proofs.runs.Runs.free_old.Given as goal
 use Rattle.std.proofs.Common.{◌≡◌, ◌≤◌, ◌<◌, ◌+◌}
+use Rattle.std.specs.Prelude.{nat_le}
 use Rattle.merging_runs.specs.Held.{partial_upto, whole_upto}
 use Rattle.merging_runs.specs.RunSizes.{left_above}
 
 abbrev pub invariant-runs : goal.invariant-runs
 invariant-runs g l = record {
-  agree : g.R.Run.agree l.oldest l.self.runs l.fn.self.runs;
+  agree : g.R.Run.agree (nat_le l.oldest) l.self.runs l.fn.self.runs;
   whole : whole_upto l.oldest l.fn.self.held + l.left ≡ whole_upto l.oldest l.self.held + 1024;
   partial : partial_upto l.oldest l.self.held.runs ≡ partial_upto l.oldest l.fn.self.held.runs;
   credit : l.self.held.credit ≡ l.fn.self.held.credit;
