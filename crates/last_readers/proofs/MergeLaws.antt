@@ -16,7 +16,7 @@ use Rattle.last_readers.proofs.StepLaws.{around, put_between, over_less, under_m
 use Rattle.last_readers.proofs.StepLaws.{end_is, under_last}
 use Rattle.last_readers.specs.Merging.{later, EndsOver, EndsEqual, IsParted, IsJoined, with_step}
 use Rattle.last_readers.specs.Steps.{StepValue, is_level, by_order, number_from, number_at, merged_at, end_of}
-use Rattle.last_readers.specs.Steps.{are_over, steps_rise, are_under, is_step_from, steps_from, cut}
+use Rattle.last_readers.specs.Steps.{are_over, steps_rise, are_under, is_step_from, cut}
 
 -- ---- the steps below a key
 

@@ -1,14 +1,15 @@
 -- The greatest numbers of several runs.
-use Rattle.std.proofs.Common.{◌≡◌, ◌≤◌, ◌+◌, true, refl, ◌∙◌, ◌&&◌, ℕ, List, [], ◌∷◌, ◌++◌, length, drop, arith}
+use Rattle.std.proofs.Common.{◌≡◌, ◌≤◌, ◌+◌, true, refl, subst, ◌∙◌, ◌&&◌, ℕ, List, [], ◌∷◌, ◌++◌, length, drop}
+use Rattle.std.proofs.Common.{arith}
 use Rattle.std.proofs.lemmas.Bool.{and_from, and_parts}
 use Rattle.std.proofs.lemmas.List.{nil_from_length}
 use Rattle.std.specs.Prelude.{max}
 use Rattle.std.specs.VecDeque.{deque_len}
 use Rattle.model.specs.Map.{Bytes}
 use Rattle.last_readers.proofs.StepLaws.{at_rest}
-use Rattle.last_readers.specs.Agreeing.{from_more, greatest-append}
+use Rattle.last_readers.specs.Agreeing.{ReadersAgree, from_more, greatest-append}
 use Rattle.last_readers.specs.Inside.{run_of, runs_in}
-use Rattle.last_readers.specs.Readers.{greatest_at}
+use Rattle.last_readers.specs.Readers.{AnswerAlike, Readers, greatest_at}
 use Rattle.last_readers.specs.Steps.{are_from, steps_from, StepValue, number_at, number_in, merged_at, cut}
 use Rattle.last_readers.specs.declared.run.ReadRun.{ReadRun}
 
@@ -45,3 +46,11 @@ joined_are_from n first second xs made low lower is none =
 -- what was found and what is left of the runs decide
 abbrev pub Decides : ℕ → List ReadRun → Bytes → ℕ → ℕ → Type 0
 Decides b rs k i g = cut b (max g (greatest_at (runs_in (drop i rs)) k)) ≡ cut b (greatest_at (runs_in rs) k)
+
+-- ---- what is kept
+
+-- runs that answer alike whoever asks have the same last readers
+pub answer_alike : (was : Readers) (old new : List ReadRun) (o : ℕ) → record { runs = runs_in old; oldest = o } ≡ was → ReadersAgree (λ _. true) new old
+    → AnswerAlike was (record { runs = runs_in new; oldest = o })
+answer_alike was old new o is same =
+    subst (λ (r : Readers). AnswerAlike r (record { runs = runs_in new; oldest = o })) is (record { readers = λ k. same o refl k; oldest = refl })

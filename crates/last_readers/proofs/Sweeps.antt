@@ -1,16 +1,16 @@
 -- Steps of which numbers are forgotten.
-use Rattle.std.proofs.Common.{◌≡◌, ◌≤◌, ◌<◌, ◌+◌, ℕ, zero, suc, Bool, true, false, cond, ◌&&◌, List, [], ◌∷◌, ◌++◌}
-use Rattle.std.proofs.Common.{length, get_or, drop, map, refl, sym, ap, subst, ◌∙◌, arith, None, Some}
-use Rattle.std.proofs.Math.Seq.{drop-cons, drop-nil}
+use Rattle.std.proofs.Common.{◌≡◌, ◌≤◌, ◌<◌, ◌+◌, ℕ, suc, Bool, true, false, ◌&&◌, List, [], ◌∷◌, ◌++◌}
+use Rattle.std.proofs.Common.{length, get_or, drop, map, refl, sym, ap, ◌∙◌, arith, None, Some}
+use Rattle.std.proofs.Math.Seq.{drop-cons}
 use Rattle.std.proofs.lemmas.Bool.{and_parts, and_from}
 use Rattle.std.proofs.lemmas.Bool.Decides.{nat_tests}
 use Rattle.std.proofs.lemmas.List.{append-nil, append_assoc, drop_all}
 use Rattle.std.specs.Prelude.{max, if◌then◌else◌, Option}
 use Rattle.model.proofs.KeyOrder.{same_keys}
-use Rattle.model.specs.Map.{Bytes, key_cmp}
+use Rattle.model.specs.Map.{Bytes}
 use Rattle.last_readers.proofs.StepLaws.{low, over_less, over_both, rises_left, rises_right}
 use Rattle.last_readers.specs.Merging.{IsJoined, with_step, later}
-use Rattle.last_readers.specs.Steps.{StepValue, number_from, number_at, merged_at, end_from, end_of, are_over}
+use Rattle.last_readers.specs.Steps.{StepValue, number_from, number_at, merged_at, end_from, are_over}
 use Rattle.last_readers.specs.Steps.{steps_rise, cut, cut_step, is_redundant, swept, is_from, is_step_from}
 use Rattle.last_readers.specs.Steps.{steps_from, are_from, in_place_of, renumbered}
 use Rattle.last_readers.specs.Sweeping.{IsInForce, IsTurned}

@@ -1,17 +1,19 @@
 -- Runs that answer as others do.
-use Rattle.std.proofs.Common.{◌≡◌, ◌≤◌, ◌<◌, ◌+◌, ℕ, true, refl, List, [], ◌∷◌, ◌++◌, sym, ap, ◌∙◌, arith}
+use Rattle.std.proofs.Common.{◌≡◌, ◌≤◌, ◌<◌, ◌+◌, ℕ, Bool, true, refl, List, [], ◌∷◌, ◌++◌, sym, ap, ◌∙◌, arith}
+use Rattle.std.proofs.lemmas.Bool.{leb-true}
 use Rattle.std.proofs.lemmas.Bool.Decides.{nat_tests}
-use Rattle.std.specs.Prelude.{max}
+use Rattle.std.specs.Prelude.{max, nat_le}
 use Rattle.model.specs.Map.{Bytes}
 use Rattle.last_readers.specs.Inside.{run_of, runs_in}
 use Rattle.last_readers.specs.Readers.{greatest_at}
 use Rattle.last_readers.specs.Steps.{StepValue, cut, is_run_from, number_in, steps_from}
 use Rattle.last_readers.specs.declared.run.ReadRun.{ReadRun}
 
--- at each key the numbers are the same, where those up to that one count as none
-abbrev pub ReadersAgree : ℕ → List ReadRun → List ReadRun → Type 0
-ReadersAgree oldest new old = (k : Bytes)
-    → cut oldest (greatest_at (runs_in new) k) ≡ cut oldest (greatest_at (runs_in old) k)
+-- at each key the numbers are the same to whoever asks that began at a number of these, where those up to it count as
+-- none
+abbrev pub ReadersAgree : (ℕ → Bool) → List ReadRun → List ReadRun → Type 0
+ReadersAgree begins new old = (b : ℕ) → begins b ≡ true → (k : Bytes)
+    → cut b (greatest_at (runs_in new) k) ≡ cut b (greatest_at (runs_in old) k)
 
 pub greatest-append : (rs qs : List ReadRun) (k : Bytes)
     → greatest_at (runs_in (rs ++ qs)) k ≡ max (greatest_at (runs_in rs) k) (greatest_at (runs_in qs) k)
@@ -21,16 +23,17 @@ greatest-append (r ∷ rs) qs k = let rest = greatest-append rs qs k in omega (a
 one_of_three : (o m a b n : ℕ) → cut o a ≡ cut o b → cut o (max m (max a n)) ≡ cut o (max m (max b n))
 one_of_three o m a b n same = grind (arith, nat_tests)
 
-pub readers_agree_between : (o : ℕ) (front xs ys behind : List ReadRun) → ReadersAgree o xs ys
-    → ReadersAgree o (front ++ (xs ++ behind)) (front ++ (ys ++ behind))
-readers_agree_between o front xs ys behind same k =
-    let f = greatest_at (runs_in front) k in
-    let b = greatest_at (runs_in behind) k in
+pub readers_agree_between : (begins : ℕ → Bool) (front xs ys behind : List ReadRun) → ReadersAgree begins xs ys
+    → ReadersAgree begins (front ++ (xs ++ behind)) (front ++ (ys ++ behind))
+readers_agree_between begins front xs ys behind same b asks k =
+    let first = greatest_at (runs_in front) k in
+    let last = greatest_at (runs_in behind) k in
     let all : (zs : List ReadRun)
-    → greatest_at (runs_in (front ++ (zs ++ behind))) k ≡ max f (max (greatest_at (runs_in zs) k) b)
-    = λ zs. greatest-append front (zs ++ behind) k ∙ ap (max f) (greatest-append zs behind k) in
-    ap (cut o) (all xs) ∙ one_of_three o f (greatest_at (runs_in xs) k) (greatest_at (runs_in ys) k) b (same k)
-    ∙ sym (ap (cut o) (all ys))
+    → greatest_at (runs_in (front ++ (zs ++ behind))) k ≡ max first (max (greatest_at (runs_in zs) k) last)
+    = λ zs. greatest-append front (zs ++ behind) k ∙ ap (max first) (greatest-append zs behind k) in
+    ap (cut b) (all xs)
+    ∙ one_of_three b first (greatest_at (runs_in xs) k) (greatest_at (runs_in ys) k) last (same b asks k)
+    ∙ sym (ap (cut b) (all ys))
 
 -- the numbers of a run are above one that the least of them is above
 pub from_more : (m n : ℕ) (ss : List StepValue) → m ≤ n → steps_from n ss ≡ true → steps_from m ss ≡ true
@@ -46,5 +49,8 @@ run_from_later o r lt =
 none_up_to : (o n : ℕ) → n ≤ o → cut o 0 ≡ cut o (max n 0)
 none_up_to o n le = grind (arith, nat_tests)
 
-pub no_old_readers : (o : ℕ) (r : ReadRun) → r.last ≤ o → ReadersAgree o [] (r ∷ [])
-no_old_readers o r le k = let upto = r.upto k in none_up_to o (number_in (run_of r) k) (omega arith)
+pub no_old_readers : (o : ℕ) (r : ReadRun) → r.last ≤ o → ReadersAgree (nat_le o) [] (r ∷ [])
+no_old_readers o r le b asks k =
+    let upto = r.upto k in
+    let low = leb-true o b asks in
+    none_up_to b (number_in (run_of r) k) (omega arith)

@@ -157,7 +157,7 @@ impl LastReaders {
         ensures moved { AddsRunAndMerges n self.old self.new }
     {
         let count = self.add_ready(n);
-        self.runs.move_on(self.oldest, count);
+        self.runs.move_on(self.oldest, &(), count);
     }
 
     /// Forgets the last readers with numbers up to `oldest`: to such keys it answers from then on that there is none. Of what stands in the

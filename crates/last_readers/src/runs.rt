@@ -1,5 +1,5 @@
 //! Sorted runs of last readers, as `merging_runs` merges, frees and sweeps them.
-ghost use Rattle.std.specs.Prelude.{◌≡◌, ◌≤◌, ◌<◌, ◌+◌, ◌++◌, [], ◌∷◌, IsTrue, max};
+ghost use Rattle.std.specs.Prelude.{◌≡◌, ◌≤◌, ◌<◌, ◌+◌, ◌++◌, [], ◌∷◌, IsTrue, max, true};
 ghost use Rattle.std.specs.VecDeque.{deque_len, deque_capacity};
 ghost use Rattle.last_readers.specs.Readers.{IsWithRun, greatest_at};
 ghost use Rattle.last_readers.specs.Steps.{cut, is_named_in, is_run_from};
@@ -62,6 +62,8 @@ impl Run for ReadRun {
 
     type Stale = (VecDeque<Step>, VecDeque<Step>, VecDeque<Step>);
 
+    type Active = ();
+
     ghost sizes = { read_run_size };
 
     ghost held = { steps_held };
@@ -82,6 +84,9 @@ impl Run for ReadRun {
     ghost alike = { are_alike };
 
     ghost makes = { λ o old new. IsMade o new.first.items new.second.items old.made.items new.made.items };
+
+    // a merge drops nothing that someone could ask for
+    ghost asks = { λ _ _. true };
 
     ghost agree = { ReadersAgree };
 
@@ -138,7 +143,7 @@ impl Run for ReadRun {
         self.first = mem::replace(&mut self.made, places);
     }
 
-    fn move_one(&mut self, oldest: u64) {
+    fn move_one(&mut self, oldest: u64, _active: &()) {
         move_greatest(&mut self.first, &mut self.second, &mut self.made, oldest);
         free_room(&mut self.first, &mut self.second);
     }
@@ -162,9 +167,9 @@ impl Run for ReadRun {
         (first, second, made)
     }
 
-    ghost same = { λ o rs k. refl };
+    ghost same = { λ begins rs b asks k. refl };
 
-    ghost through = { λ o xs ys zs first second k. first k ∙ second k };
+    ghost through = { λ begins xs ys zs first second b asks k. first b asks k ∙ second b asks k };
 
     ghost between = { readers_agree_between };
 

@@ -1,5 +1,6 @@
 //! The list of runs: a commit adds one, merges go on in steps, and what is forgotten is dropped.
-ghost use Rattle.std.specs.Prelude.{◌≡◌, ◌≤◌, ◌<◌, ◌+◌, ◌-◌, ◌++◌, ◌&&◌, ◌||◌, ℕ, Bool, [], ◌∷◌, length, nat_le, nat_lt};
+ghost use Rattle.std.specs.Prelude.{◌≡◌, ◌≤◌, ◌<◌, ◌+◌, ◌-◌, ◌++◌, ◌&&◌, ◌||◌, ℕ, Bool, [], ◌∷◌, length, nat_le};
+ghost use Rattle.std.specs.Prelude.{nat_lt};
 ghost use Rattle.std.specs.Prelude.{All, OnOk, None, false};
 ghost use Rattle.std.specs.List.{list_any};
 ghost use Rattle.merging_runs.specs.Held.{HasSamePartial, garbage_upto, freed_a_forget, size_in, whole_upto};

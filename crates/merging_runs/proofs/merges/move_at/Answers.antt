@@ -2,7 +2,8 @@ use Rattle.merging_runs.proofs.merges.move_at.Goals as goal
 use Rattle.std.proofs.Common.{◌<◌, ◌+◌, ◌-◌, ◌*◌, ℕ, length, map, ap, arith, refl, rules}
 use Rattle.std.specs.Prelude.{◌&&◌, nat_le}
 use Rattle.merging_runs.proofs.Moves.{as_slow}
-use Rattle.merging_runs.proofs.RunSteps.{as_long, left_changed, lasts_changed, no_longer_changed, none_left, other_agrees}
+use Rattle.merging_runs.proofs.RunSteps.{as_long, left_changed, lasts_changed, no_longer_changed, none_left}
+use Rattle.merging_runs.proofs.RunSteps.{other_agrees}
 use Rattle.merging_runs.proofs.RunSteps.{passed_left, same_run}
 
 pub returns : goal.returns

@@ -31,7 +31,8 @@ loop-after-preserved g c =
     let at : vec_len runs - (after + 1) ≡ c.len.result - after - 1 = omega (arith, len, is.len) in
     let behind : c.len.result - after - 1 + 1 ≡ vec_len runs - after = omega (arith, len, is.len, test, end) in
     record {
-      agree = g.met.R.Run.through (λ b. nat_le o b && g.R.Run.asks c.args.active.now b) c.move_at-rest.new.runs.items c.loop-after.runs.items runs.items moved.agree is.agree;
+      agree = g.met.R.Run.through (λ b. nat_le o b
+          && g.R.Run.asks c.args.active.now b) c.move_at-rest.new.runs.items c.loop-after.runs.items runs.items moved.agree is.agree;
       len = moved.len ∙ is.len;
       most = omega (arith, is.most, moved.most);
       merged = record {

@@ -1,5 +1,5 @@
 use Rattle.last_readers.proofs.last_readers.LastReaders.next_named.Goals as goal
-use Rattle.std.proofs.Common.{◌≡◌, ◌||◌, ℕ, List, [], ◌∷◌, refl, ap, sym, ◌∙◌, Bool}
+use Rattle.std.proofs.Common.{◌≡◌, ◌||◌, ℕ, List, [], ◌∷◌, refl, ap, ◌∙◌}
 use Rattle.std.specs.List.{list_any}
 use Rattle.merging_runs.proofs.NextNumbers.{next_same}
 use Rattle.last_readers.specs.Inside.{run_of, runs_in}

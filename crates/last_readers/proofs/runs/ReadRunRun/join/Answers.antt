@@ -26,7 +26,7 @@ invariant_of-self c =
     }
 
 pub returns-clause-agree : goal.returns-clause-agree
-returns-clause-agree c = λ o k.
+returns-clause-agree c = λ begins o asks k.
     let none = (λ i. length (c.replace.ensures.after i).items) ∙ sym c.args.places.ok.0 ∙ c.requires.room.0 in
     let both = joined_runs c.args.self.now c.args.second c.replace.result.items c.replace.new.dest.items k c.requires.first c.requires.second
     (λ i. (c.replace.ensures.value i).items) none in

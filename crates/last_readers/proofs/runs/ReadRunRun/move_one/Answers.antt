@@ -1,6 +1,11 @@
 use Rattle.last_readers.proofs.runs.ReadRunRun.move_one.Goals as goal
-use Rattle.last_readers.proofs.Cuts.{cut_either}
+use Rattle.std.proofs.Common.{true}
+use Rattle.std.proofs.lemmas.Bool.{and_parts, leb-true}
+use Rattle.last_readers.proofs.Cuts.{cut_either, cut_later_same}
 
 pub returns-clause-agree : goal.returns-clause-agree
 returns-clause-agree c =
-    λ k. rw (c.free_room.ensures.first, c.free_room.ensures.second) (cut_either c.args.oldest _ _ 0 (c.move_greatest.ensures.moved.same k))
+    λ b asks k.
+    let low = leb-true c.args.oldest b (and_parts _ true asks).0 in
+    rw (c.free_room.ensures.first, c.free_room.ensures.second)
+    (cut_either b _ _ 0 (cut_later_same c.args.oldest b _ _ low (c.move_greatest.ensures.moved.same k)))

@@ -1,8 +1,8 @@
 use Rattle.last_readers.proofs.runs.ReadRunRun.sweep.Goals as goal
 use Rattle.std.proofs.Common.{◌≡◌, ◌+◌, ◌++◌, ap, ◌∙◌, arith, Some}
-use Rattle.std.proofs.lemmas.Bool.{and_from}
+use Rattle.std.proofs.lemmas.Bool.{and_from, leb-true}
 use Rattle.model.specs.Map.{Bytes}
-use Rattle.last_readers.proofs.Cuts.{cut_either}
+use Rattle.last_readers.proofs.Cuts.{cut_either, cut_later_same}
 use Rattle.last_readers.proofs.Sweeps.{cut_again, cut_low, from_swept, merged_swept, rises_swept}
 use Rattle.last_readers.specs.Steps.{are_from, cut, merged_at, steps_rise}
 
@@ -38,13 +38,14 @@ invariant_of-self c =
     }
 
 pub returns-clause-agree : goal.returns-clause-agree
-returns-clause-agree c = λ k.
+returns-clause-agree c = λ b asks k.
     let o = c.args.oldest in
+    let low = leb-true o b asks in
     let was = c.args.self.now in
-    cut_either o _ _ 0 (
+    cut_either b _ _ 0 (cut_later_same o b _ _ low (
     ap (cut o)
     ((λ i. merged_at (c.free_room.ensures.first i) (c.free_room.ensures.second i) c.sweep-3.new.steps.items k)
     ∙ merged_swept o c.number_in_force-in_force.result was.first.items was.second.items was.made.items c.sweep.new.steps.items c.sweep-2.new.steps.items
     c.sweep-3.new.steps.items k was.first_rises was.second_rises c.sweep.ensures.swept c.sweep-2.ensures.swept c.sweep-3.ensures.swept
     c.number_in_force-in_force.ensures)
-    ∙ cut_again o (merged_at was.first.items was.second.items was.made.items k))
+    ∙ cut_again o (merged_at was.first.items was.second.items was.made.items k)))
