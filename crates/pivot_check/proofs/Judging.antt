@@ -2,9 +2,11 @@
 use Rattle.model.specs.declared.refusals.Refusal.TheVariants as refusal
 use Rattle.std.proofs.Common.{◌≡◌, ◌≤◌, ◌<◌, ◌+◌, ℕ, Bool, true, false, cond, List, [], ◌∷◌, ◌++◌, Option, Some, None}
 use Rattle.std.proofs.Common.{map, length, refl, sym, ap, subst, ◌∙◌, arith}
+use Rattle.std.proofs.lemmas.Bool.{and_from, and_parts}
+use Rattle.std.proofs.lemmas.Bool.Decides.{nat_tests}
 use Rattle.std.proofs.lemmas.List.{length_push, nil_from_length}
-use Rattle.std.specs.List.{list_any, filter, position}
-use Rattle.std.specs.Prelude.{nat_lt, is_some, find, not, option_map, ◌&&◌}
+use Rattle.std.specs.List.{list_any, filter, position, AllByRecursion}
+use Rattle.std.specs.Prelude.{nat_le, nat_lt, is_some, find, not, option_map, ◌&&◌}
 use Rattle.model.proofs.Elements.{all-map}
 use Rattle.model.proofs.Members.{IsRising as RecordsRise, rising_from_numbered}
 use Rattle.model.proofs.Pivots.{find_alike}
@@ -25,8 +27,9 @@ use Rattle.pivot_check.proofs.Writers.{pivot as pivot_by, noted as writers_noted
 use Rattle.pivot_check.proofs.Writers.{by_upto}
 use Rattle.pivot_check.specs.Index.{is_written_since, target, source, other_pivot, answer_found}
 use Rattle.pivot_check.specs.Kept.{KeptRecord, Facts, keys_of, is_key_written, leads_to, follows, becomes_pivot}
-use Rattle.pivot_check.specs.Kept.{first_number, last_number, are_in_order, own_record, IsInReach}
-use Rattle.pivot_check.specs.Postings.{Posting, postings_by, least, lesser, covered_of, are_upto}
+use Rattle.pivot_check.specs.Kept.{first_number, last_number, are_in_order, own_record, IsInReach, Reach, asked_from}
+use Rattle.pivot_check.specs.Kept.{may_ask}
+use Rattle.pivot_check.specs.Postings.{AnswerAs, Posting, postings_by, least, lesser, covered_of, are_upto}
 use Rattle.pivot_check.specs.StandsFor.{StandsFor, IsRecordOf, Says, AreWriters, verdict_found, kept_of, kept_above}
 use Rattle.pivot_check.specs.StandsFor.{IsCleared, IsClearedBy, IsVerdict}
 use Rattle.pivot_check.specs.declared.verdict.Cleared.{Cleared}
@@ -36,6 +39,14 @@ use Rattle.pivot_check.specs.declared.verdict.Verdict.TheVariants.{Clear, Overwr
 rising_map : (h rs : List Record) → RecordsRise rs → IsRising (map (kept_of h) rs)
 rising_map h [] rise = tt
 rising_map h (r ∷ rs) rise = (all-map (λ s. r.commit < s.commit) (kept_of h) rs rise.0, rising_map h rs rise.1)
+
+-- who may ask once these alone may, and who begins now, might before
+asked_before : (reach : Reach) (last : ℕ) (begins : List ℕ) → reach.since ≤ last → AllByRecursion (λ b. may_ask reach b ≡ true) begins → (b : ℕ)
+    → may_ask (record { begins = begins; since = last }) b ≡ true → may_ask reach b ≡ true
+asked_before reach last [] le all b asks = grind (arith, nat_tests)
+asked_before reach last (n ∷ ns) le all b asks =
+    let first = all.0 in
+    grind (arith, nat_tests, asked_before reach last ns le all.1 b)
 
 module _ (f : Facts) (history : List Record) (s : StandsFor f history) where
   abbrev kept : List KeptRecord
@@ -52,13 +63,13 @@ module _ (f : Facts) (history : List Record) (s : StandsFor f history) where
     late_is = sym (kept_later f.oldest t.begin history reach.held)
 
     written : (k : Bytes) → is_key_written records k ≡ is_written_since f.postings t.begin k
-    written k = ap (λ ks. is_key_written ks k) late_is ∙ written_by f.oldest t.begin f.postings kept k s.writers reach.held rise
+    written k = ap (λ ks. is_key_written ks k) late_is ∙ written_by f.reach f.oldest t.begin f.postings kept k s.writers reach.held reach.asks rise
 
     target_is : first_number (λ k. follows k t) records ≡ target f t
-    target_is = ap (first_number (λ k. follows k t)) late_is ∙ target_by f.oldest t.begin f.postings kept t s.writers reach.held rise
+    target_is = ap (first_number (λ k. follows k t)) late_is ∙ target_by f.reach f.oldest t.begin f.postings kept t s.writers reach.held reach.asks rise
 
     pivot_is : first_number (becomes_pivot t) records ≡ other_pivot f t
-    pivot_is = ap (first_number (becomes_pivot t)) late_is ∙ pivot_by f.oldest t.begin f.postings kept t s.writers reach.held rise
+    pivot_is = ap (first_number (becomes_pivot t)) late_is ∙ pivot_by f.reach f.oldest t.begin f.postings kept t s.writers reach.held reach.asks rise
 
     source_is : last_number (λ k. leads_to k t) records ≡ source f t
     source_is = source_found f.oldest (last_reader f.readers) history t reach.held s.readers (rising_from_numbered 0 history s.numbered)
@@ -93,7 +104,7 @@ module _ (f : Facts) (history : List Record) (s : StandsFor f history) where
         (postings : List Posting)
         (has : (c : Posting → Bool) → least c postings
         ≡ lesser (least c f.postings) (least c (postings_by (f.last + 1) (list_any (concurrent_read_write r) history) (keys_of t.writes)))) where
-      pub noted : StandsFor (record { readers = readers; postings = postings; oldest = f.oldest; last = f.last + 1 }) (history ++ r ∷ [])
+      pub noted : StandsFor (record { readers = readers; postings = postings; oldest = f.oldest; last = f.last + 1; reach = f.reach }) (history ++ r ∷ [])
       noted =
           let n = f.last + 1 in
           let above : f.oldest < f.last + 1 = omega arith in
@@ -105,26 +116,48 @@ module _ (f : Facts) (history : List Record) (s : StandsFor f history) where
             last = len ∙ sym (length_push history r);
             readers = noted_readers f.oldest (last_reader f.readers) (last_reader readers) history r t.marks n s.readers s.numbered above len own.commit
                 own.reads read;
-            writers = subst (λ ks. AreWriters f.oldest postings ks) (all_kept f history s t reach r own)
-                (writers_noted f.oldest f.postings postings kept (own_record records t n) s.writers above
+            writers = subst (λ ks. AreWriters f.reach f.oldest postings ks) (all_kept f history s t reach r own)
+                (writers_noted f.reach f.oldest f.postings postings kept (own_record records t n) s.writers
                 (λ c. has c ∙ ap (λ x. lesser (least c f.postings) (least c (postings_by n x (keys_of t.writes)))) (flag_is f history s t reach r own)));
+            now = let low = s.now in omega (arith, low);
           }
 
   -- older ones are forgotten
   pub forgotten : (newer : ℕ) → f.oldest ≤ newer → (readers : Readers) → IsForgotten newer f.readers readers → (postings : List Posting)
-      → ((c : Posting → Bool) → least (λ p. nat_lt newer p.number && c p) postings ≡ least (λ p. nat_lt newer p.number && c p) f.postings)
-      → StandsFor (record { readers = readers; postings = postings; oldest = newer; last = f.last }) history
+      → AnswerAs (nat_le newer) postings f.postings
+      → StandsFor (record { readers = readers; postings = postings; oldest = newer; last = f.last; reach = f.reach }) history
   forgotten newer above readers cut_to postings same =
       let read = forgotten_readers f.oldest newer (last_reader f.readers) (last_reader readers) history s.readers above cut_to in
-      let wrote = subst (λ ks. AreWriters newer postings ks) (kept_later f.oldest newer history above)
-      (writers_forgotten f.oldest newer f.postings postings kept s.writers above same) in
-      assumption (read, wrote)
+      let wrote = subst (λ ks. AreWriters f.reach newer postings ks) (kept_later f.oldest newer history above)
+      (writers_forgotten f.reach f.oldest newer f.postings postings kept s.writers above same) in
+      record { numbered = s.numbered; begun = s.begun; no_pivot = s.no_pivot; last = s.last; readers = read; writers = wrote; now = s.now }
 
-  -- some that are as old are left out
-  pub shortened : (postings : List Posting)
-      → ((c : Posting → Bool) → least (λ p. nat_lt f.oldest p.number && c p) postings ≡ least (λ p. nat_lt f.oldest p.number && c p) f.postings)
-      → StandsFor (record { readers = f.readers; postings = postings; oldest = f.oldest; last = f.last }) history
-  shortened postings same = let wrote = λ (c : Posting → Bool). same c ∙ s.writers c in assumption wrote
+  -- some that none who may ask is answered by are left out
+  pub shortened : (postings : List Posting) → AnswerAs (λ b. nat_le f.oldest b && may_ask f.reach b) postings f.postings
+      → StandsFor (record { readers = f.readers; postings = postings; oldest = f.oldest; last = f.last; reach = f.reach }) history
+  shortened postings same = record {
+    numbered = s.numbered;
+    begun = s.begun;
+    no_pivot = s.no_pivot;
+    last = s.last;
+    readers = s.readers;
+    writers = λ b asks keys flagged. same b asks keys flagged ∙ s.writers b asks keys flagged;
+    now = s.now;
+  }
+
+  -- fewer may ask
+  pub narrowed : (begins : List ℕ) → AllByRecursion (λ b. may_ask f.reach b ≡ true) begins → StandsFor (asked_from begins f) history
+  narrowed begins all = record {
+    numbered = s.numbered;
+    begun = s.begun;
+    no_pivot = s.no_pivot;
+    last = s.last;
+    readers = s.readers;
+    writers = λ b asks.
+        let parts = and_parts _ _ asks in
+        s.writers b (and_from _ _ parts.0 (asked_before f.reach f.last begins s.now all b parts.1));
+    now = omega arith;
+  }
 
 -- ---- what the calls of `Committed` ask
 
@@ -141,11 +174,18 @@ pub notes : (f : Facts) (history : List Record) → StandsFor f history → (t :
     → (readers : Readers) → IsNoted t.marks n f.readers readers
     → (postings : List Posting)
     → ((c : Posting → Bool) → least c postings ≡ lesser (least c f.postings) (least c (postings_by n cleared.has_earlier_target keys)))
-    → (oldest : ℕ) → oldest ≡ f.oldest → StandsFor (record { readers = readers; postings = postings; oldest = oldest; last = n }) (history ++ r ∷ [])
-notes f history s t reach n next r own cleared is keys keys_is readers read postings has oldest oldest_is =
+    → (oldest : ℕ) → oldest ≡ f.oldest → (asking : Reach) → asking ≡ f.reach
+    → StandsFor (record { readers = readers; postings = postings; oldest = oldest; last = n; reach = asking }) (history ++ r ∷ [])
+notes f history s t reach n next r own cleared is keys keys_is readers read postings has oldest oldest_is asking asking_is =
     let own' : IsRecordOf t (f.last + 1) r = subst (λ m. IsRecordOf t m r) next own in
     let clear = is reach history s r own' in
-    subst (λ (g : Facts). StandsFor g (history ++ r ∷ [])) (λ i. record { readers = readers; postings = postings; oldest = sym oldest_is i; last = sym next i })
+    subst (λ (g : Facts). StandsFor g (history ++ r ∷ [])) (λ i. record {
+      readers = readers;
+      postings = postings;
+      oldest = sym oldest_is i;
+      last = sym next i;
+      reach = sym asking_is i;
+    })
     (noted f history s t reach r own' clear.0 readers (subst (λ m. IsNoted t.marks m f.readers readers) next read)
     postings (λ c. has c ∙ (λ i. lesser (least c f.postings) (least c (postings_by (next i) (clear.1 i) (keys_is i))))))
 

@@ -12,3 +12,4 @@ pub mod Judging
 pub mod SameHistories
 pub mod Joined
 pub mod Sweeps
+pub mod Redundancy

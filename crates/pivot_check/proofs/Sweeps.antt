@@ -1,5 +1,5 @@
 -- What is left of postings once those up to a number are dropped.
-use Rattle.std.proofs.Common.{◌≡◌, ◌≤◌, ◌<◌, ◌+◌, ◌-◌, ◌*◌, ℕ, Bool, true, false, ◌&&◌, List, [], ◌∷◌, ◌++◌, length}
+use Rattle.std.proofs.Common.{◌≡◌, ◌≤◌, ◌<◌, ◌+◌, ◌*◌, ℕ, Bool, true, List, [], ◌∷◌, ◌++◌, length}
 use Rattle.std.proofs.Common.{length-drop, take, drop, refl, sym, ap, ◌∙◌, arith}
 use Rattle.std.proofs.lemmas.Bool.{and_from, and_parts}
 use Rattle.std.proofs.lemmas.Bool.Decides.{nat_tests}
@@ -7,16 +7,14 @@ use Rattle.std.proofs.lemmas.List.{take-append-drop, length-append}
 use Rattle.std.proofs.lemmas.List.Elements.{filter-append, recursion_from_All}
 use Rattle.std.proofs.lemmas.List.Folds.{list_all-append}
 use Rattle.std.proofs.lemmas.List.Sums.{length-filter}
-use Rattle.std.specs.List.{filter, list_all, AllByRecursion}
+use Rattle.std.specs.List.{list_all, AllByRecursion}
 use Rattle.std.specs.Ordering.{is_le}
 use Rattle.std.specs.Prelude.{nat_lt, ◌/◌, All, count_by, min}
 use Rattle.model.specs.Map.{key_cmp}
-use Rattle.pivot_check.proofs.Writers.{least-filter, least_alike}
-use Rattle.pivot_check.specs.Agreeing.{lesser_none, least-append}
 use Rattle.pivot_check.specs.Bounds.{is_from_bound, are_from_bound, bound_count}
 use Rattle.pivot_check.specs.Inside.{in_run, postings_in, is_run_later}
-use Rattle.pivot_check.specs.Parts.{live, left, live_in}
-use Rattle.pivot_check.specs.Postings.{Posting, least, lesser, keys_rise, are_upto, are_later, later_than}
+use Rattle.pivot_check.specs.Parts.{live, left}
+use Rattle.pivot_check.specs.Postings.{Posting, keys_rise, are_upto, are_later, later_than}
 use Rattle.pivot_check.specs.declared.bound.Bound.{Bound}
 use Rattle.pivot_check.specs.declared.part.Part.{Part}
 use Rattle.pivot_check.specs.declared.run.WrittenRun.{WrittenRun}
@@ -69,18 +67,6 @@ bound_later o b next (p ∷ ps) keeps h = grind (arith, nat_tests, keeps p, boun
 pub upto_later : (last o : ℕ) (ps : List Posting) → are_upto last ps ≡ true → are_upto last (later_than o ps) ≡ true
 upto_later last o [] h = refl
 upto_later last o (p ∷ ps) h = grind (arith, nat_tests, upto_later last o ps)
-
--- ---- what is asked of them
-
-pub asked_later : (o : ℕ) (c : Posting → Bool) (ps : List Posting)
-    → least (λ p. nat_lt o p.number && c p) (later_than o ps) ≡ least (λ p. nat_lt o p.number && c p) ps
-asked_later o c ps =
-    least-filter (λ p. nat_lt o p.number && c p) (later o) ps
-    ∙ least_alike (λ p. nat_lt o p.number && (nat_lt o p.number && c p)) (λ p. nat_lt o p.number && c p) (λ p. twice (nat_lt o p.number) (c p)) ps
-  where
-    twice : (x y : Bool) → (x && (x && y)) ≡ (x && y)
-    twice true y = refl
-    twice false y = refl
 
 -- three parts that were swept
 pub all_parts : (o : ℕ) (xs ys zs xs' ys' zs' : List Posting) → xs' ≡ later_than o xs → ys' ≡ later_than o ys → zs' ≡ later_than o zs

@@ -1,19 +1,20 @@
 -- What is asked of records through the postings of the keys that they wrote.
 use Rattle.std.proofs.Common.{◌≡◌, ◌≤◌, ◌<◌, ℕ, Bool, true, false, cond, ◌&&◌, ◌||◌, List, [], ◌∷◌, ◌++◌, Option}
 use Rattle.std.proofs.Common.{Some, None, refl, sym, ap, ◌∙◌, arith}
+use Rattle.std.proofs.lemmas.Bool.{and_from, and_parts, le-leb, leb-true}
 use Rattle.std.proofs.lemmas.Bool.Decides.{nat_tests}
 use Rattle.std.proofs.lemmas.List.Elements.{filter-append}
 use Rattle.std.specs.List.{list_any, filter, AllByRecursion}
 use Rattle.std.specs.Option.{option_map}
-use Rattle.std.specs.Prelude.{nat_lt, is_some, not}
+use Rattle.std.specs.Prelude.{nat_le, nat_lt, is_some, not}
 use Rattle.model.proofs.Pivots.{find_alike}
 use Rattle.model.specs.Map.{Bytes, is_same_key}
 use Rattle.model.specs.PrivateCopy.{is_covered}
 use Rattle.model.specs.PrivateCopy.Mark.{OfKey}
 use Rattle.snapshot.specs.View.{View}
 use Rattle.pivot_check.specs.Agreeing.{lesser_none, lesser_assoc, least-append}
-use Rattle.pivot_check.specs.Kept.{KeptRecord, first_number, follows, becomes_pivot, is_key_written}
-use Rattle.pivot_check.specs.Postings.{Posting, postings_by, least, lesser, asked_of, covered_of}
+use Rattle.pivot_check.specs.Kept.{KeptRecord, Reach, first_number, follows, becomes_pivot, is_key_written, may_ask}
+use Rattle.pivot_check.specs.Postings.{AnswerAs, Posting, asked_in, postings_by, least, lesser, asked_of, covered_of}
 use Rattle.pivot_check.specs.StandsFor.{postings_of, all_postings, AreWriters}
 
 -- the records stand by rising commit number
@@ -58,29 +59,29 @@ all_pass o (r ∷ rs) =
 above_both : (o b n : ℕ) → o ≤ b → (x y : Bool) → (nat_lt o n && (x && (nat_lt b n && y))) ≡ (x && (nat_lt b n && y))
 above_both o b n le x y = grind (arith, nat_tests)
 
-pub forgotten : (o newer : ℕ) (ps qs : List Posting) (rs : List KeptRecord) → AreWriters o ps rs → o ≤ newer
-    → ((c : Posting → Bool) → least (λ p. nat_lt newer p.number && c p) qs ≡ least (λ p. nat_lt newer p.number && c p) ps)
-    → AreWriters newer qs (filter (λ r. nat_lt newer r.commit) rs)
-forgotten o newer ps qs rs are le same c =
-    same c
-    ∙ sym (least_alike (λ p. nat_lt o p.number && (nat_lt newer p.number && c p)) (λ p. nat_lt newer p.number
-    && c p) (λ p. above_both o newer p.number le true (c p)) ps)
-    ∙ are (λ p. nat_lt newer p.number && c p)
-    ∙ sym (least-filter c (λ p. nat_lt newer p.number) (all_postings rs))
-    ∙ ap (least c) (all_pass newer rs)
+-- those up to a number that it didn't begin before are not asked for
+pub asked_above : (o b : ℕ) (keys : Bytes → Bool) (flagged : Bool) (ps : List Posting) → o ≤ b
+    → least (asked_in keys b flagged) (filter (λ p. nat_lt o p.number) ps) ≡ least (asked_in keys b flagged) ps
+asked_above o b keys flagged ps le =
+    least-filter (asked_in keys b flagged) (λ p. nat_lt o p.number) ps
+    ∙ least_alike (λ p. nat_lt o p.number && asked_in keys b flagged p) (asked_in keys b flagged)
+    (λ p. above_both o b p.number le (keys p.key) (p.has_earlier_target || not flagged)) ps
 
-pub noted : (o : ℕ) (ps qs : List Posting) (rs : List KeptRecord) (r : KeptRecord) → AreWriters o ps rs → o < r.commit
-    → ((c : Posting → Bool) → least c qs ≡ lesser (least c ps) (least c (postings_of r))) → AreWriters o qs (rs ++ r ∷ [])
-noted o ps qs rs r are lt added c =
-    grind (
-      arith,
-      nat_tests,
-      are c,
-      all_postings-push c rs r,
-      added (λ p. nat_lt o p.number && c p),
-      least-filter c (λ p. nat_lt o p.number) (postings_of r),
-      postings_pass o r.commit r.has_earlier_target r.keys,
-    )
+pub forgotten : (reach : Reach) (o newer : ℕ) (ps qs : List Posting) (rs : List KeptRecord) → AreWriters reach o ps rs → o ≤ newer
+    → AnswerAs (nat_le newer) qs ps → AreWriters reach newer qs (filter (λ r. nat_lt newer r.commit) rs)
+forgotten reach o newer ps qs rs are le same b asks keys flagged =
+    let parts = and_parts _ _ asks in
+    let low = leb-true newer b parts.0 in
+    same b parts.0 keys flagged
+    ∙ are b (and_from _ _ (le-leb o b (omega (arith, le, low))) parts.1) keys flagged
+    ∙ sym (asked_above newer b keys flagged (all_postings rs) low)
+    ∙ ap (least (asked_in keys b flagged)) (all_pass newer rs)
+
+pub noted : (reach : Reach) (o : ℕ) (ps qs : List Posting) (rs : List KeptRecord) (r : KeptRecord) → AreWriters reach o ps rs
+    → ((c : Posting → Bool) → least c qs ≡ lesser (least c ps) (least c (postings_of r))) → AreWriters reach o qs (rs ++ r ∷ [])
+noted reach o ps qs rs r are added b asks keys flagged =
+    let c = asked_in keys b flagged in
+    added c ∙ ap (λ n. lesser n (least c (postings_of r))) (are b asks keys flagged) ∙ sym (all_postings-push c rs r)
 
 -- no number of them is above their own
 pub by_upto : (n : ℕ) (flag : Bool) (ks : List Bytes) → least (λ p. nat_lt n p.number) (postings_by n flag ks) ≡ None
@@ -120,10 +121,11 @@ module _ (d : Bytes → Bool) (e : Bool → Bool) (b : ℕ) where
         least-append asks (postings_of r) (all_postings rs),
       )
 
-  asked : (o : ℕ) (ps : List Posting) (rs : List KeptRecord) → AreWriters o ps rs → o ≤ b → IsRising rs → least asks ps ≡ first_number passes (after_b rs)
-  asked o ps rs are le rise =
-      sym (least_alike (λ p. nat_lt o p.number && asks p) asks (λ p. above_both o b p.number le (d p.key) (e p.has_earlier_target)) ps)
-      ∙ are asks ∙ of_all rs rise
+asked : (d : Bytes → Bool) (flagged : Bool) (b : ℕ) (reach : Reach) (o : ℕ) (ps : List Posting) (rs : List KeptRecord) → AreWriters reach o ps rs → o ≤ b
+    → may_ask reach b ≡ true → IsRising rs
+    → least (asked_in d b flagged) ps ≡ first_number (λ r. list_any d r.keys && (r.has_earlier_target || not flagged)) (filter (λ r. nat_lt b r.commit) rs)
+asked d flagged b reach o ps rs are le asks rise =
+    are b (and_from _ _ (le-leb o b le) asks) d flagged ∙ of_all d (λ flag. flag || not flagged) b rs rise
 
 -- ---- the laws
 
@@ -132,31 +134,36 @@ first_alike : (p q : KeptRecord → Bool) → ((r : KeptRecord) → p r ≡ q r)
 first_alike p q same rs = ap (option_map (λ (k : KeptRecord). k.commit)) (find_alike p q same rs)
 
 -- the first that passes the test of keys
-by_keys : (d : Bytes → Bool) (o b : ℕ) (ps : List Posting) (rs : List KeptRecord) → AreWriters o ps rs → o ≤ b → IsRising rs →
+by_keys : (d : Bytes → Bool) (reach : Reach) (o b : ℕ) (ps : List Posting) (rs : List KeptRecord) → AreWriters reach o ps rs → o ≤ b
+    → may_ask reach b ≡ true → IsRising rs →
     first_number (λ r. list_any d r.keys) (filter (λ r. nat_lt b r.commit) rs)
     ≡ least (λ p. d p.key && (nat_lt b p.number && (p.has_earlier_target || not false))) ps
-by_keys d o b ps rs are le rise =
+by_keys d reach o b ps rs are le asks rise =
     first_alike (λ r. list_any d r.keys) (λ r. list_any d r.keys && (r.has_earlier_target || not false)) (λ r. grind arith) (filter (λ r. nat_lt b r.commit) rs)
-    ∙ sym (asked d (λ flag. flag || not false) b o ps rs are le rise)
+    ∙ sym (asked d false b reach o ps rs are le asks rise)
 
 pub any_is_found : (p : KeptRecord → Bool) (rs : List KeptRecord) → list_any p rs ≡ is_some (first_number p rs)
 any_is_found p [] = refl
 any_is_found p (r ∷ rs) = grind (arith, any_is_found p rs)
 
 -- whether a record since number b has written the key
-pub written : (o b : ℕ) (ps : List Posting) (rs : List KeptRecord) (k : Bytes) → AreWriters o ps rs → o ≤ b → IsRising rs →
+pub written : (reach : Reach) (o b : ℕ) (ps : List Posting) (rs : List KeptRecord) (k : Bytes) → AreWriters reach o ps rs → o ≤ b → may_ask reach b ≡ true
+    → IsRising rs →
     is_key_written (filter (λ r. nat_lt b r.commit) rs) k ≡ is_some (least (asked_of (OfKey k) b false) ps)
-written o b ps rs k are le rise =
-    any_is_found (λ r. list_any (is_same_key k) r.keys) (filter (λ r. nat_lt b r.commit) rs) ∙ ap is_some (by_keys (is_same_key k) o b ps rs are le rise)
+written reach o b ps rs k are le asks rise =
+    any_is_found (λ r. list_any (is_same_key k) r.keys) (filter (λ r. nat_lt b r.commit) rs)
+        ∙ ap is_some (by_keys (is_same_key k) reach o b ps rs are le asks rise)
 
 -- the first of them that has written what the marks cover
-pub target : (o b : ℕ) (ps : List Posting) (rs : List KeptRecord) (t : View) → AreWriters o ps rs → o ≤ b → IsRising rs →
+pub target : (reach : Reach) (o b : ℕ) (ps : List Posting) (rs : List KeptRecord) (t : View) → AreWriters reach o ps rs → o ≤ b → may_ask reach b ≡ true
+    → IsRising rs →
     first_number (λ r. follows r t) (filter (λ r. nat_lt b r.commit) rs) ≡ least (covered_of t.marks b false) ps
-target o b ps rs t are le rise = by_keys (is_covered t.marks) o b ps rs are le rise
+target reach o b ps rs t are le asks rise = by_keys (is_covered t.marks) reach o b ps rs are le asks rise
 
 -- the first of them that the transaction makes a dangerous pivot
-pub pivot : (o b : ℕ) (ps : List Posting) (rs : List KeptRecord) (t : View) → AreWriters o ps rs → o ≤ b → IsRising rs →
+pub pivot : (reach : Reach) (o b : ℕ) (ps : List Posting) (rs : List KeptRecord) (t : View) → AreWriters reach o ps rs → o ≤ b → may_ask reach b ≡ true
+    → IsRising rs →
     first_number (becomes_pivot t) (filter (λ r. nat_lt b r.commit) rs) ≡ least (covered_of t.marks b true) ps
-pivot o b ps rs t are le rise =
+pivot reach o b ps rs t are le asks rise =
     first_alike (becomes_pivot t) (λ r. follows r t && (r.has_earlier_target || not true)) (λ r. grind arith) (filter (λ r. nat_lt b r.commit) rs)
-    ∙ sym (asked (is_covered t.marks) (λ flag. flag || not true) b o ps rs are le rise)
+    ∙ sym (asked (is_covered t.marks) true b reach o ps rs are le asks rise)

@@ -1,20 +1,19 @@
 -- Runs that answer as others do.
 use Rattle.std.proofs.Common.{◌≡◌, ◌≤◌, ◌<◌, ℕ, Bool, true, List, [], ◌∷◌, ◌++◌, Option, None, refl, sym, ap, ◌∙◌}
 use Rattle.std.proofs.Common.{arith}
-use Rattle.std.proofs.lemmas.Bool.{and_from}
+use Rattle.std.proofs.lemmas.Bool.{and_from, leb-true}
 use Rattle.std.proofs.lemmas.Bool.Decides.{nat_tests}
-use Rattle.std.specs.Prelude.{nat_lt, ◌&&◌}
+use Rattle.std.specs.Prelude.{nat_le}
+use Rattle.model.specs.Map.{Bytes}
 use Rattle.pivot_check.specs.Bounds.{are_from_bound}
 use Rattle.pivot_check.specs.Inside.{number_bound, in_run, is_run_later, postings_in}
-use Rattle.pivot_check.specs.Postings.{Posting, are_later, least, lesser, are_upto}
+use Rattle.pivot_check.specs.Postings.{AnswerAs, Posting, are_later, asked_in, least, lesser, are_upto}
 use Rattle.pivot_check.specs.declared.bound.Bound.{Bound}
 use Rattle.pivot_check.specs.declared.run.WrittenRun.{WrittenRun}
 
--- whatever is asked of postings with numbers above that one, the least number is the same
-abbrev pub PostingsAgree : ℕ → List WrittenRun → List WrittenRun → Type 0
-PostingsAgree oldest new old = (c : Posting → Bool)
-    → least (λ p. nat_lt oldest p.number && c p) (postings_in new)
-    ≡ least (λ p. nat_lt oldest p.number && c p) (postings_in old)
+-- whoever asks that began at a number of these, the runs' postings answer as those others do
+abbrev pub PostingsAgree : (ℕ → Bool) → List WrittenRun → List WrittenRun → Type 0
+PostingsAgree begins new old = AnswerAs begins (postings_in new) (postings_in old)
 
 pub lesser_none : (o : Option ℕ) → lesser o None ≡ o
 lesser_none o = grind arith
@@ -38,17 +37,19 @@ least-runs c (r ∷ rs) qs =
       least-runs c rs qs,
     )
 
-pub postings_agree_between : (o : ℕ) (front xs ys behind : List WrittenRun) → PostingsAgree o xs ys
-    → PostingsAgree o (front ++ (xs ++ behind)) (front ++ (ys ++ behind))
-postings_agree_between o front xs ys behind same c =
-    let above = λ (p : Posting). nat_lt o p.number && c p in
+pub postings_agree_between : (begins : ℕ → Bool) (front xs ys behind : List WrittenRun) → PostingsAgree begins xs ys
+    → PostingsAgree begins (front ++ (xs ++ behind)) (front ++ (ys ++ behind))
+postings_agree_between begins front xs ys behind same b asks keys flagged =
+    let asked = asked_in keys b flagged in
     let all : (zs : List WrittenRun)
-    → least above (postings_in (front ++ (zs ++ behind)))
-    ≡ lesser (least above (postings_in front))
-    (lesser (least above (postings_in zs)) (least above (postings_in behind)))
-    = λ zs. least-runs above front (zs ++ behind)
-    ∙ ap (lesser (least above (postings_in front))) (least-runs above zs behind) in
-    all xs ∙ ap (λ n. lesser (least above (postings_in front)) (lesser n (least above (postings_in behind)))) (same c)
+    → least asked (postings_in (front ++ (zs ++ behind)))
+    ≡ lesser (least asked (postings_in front))
+    (lesser (least asked (postings_in zs)) (least asked (postings_in behind)))
+    = λ zs. least-runs asked front (zs ++ behind)
+    ∙ ap (lesser (least asked (postings_in front))) (least-runs asked zs behind) in
+    all xs
+    ∙ ap (λ n. lesser (least asked (postings_in front)) (lesser n (least asked (postings_in behind))))
+    (same b asks keys flagged)
     ∙ sym (all ys)
 
 -- the numbers of a run are above one that the least of them is above
@@ -63,13 +64,14 @@ later_from_number o r lt =
     (later_by o r.second.bound r.second.written.items (omega arith) r.second.bounded))
 
 -- none has a number above one that all are up to
-none_above : (o last : ℕ) (c : Posting → Bool) (ps : List Posting) → last ≤ o → are_upto last ps ≡ true
-    → least (λ p. nat_lt o p.number && c p) ps ≡ None
-none_above o last c [] le h = refl
-none_above o last c (p ∷ ps) le h = grind (arith, nat_tests, none_above o last c ps le)
+none_above : (b last : ℕ) (keys : Bytes → Bool) (flagged : Bool) (ps : List Posting) → last ≤ b
+    → are_upto last ps ≡ true → least (asked_in keys b flagged) ps ≡ None
+none_above b last keys flagged [] le h = refl
+none_above b last keys flagged (p ∷ ps) le h = grind (arith, nat_tests, none_above b last keys flagged ps le)
 
-pub no_old_postings : (o : ℕ) (r : WrittenRun) → r.last ≤ o → PostingsAgree o [] (r ∷ [])
-no_old_postings o r le c =
-    let above = λ (p : Posting). nat_lt o p.number && c p in
-    sym (least-append above (in_run r) [] ∙ lesser_none (least above (in_run r))
-    ∙ none_above o r.last c (in_run r) le r.upto)
+pub no_old_postings : (o : ℕ) (r : WrittenRun) → r.last ≤ o → PostingsAgree (nat_le o) [] (r ∷ [])
+no_old_postings o r le b asks keys flagged =
+    let asked = asked_in keys b flagged in
+    let low = leb-true o b asks in
+    sym (least-append asked (in_run r) [] ∙ lesser_none (least asked (in_run r))
+    ∙ none_above b r.last keys flagged (in_run r) (omega (arith, le, low)) r.upto)

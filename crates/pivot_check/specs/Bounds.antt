@@ -1,6 +1,6 @@
 -- Bounds of the numbers of postings, by which postings are passed over.
 use Rattle.std.specs.List.{list_all, AllByRecursion}
-use Rattle.std.specs.Prelude.{◌≡◌, ◌<◌, ◌≤◌, ℕ, ◌+◌, ◌-◌, ◌*◌, ◌==◌, Bool, true, not, ◌&&◌, ◌||◌, List, Option, Some}
+use Rattle.std.specs.Prelude.{◌≡◌, ◌<◌, ◌≤◌, ℕ, ◌+◌, ◌-◌, ◌*◌, Bool, true, not, ◌&&◌, ◌||◌, List, Option, Some}
 use Rattle.std.specs.Prelude.{nat_lt, nat_le, length, take, drop, slice_index_or, if◌then◌else◌}
 use Rattle.pivot_check.specs.Postings.{Posting, lesser, is_asked, between}
 use Rattle.pivot_check.specs.declared.bound.Bound.{Bound}

@@ -22,13 +22,28 @@ pub record KeptRecord : Type 0 where
   pub keys : List Bytes
   pub has_earlier_target : Bool
 
+-- who may still ask: one who began at one of these numbers, or at that one or later
+pub record Reach : Type 0 where
+  pub begins : List ℕ
+  pub since : ℕ
+
+-- whether one who began at that number may still ask
+abbrev pub may_ask : Reach → ℕ → Bool
+may_ask reach b = nat_le reach.since b || list_any (λ n. n == b) reach.begins
+
 -- what is kept of committed transactions: of each key the last one that has read it, of those with a number above
--- `oldest`; the keys that they wrote, and perhaps some that older ones wrote; and the last commit number
+-- `oldest`; of the keys that they wrote what those who may still ask are answered by, and perhaps some that older ones
+-- wrote; and the last commit number
 pub record Facts : Type 0 where
   pub readers : Readers
   pub postings : List Posting
   pub oldest : ℕ
   pub last : ℕ
+  pub reach : Reach
+
+-- the same, where whoever may ask began at one of these numbers, or begins now
+abbrev pub asked_from : List ℕ → Facts → Facts
+asked_from begins f = record f { reach = record { begins = begins; since = f.last } }
 
 abbrev pub key_of : KeyWrite → Bytes
 key_of w = w.0
@@ -116,6 +131,7 @@ pub record Forgets (n : ℕ) (old new : Facts) : Type 0 where
   pub readers : IsForgotten n old.readers new.readers
   pub oldest : new.oldest ≡ max old.oldest n
   pub last : new.last ≡ old.last
+  pub reach : new.reach ≡ old.reach
 
 -- nothing is kept of a commit up to that number: neither a key that it wrote, nor that it was the last to read one
 pub record KeepsNoneUpto (oldest : ℕ) (f : Facts) : Type 0 where
@@ -136,11 +152,19 @@ pub record IsEmpty (f : Facts) : Type 0 where
   pub postings : f.postings ≡ []
   pub oldest : f.oldest ≡ 0
   pub last : f.last ≡ 0
+  pub since : f.reach.since ≡ 0
 
--- a transaction that may ask: it began with a commit number that was given, and with none that was forgotten
+-- a transaction that may ask: it began with a commit number that was given, with none that was forgotten, and with one
+-- of those that may still ask
 pub record IsInReach (f : Facts) (t : View) : Type 0 where
   pub begun : t.begin ≤ f.last
   pub held : f.oldest ≤ t.begin
+  pub asks : may_ask f.reach t.begin ≡ true
+
+-- the same may ask as before
+pub record KeepsReach (old new : Facts) : Type 0 where
+  pub oldest : new.oldest ≡ old.oldest
+  pub reach : new.reach ≡ old.reach
 
 -- the memory that was made ready: that of the last readers, free places for runs of written keys, and the keys of a
 -- transaction

@@ -26,9 +26,9 @@ pub record RiseBehind (to p q : Part) : Type 0 where
   pub first : IsTrue (keys_rise (live to ++ live p))
   pub second : IsTrue (keys_rise (live to ++ live q))
 
--- one posting of so many was put behind those of the part, in the room that it had
+-- one posting of so many was put behind those of the part, in the room that it had, or dropped
 pub record TakesPosting (before after : ℕ) (old new : Part) : Type 0 where
   pub fewer : after + 1 ≡ before
-  pub made : left new ≡ left old + 1
-  pub to_len : length new.written.items ≡ length old.written.items + 1
+  pub made : left new ≤ left old + 1
+  pub to_len : length new.written.items ≤ length old.written.items + 1
   pub capacity : vec_capacity old.written ≤ vec_capacity new.written

@@ -32,6 +32,20 @@ least c (p ∷ ps) = lesser (if c p then Some p.number else None) (least c ps)
 abbrev pub is_asked : ℕ → Bool → Posting → Bool
 is_asked b flagged p = nat_lt b p.number && (p.has_earlier_target || not flagged)
 
+-- what one who began at b asks of a posting: its key is one of those that are asked for, and the rest
+abbrev pub asked_in : (Bytes → Bool) → ℕ → Bool → Posting → Bool
+asked_in keys b flagged p = keys p.key && is_asked b flagged p
+
+-- whoever asks that began at a number of these, the postings answer as those others do
+abbrev pub AnswerAs : (ℕ → Bool) → List Posting → List Posting → Type 0
+AnswerAs begins ps qs = (b : ℕ) → begins b ≡ true → (keys : Bytes → Bool) (flagged : Bool)
+    → least (asked_in keys b flagged) ps ≡ least (asked_in keys b flagged) qs
+
+-- So some of these postings answer as all do, and none of them passes what none of all passes.
+pub record AnswerForAll (begins : ℕ → Bool) (some all : List Posting) : Type 0 where
+  pub same : AnswerAs begins some all
+  pub none : (c : Posting → Bool) → least c all ≡ None → least c some ≡ None
+
 -- the number of a posting of which that holds
 abbrev pub number_asked : ℕ → Bool → Posting → Option ℕ
 number_asked b flagged p = if is_asked b flagged p then Some p.number else None
@@ -50,10 +64,6 @@ CountCovered m ps qs = (c : Posting → Bool) → least (λ p. covers m p.key &&
 -- whatever is asked, these postings answer as those of both do
 abbrev pub CountBoth : List Posting → List Posting → List Posting → Type 0
 CountBoth ps qs more = (c : Posting → Bool) → least c ps ≡ lesser (least c qs) (least c more)
-
--- whatever is asked, both of these answer as both of those do
-abbrev pub CountAlike : List Posting → List Posting → List Posting → List Posting → Type 0
-CountAlike ps qs rs ss = (c : Posting → Bool) → lesser (least c ps) (least c qs) ≡ lesser (least c rs) (least c ss)
 
 -- the postings stand by rising key, those of one key beside one another
 abbrev pub keys_rise : List Posting → Bool

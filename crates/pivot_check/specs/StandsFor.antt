@@ -2,7 +2,7 @@
 use Rattle.model.specs.declared.refusals.Refusal.TheVariants as refusal
 use Rattle.std.specs.List.{list_any, filter}
 use Rattle.std.specs.Prelude.{◌≡◌, ℕ, ◌<◌, ◌+◌, Bool, true, false, ◌&&◌, List, [], ◌∷◌, ◌++◌, Option, Some, None, map}
-use Rattle.std.specs.Prelude.{max, nat_lt, if◌then◌else◌, length, All, slice_get, ⊤, ◌↔◌}
+use Rattle.std.specs.Prelude.{◌≤◌, max, nat_le, nat_lt, if◌then◌else◌, length, All, slice_get, ⊤, ◌↔◌}
 use Rattle.model.specs.Dependency.{concurrent_read_write}
 use Rattle.model.specs.History.{Record, IsNumberedFrom}
 use Rattle.model.specs.Map.{Bytes, KeyWrite}
@@ -12,8 +12,8 @@ use Rattle.model.specs.declared.refusals.Refusal.{Refusal}
 use Rattle.last_readers.specs.Readers.{last_reader}
 use Rattle.last_readers.specs.Steps.{cut}
 use Rattle.snapshot.specs.View.{View}
-use Rattle.pivot_check.specs.Kept.{KeptRecord, Facts, IsInReach, keys_of}
-use Rattle.pivot_check.specs.Postings.{Posting, postings_by, least}
+use Rattle.pivot_check.specs.Kept.{KeptRecord, Facts, IsInReach, Reach, keys_of, may_ask}
+use Rattle.pivot_check.specs.Postings.{AnswerAs, Posting, postings_by}
 use Rattle.pivot_check.specs.declared.verdict.Cleared.{Cleared}
 use Rattle.pivot_check.specs.declared.verdict.Verdict.{Verdict}
 use Rattle.pivot_check.specs.declared.verdict.Verdict.TheVariants.{Clear, Overwritten, PivotSelf, Pivot}
@@ -52,10 +52,9 @@ abbrev pub all_postings : List KeptRecord → List Posting
 all_postings [] = []
 all_postings (r ∷ rs) = postings_of r ++ all_postings rs
 
--- above that number the postings answer each question about single ones as the records' own do
-abbrev pub AreWriters : ℕ → List Posting → List KeptRecord → Type 0
-AreWriters oldest ps rs = (c : Posting → Bool)
-    → least (λ p. nat_lt oldest p.number && c p) ps ≡ least c (all_postings rs)
+-- whoever may ask that didn't begin before that number, the postings answer as the records' own do
+abbrev pub AreWriters : Reach → ℕ → List Posting → List KeptRecord → Type 0
+AreWriters reach oldest ps rs = AnswerAs (λ b. nat_le oldest b && may_ask reach b) ps (all_postings rs)
 
 -- what is kept stands for the history
 pub record StandsFor (f : Facts) (history : List Record) : Type 0 where
@@ -64,7 +63,9 @@ pub record StandsFor (f : Facts) (history : List Record) : Type 0 where
   pub no_pivot : HasNoDangerousPivot history
   pub last : f.last ≡ length history
   pub readers : AreReaders f.oldest (last_reader f.readers) history
-  pub writers : AreWriters f.oldest f.postings (kept_above f.oldest history)
+  pub writers : AreWriters f.reach f.oldest f.postings (kept_above f.oldest history)
+  -- one who begins now may ask
+  pub now : f.reach.since ≤ f.last
 
 -- the record of the transaction that commits as number n
 pub record IsRecordOf (t : View) (n : ℕ) (r : Record) : Type 0 where
@@ -124,6 +125,7 @@ pub record StandForSame (old new : Facts) : Type 0 where
   pub stands : (history : List Record) → StandsFor old history ↔ StandsFor new history
   pub oldest : new.oldest ≡ old.oldest
   pub last : new.last ≡ old.last
+  pub reach : new.reach ≡ old.reach
 
 -- what the old facts stand for, the new ones stand for with the record of the transaction as number n
 abbrev pub StandWithRecord : Facts → Facts → View → ℕ → Type 0

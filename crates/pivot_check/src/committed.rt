@@ -1,15 +1,18 @@
 //! What is kept of committed transactions: the verdict on a commit, new ones, and those that are forgotten.
-ghost use Rattle.std.specs.Prelude.{◌≡◌, ◌+◌, ◌≤◌, ◌<◌, List, [], length, false, OnOk, ◌-◌};
+ghost use Rattle.std.specs.Prelude.{◌≡◌, ◌+◌, ◌≤◌, ◌<◌, List, [], length, true, false, OnOk, ◌-◌};
+ghost use Rattle.std.specs.List.{AllByRecursion};
 ghost use Rattle.model.specs.History.{Record};
 ghost use Rattle.merging_runs.specs.Held.{size_in};
 ghost use Rattle.merging_runs.specs.Next.{IsNext};
 ghost use Rattle.pivot_check.specs.Merged.{AddsWrittenRun, AreMoved, AreMovedWith, IsTriedIn};
 ghost use Rattle.pivot_check.specs.Kept.{Forgets, HasForgotten, HasRoom, IsEmpty, IsStep};
-ghost use Rattle.pivot_check.specs.Kept.{IsInReach, KeepsNoneUpto, LeavesMergesOf, is_kept, kept_count, garbage_runs};
+ghost use Rattle.pivot_check.specs.Kept.{IsInReach, KeepsNoneUpto, KeepsReach, LeavesMergesOf, asked_from, is_kept};
+ghost use Rattle.pivot_check.specs.Kept.{garbage_runs, kept_count, may_ask};
 ghost use Rattle.pivot_check.specs.Index.{answer_found};
 ghost use Rattle.pivot_check.specs.StandsFor.{StandForSame, StandWithRecord, StandsFor};
 ghost use Rattle.pivot_check.specs.StandsFor.{IsCleared, IsClearedBy, IsPlaced, IsVerdict};
 
+use crate::active::ActiveBegins;
 use crate::by_start::ByStart;
 use crate::ready::Ready;
 use crate::run::WrittenRun;
@@ -37,6 +40,8 @@ pub struct Committed {
     runs: Runs<WrittenRun>,
     oldest: u64,
     last: u64,
+    // who may still ask
+    active: ActiveBegins,
     // what the next commit needs
     ready: Option<Ready>,
 }
@@ -46,6 +51,7 @@ impl Model for Committed {
     ghost use Rattle.last_readers.specs.Readers.{last_reader, AreUpto};
     ghost use Rattle.pivot_check.specs.Kept.{CommittedValue, AreAbove};
     ghost use Rattle.pivot_check.specs.Inside.{postings_in, ready_keys};
+    ghost use Rattle.pivot_check.specs.Active.{reach_of};
 
     ghost Value = { CommittedValue };
 
@@ -55,6 +61,7 @@ impl Model for Committed {
         postings = postings_in c.runs.runs;
         oldest = c.oldest;
         last = c.last;
+        reach = reach_of c.active;
       };
       room = record { readers = c.readers.room; runs = c.runs.places; ready = ready_keys c.ready };
       held = record { readers = c.readers.held; written = c.runs.held; sizes = c.runs.sizes; refused = c.runs.refused };
@@ -66,11 +73,12 @@ impl Model for Committed {
       together : c.readers.readers.oldest ≡ c.oldest;
       upto : AreUpto c.last c.readers.readers;
       above : AreAbove c.oldest (last_reader c.readers.readers);
+      now : c.active.since ≤ c.last;
     } };
 }
 
 impl Committed {
-    /// Nothing committed yet: stands for the empty history. Takes no memory.
+    /// Nothing committed yet: stands for the empty history. All may ask. Takes no memory.
     pub fn new(alloc: Global) -> Committed
         ensures empty { IsEmpty result.facts }
         ensures stands_for { StandsFor result.facts [] }
@@ -80,6 +88,7 @@ impl Committed {
             runs: Runs::new(alloc),
             oldest: 0,
             last: 0,
+            active: ActiveBegins::all(),
             ready: None,
         }
     }
@@ -217,7 +226,7 @@ impl Committed {
         requires room { HasRoom self.old.room tx.now }
         ensures stands_for { StandWithRecord self.old.facts self.new.facts tx.now n }
         ensures last { self.new.facts.last ≡ n }
-        ensures oldest { self.new.facts.oldest ≡ self.old.facts.oldest }
+        ensures reach { KeepsReach self.old.facts self.new.facts }
         ensures run { AddsWrittenRun tx.now n self.old self.new }
     {
         let Some(ready) = self.ready.take() else {
@@ -233,28 +242,41 @@ impl Committed {
     // Moves postings of the merges that are under way, for so many that were noted.
     fn move_on(&mut self, count: usize)
         ensures stands_for { (h : List Record) → StandsFor self.old.facts h → StandsFor self.new.facts h }
-        ensures oldest { self.new.facts.oldest ≡ self.old.facts.oldest }
+        ensures reach { KeepsReach self.old.facts self.new.facts }
         ensures last { self.new.facts.last ≡ self.old.facts.last }
         ensures moved { AreMoved count self.old.held.sizes self.old self.new }
     {
-        self.runs.move_on(self.oldest, count);
+        self.runs.move_on(self.oldest, &self.active, count);
     }
 
     /// Keeps what the check needs of the transaction, which commits as number `n`, the next one, and was cleared for it by `verdict`. From
     /// each history that is stood for it leads to that history with the new record. It can't fail and takes no memory: `reserve` made room.
-    /// Then the merges that are under way go on by 16 postings for each written key, and 64, until nothing is left to move. The last
-    /// readers are merged in the same way, by a count of their own.
+    /// Then the merges that are under way go on by 16 postings for each written key, and 64, until nothing is left to move. What none who
+    /// may ask is answered by is dropped as it is moved: of two postings of one key the later, where none who may ask began between
+    /// their numbers and the flag of the earlier tells as much. The last readers are merged in the same way, by a count of their own.
     pub fn note(&mut self, tx: &Transaction, n: u64, cleared: Cleared)
         requires next { n ≡ self.old.facts.last + 1 }
         requires cleared { IsCleared self.old.facts tx.now cleared }
         requires room { HasRoom self.old.room tx.now }
         ensures stands_for { StandWithRecord self.old.facts self.new.facts tx.now n }
         ensures last { self.new.facts.last ≡ n }
-        ensures oldest { self.new.facts.oldest ≡ self.old.facts.oldest }
+        ensures reach { KeepsReach self.old.facts self.new.facts }
         ensures moved { AreMovedWith tx.now n self.old self.new }
     {
         self.add_record(tx, n, cleared);
         self.move_on(tx.entries().len());
+    }
+
+    /// From then on one may ask alone who began at one of these numbers, or at the last commit number or later; what is kept stands for the
+    /// same histories, where each of them may ask already. All that is kept stays: the merges that go on drop what none may ask for any
+    /// more. Takes no memory.
+    pub fn keep_active(&mut self, begins: &[u64])
+        requires few { length begins.now ≤ 64 }
+        ensures stands_for { AllByRecursion (λ b. may_ask self.old.facts.reach b ≡ true) begins.now
+            → (h : List Record) → StandsFor self.old.facts h → StandsFor self.new.facts h }
+        ensures asked { self.new ≡ record self.old { facts = asked_from begins.now self.old.facts } }
+    {
+        self.active = ActiveBegins::of(begins, self.last);
     }
 
     /// Does a part of what `forget` does. From then on none may ask that began before `oldest`, and what is left stands for the same

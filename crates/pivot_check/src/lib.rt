@@ -6,6 +6,7 @@
 //! and no later than the source of the other (Ports, Grittner 2012).
 #![tactic(auto)]
 
+mod active;
 mod bound;
 mod by_start;
 mod committed;

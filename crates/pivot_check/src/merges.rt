@@ -3,12 +3,16 @@ ghost use Rattle.std.specs.Prelude.{◌≡◌, ◌≤◌, ◌<◌, ◌+◌, ◌-
 ghost use Rattle.std.specs.List.{list_any};
 ghost use Rattle.std.specs.Vec.{vec_capacity};
 ghost use Rattle.std.proofs.Common.{refl, ◌∙◌};
-ghost use Rattle.pivot_check.specs.Inside.{number_bound, postings_held, in_run, is_run_later, written_run_size};
+ghost use Rattle.pivot_check.specs.Inside.{number_bound, postings_held, in_run, is_run_later};
+ghost use Rattle.pivot_check.specs.Active.{reach_of};
+ghost use Rattle.pivot_check.specs.Inside.{written_run_size};
+ghost use Rattle.pivot_check.specs.Kept.{may_ask};
 ghost use Rattle.pivot_check.specs.Postings.{Posting, least};
 ghost use Rattle.pivot_check.specs.Merged.{fit_one};
 ghost use Rattle.pivot_check.specs.Agreeing.{PostingsAgree, postings_agree_between, later_from_number};
 ghost use Rattle.pivot_check.specs.Agreeing.{no_old_postings};
 
+use crate::active::ActiveBegins;
 use crate::bound::{BLOCK, Bound};
 use crate::merging::move_least;
 use crate::part::Part;
@@ -53,6 +57,8 @@ impl Run for WrittenRun {
 
     type Stale = (Vec<Written>, Vec<Written>, Vec<Written>);
 
+    type Active = ActiveBegins;
+
     ghost sizes = { written_run_size };
 
     ghost held = { postings_held };
@@ -70,6 +76,8 @@ impl Run for WrittenRun {
     ghost each = { 1 };
 
     ghost alike = { fit_one };
+
+    ghost asks = { λ active. may_ask (reach_of active) };
 
     ghost agree = { PostingsAgree };
 
@@ -129,8 +137,8 @@ impl Run for WrittenRun {
         self.first = mem::replace(&mut self.made, places);
     }
 
-    fn move_one(&mut self, _oldest: u64) {
-        move_least(&mut self.first, &mut self.second, &mut self.made);
+    fn move_one(&mut self, _oldest: u64, active: &ActiveBegins) {
+        move_least(&mut self.first, &mut self.second, &mut self.made, active);
         free_room(self);
     }
 
@@ -157,9 +165,10 @@ impl Run for WrittenRun {
         )
     }
 
-    ghost same = { λ o rs c. refl };
+    ghost same = { λ begins rs b asks keys flagged. refl };
 
-    ghost through = { λ o xs ys zs first second c. first c ∙ second c };
+    ghost through = { λ begins xs ys zs first second b asks keys flagged. first b asks keys flagged
+        ∙ second b asks keys flagged };
 
     ghost between = { postings_agree_between };
 

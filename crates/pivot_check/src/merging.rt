@@ -1,10 +1,13 @@
-//! One step of a merge: the least key of two parts of a run goes to the end of a third.
-ghost use Rattle.std.specs.Prelude.{◌≡◌, ◌<◌, ◌+◌, ◌++◌, IsTrue, Bool, true, false, length};
+//! One step of a merge: the least key of two parts of a run goes to the end of a third, where someone who may ask is answered by it.
+ghost use Rattle.std.specs.Prelude.{◌≡◌, ◌<◌, ◌+◌, ◌++◌, IsTrue, true, false, length};
 ghost use Rattle.std.specs.Vec.{vec_capacity};
-ghost use Rattle.pivot_check.specs.Postings.{CountAlike, Posting, keys_rise, least};
+ghost use Rattle.pivot_check.specs.Active.{reach_of};
+ghost use Rattle.pivot_check.specs.Kept.{may_ask};
+ghost use Rattle.pivot_check.specs.Postings.{AnswerForAll, keys_rise};
 ghost use Rattle.pivot_check.specs.Parts.{live, left, live_in};
 ghost use Rattle.pivot_check.specs.Merging.{BeginsBelow, RiseBehind, StaysRising, TakesPosting};
 
+use crate::active::ActiveBegins;
 use crate::part::Part;
 
 // Does a least key stand first in the first part?
@@ -23,33 +26,38 @@ fn is_in_first(first: &Part, second: &Part) -> bool
     x.key().order(y.key()).is_le()
 }
 
-// Moves the first of what is left of a part, below which no key of another stands, behind a third, in the room that it has.
-fn move_first(from: &mut Part, to: &mut Part)
+// Moves the first of what is left of a part, below which no key of another stands, behind a third, in the room that it has. Where the last
+// posting of that answers whoever may ask in its place, it is dropped.
+fn move_first(from: &mut Part, to: &mut Part, active: &ActiveBegins)
     requires some { 0 < left from.old }
     requires rising { IsTrue (keys_rise (live to.old ++ live from.old)) }
     requires room { length to.old.written.items < vec_capacity to.old.written }
-    ensures same { CountAlike (live to.new) (live from.new) (live to.old) (live from.old) }
+    ensures same { AnswerForAll (may_ask (reach_of active.now)) (live to.new ++ live from.new)
+        (live to.old ++ live from.old) }
     ensures rising { IsTrue (keys_rise (live to.new ++ live from.new)) }
     ensures other { StaysRising (live from.old) (live to.old) (live to.new) }
     ensures moved { TakesPosting (left from.old) (left from.new) to.old to.new }
 {
     let written = from.take_first();
-    to.push(written);
+    if !to.makes_redundant(&written, active) {
+        to.push(written);
+    }
 }
 
-// Moves the posting of a least key of two parts behind a third, in the room that it has. What is asked of all three stays.
-pub(crate) fn move_least(first: &mut Part, second: &mut Part, to: &mut Part)
+// Moves the posting of a least key of two parts behind a third, in the room that it has, or drops it. Whoever may ask is answered by all
+// three as before.
+pub(crate) fn move_least(first: &mut Part, second: &mut Part, to: &mut Part, active: &ActiveBegins)
     requires rising { RiseBehind to.old first.old second.old }
     requires some { 0 < left first.old + left second.old }
     requires room { length to.old.written.items < vec_capacity to.old.written }
-    ensures same { (c : Posting → Bool)
-        → least c (live_in to.new first.new second.new) ≡ least c (live_in to.old first.old second.old) }
+    ensures same { AnswerForAll (may_ask (reach_of active.now)) (live_in to.new first.new second.new)
+        (live_in to.old first.old second.old) }
     ensures rising { RiseBehind to.new first.new second.new }
     ensures moved { TakesPosting (left first.old + left second.old) (left first.new + left second.new) to.old to.new }
 {
     if is_in_first(first, second) {
-        move_first(first, to);
+        move_first(first, to, active);
     } else {
-        move_first(second, to);
+        move_first(second, to, active);
     }
 }

@@ -6,7 +6,10 @@ ghost use Rattle.std.specs.Vec.{vec_capacity};
 ghost use Rattle.merging_runs.specs.Next.{IsNext};
 ghost use Rattle.pivot_check.specs.Postings.{keys_rise, later_than};
 ghost use Rattle.pivot_check.specs.Bounds.{are_from_bound, AreBounds, bound_count};
+ghost use Rattle.pivot_check.specs.Active.{reach_of};
+ghost use Rattle.pivot_check.specs.Redundant.{is_redundant_behind};
 
+use crate::active::ActiveBegins;
 use crate::bound::{BLOCK, Bound};
 use crate::written::{Written, count_later, next_written};
 
@@ -77,6 +80,17 @@ impl Part {
         let written = self.written[self.start].take(alloc);
         self.start += 1;
         written
+    }
+
+    // Does the last of what is left answer whoever may ask wherever this posting would?
+    pub(crate) fn makes_redundant(&self, written: &Written, active: &ActiveBegins) -> bool
+        ensures { result ≡ is_redundant_behind (reach_of active.now) (drop self.now.start self.now.written.items)
+            written.now }
+    {
+        match self.written[self.start..].last() {
+            Some(last) => last.makes_redundant(written, active),
+            None => false,
+        }
     }
 
     // Adds the bound of the first whole block that has none, in the room that was made for it.

@@ -7,9 +7,12 @@ ghost use Rattle.std.specs.Vec.{vec_len, vec_capacity};
 ghost use Rattle.marks.specs.Lent.{lent_mark};
 ghost use Rattle.marks.specs.Marked.{start_of};
 ghost use Rattle.pivot_check.specs.Bounds.{in_span};
+ghost use Rattle.pivot_check.specs.Active.{reach_of};
+ghost use Rattle.pivot_check.specs.Redundant.{is_redundant};
 ghost use Rattle.pivot_check.specs.Postings.{CountBoth, CountCovered, Posting, number_asked, postings_by, keys_rise};
 ghost use Rattle.pivot_check.specs.Postings.{have_keys_from, least, lesser, is_asked};
 
+use crate::active::ActiveBegins;
 use marks::MarkRef;
 use merging_runs::next_of;
 use model::{Key, KeyRef};
@@ -50,6 +53,16 @@ impl Written {
         ensures { result.bytes.now ≡ self.now.key }
     {
         self.key.lend()
+    }
+
+    // Does it answer whoever may ask wherever another of the same key would?
+    pub(crate) fn makes_redundant(&self, other: &Written, active: &ActiveBegins) -> bool
+        ensures { result ≡ is_redundant (reach_of active.now) self.now other.now }
+    {
+        self.key().order(other.key()).is_eq()
+            && self.number <= other.number
+            && (self.has_earlier_target || !other.has_earlier_target)
+            && active.is_undivided(self.number, other.number)
     }
 
     // Takes it: in its place stays a key that takes no memory, with the same number and flag.

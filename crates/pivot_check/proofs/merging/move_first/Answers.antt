@@ -1,7 +1,9 @@
 use Rattle.pivot_check.proofs.merging.move_first.Goals as goal
-use Rattle.std.proofs.Common.{◌++◌, ap, ◌∙◌, arith}
+use Rattle.std.proofs.Common.{◌++◌, ap, sym, ◌∙◌}
 use Rattle.pivot_check.proofs.Joined.{moved_end, moved_other}
-use Rattle.pivot_check.specs.Agreeing.{lesser_none, lesser_assoc, least-append}
+use Rattle.pivot_check.proofs.Redundancy.{dropped_answers, moved_answers, rises_without}
+use Rattle.pivot_check.specs.Active.{reach_of}
+use Rattle.pivot_check.specs.Kept.{may_ask}
 use Rattle.pivot_check.specs.Parts.{live}
 use Rattle.pivot_check.specs.Postings.{keys_rise}
 
@@ -10,11 +12,23 @@ push-requires-clause-rising c =
     moved_end (live c.args.to.now) (live c.args.from.now) (live c.take_first-written.new.self) c.take_first-written.result c.take_first-written.ensures.taken
     c.requires.rising
 
-pub returns-clause-same : goal.returns-clause-same
-returns-clause-same c = λ t. grind (arith, lesser_none, lesser_assoc, least-append)
+pub returns-then-not-makes_redundant-clause-same : goal.returns-then-not-makes_redundant-clause-same
+returns-then-not-makes_redundant-clause-same c =
+    moved_answers (may_ask (reach_of c.args.active.now)) (live c.args.to.now) (live c.push.new.self) (live c.args.from.now)
+    (live c.take_first-written.new.self) c.take_first-written.result c.take_first-written.ensures.taken c.push.ensures.added
 
-pub returns-clause-other : goal.returns-clause-other
-returns-clause-other c = λ ys below rises.
+pub returns-then-not-makes_redundant-clause-other : goal.returns-then-not-makes_redundant-clause-other
+returns-then-not-makes_redundant-clause-other c = λ ys below rises.
     ap (λ l. keys_rise (l ++ ys)) c.push.ensures.added
     ∙ moved_other (live c.args.to.now) (live c.args.from.now) (live c.take_first-written.new.self) ys c.take_first-written.result
     c.take_first-written.ensures.taken c.requires.rising below rises
+
+pub returns-else-not-makes_redundant-clause-same : goal.returns-else-not-makes_redundant-clause-same
+returns-else-not-makes_redundant-clause-same c =
+    dropped_answers (reach_of c.args.active.now) (live c.args.to.now) (live c.args.from.now) (live c.take_first-written.new.self)
+    c.take_first-written.result c.take_first-written.ensures.taken (sym c.makes_redundant.ensures ∙ c.if-not-makes_redundant.false)
+
+pub returns-else-not-makes_redundant-clause-rising : goal.returns-else-not-makes_redundant-clause-rising
+returns-else-not-makes_redundant-clause-rising c =
+    rises_without (live c.args.to.now) (live c.args.from.now) (live c.take_first-written.new.self) c.take_first-written.result
+    c.take_first-written.ensures.taken c.requires.rising

@@ -1,5 +1,5 @@
 use Rattle.pivot_check.proofs.written.next_written.Goals as goal
-use Rattle.std.proofs.Common.{◌≡◌, ◌+◌, ◌||◌, ℕ, Bool, ap, sym, subst, arith}
+use Rattle.std.proofs.Common.{◌+◌, ◌||◌, ℕ, Bool, subst, arith}
 use Rattle.std.specs.Prelude.{◌==◌}
 use Rattle.merging_runs.proofs.NextNumbers.{first_all, first_more, first_none, with_first}
 use Rattle.merging_runs.specs.Next.{IsNext}

@@ -5,6 +5,7 @@ use Rattle.last_readers.specs.Readers.{last_reader, IsNoted, HasReadersRoom, Rea
 use Rattle.pivot_check.proofs.Judging.{notes, upto_own}
 use Rattle.pivot_check.proofs.LastSources.{noted_upto, noted_above}
 use Rattle.pivot_check.specs.Inside.{postings_in}
+use Rattle.pivot_check.specs.Active.{reach_of}
 use Rattle.pivot_check.specs.Kept.{CommittedValue, keys_of}
 use Rattle.pivot_check.specs.Postings.{Posting, postings_by, least, lesser}
 
@@ -40,7 +41,8 @@ returns-clause-stands_for c = λ reach h s r own.
     notes c.args.self.now.facts h s c.args.tx.now reach c.args.n c.requires.next r own
     c.args.cleared c.requires.cleared c.in-Some.ready.keys.items (keys c)
     c.note.new.self.readers (read c) (postings_in c.add_run.new.runs.runs) (added c)
-    c.self.inside.oldest (ap (λ (v : CommittedValue). v.facts.oldest) c.self.view_is)
+    c.self.inside.oldest (ap (λ (v : CommittedValue). v.facts.oldest) c.self.view_is) (reach_of c.self.inside.active)
+    (ap (λ (v : CommittedValue). v.facts.reach) c.self.view_is)
 
 pub invariant_of-self : goal.invariant_of-self
 invariant_of-self c =
@@ -54,4 +56,5 @@ invariant_of-self c =
           c.self.invariant.upto (noted c);
       above = noted_above (last_reader c.self.inside.readers.readers) (last_reader c.note.new.self.readers) c.args.tx.now.marks c.self.inside.oldest c.args.n
           (omega (arith, n_is, c.self.invariant.order)) c.self.invariant.above (noted c);
+      now = omega (arith, n_is, c.self.invariant.now);
     }

@@ -6,6 +6,7 @@ use Rattle.pivot_check.proofs.Judging.{forgotten}
 use Rattle.pivot_check.proofs.LastSources.{cut_later}
 use Rattle.pivot_check.proofs.Sweeps.{later_in_runs}
 use Rattle.pivot_check.specs.Inside.{postings_in}
+use Rattle.pivot_check.specs.Active.{reach_of}
 use Rattle.pivot_check.specs.Kept.{Facts, CommittedValue}
 use Rattle.pivot_check.specs.StandsFor.{StandsFor}
 
@@ -16,6 +17,7 @@ returns-clause-stands_for c = λ h s.
       postings = postings_in c.self.inside.runs.runs;
       oldest = c.self.inside.oldest;
       last = c.self.inside.last;
+      reach = reach_of c.self.inside.active;
     } in
     let was : StandsFor f h = subst (λ (v : CommittedValue). StandsFor v.facts h) (sym c.self.view_is) s in
     let after = c.forget.new.self.readers in

@@ -8,6 +8,7 @@ use Rattle.pivot_check.proofs.Sweeps.{later_in_runs}
 use Rattle.pivot_check.proofs.committed.Committed.forget_step.Goals.{then-are_readers_garbage}
 use Rattle.pivot_check.proofs.committed.Committed.forget_step.Goals.{else-are_readers_garbage}
 use Rattle.pivot_check.specs.Inside.{postings_in}
+use Rattle.pivot_check.specs.Active.{reach_of}
 use Rattle.pivot_check.specs.Kept.{Facts, CommittedValue}
 use Rattle.pivot_check.specs.StandsFor.{StandsFor}
 
@@ -18,6 +19,7 @@ returns-clause-stands_for c = λ h s.
       postings = postings_in c.self.inside.runs.runs;
       oldest = c.self.inside.oldest;
       last = c.self.inside.last;
+      reach = reach_of c.self.inside.active;
     } in
     let was : StandsFor f h = subst (λ (v : CommittedValue). StandsFor v.facts h) (sym c.self.view_is) s in
     let after = c.forget_step-are_readers_garbage.new.self.readers in

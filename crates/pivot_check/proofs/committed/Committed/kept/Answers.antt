@@ -1,5 +1,5 @@
 use Rattle.pivot_check.proofs.committed.Committed.kept.Goals as goal
-use Rattle.std.proofs.Common.{◌≡◌, ◌+◌, Option, Some, None, ℕ, rules, ap, sym, subst, ◌∙◌, arith}
+use Rattle.std.proofs.Common.{◌≡◌, ◌+◌, Option, None, ℕ, rules, ap, sym, subst, ◌∙◌, arith}
 use Rattle.merging_runs.proofs.NextNumbers.{count_next, count_same}
 use Rattle.merging_runs.specs.Next.{IsNext}
 use Rattle.pivot_check.specs.Kept.{CommittedValue, is_kept}

@@ -1,11 +1,10 @@
 use Rattle.pivot_check.proofs.merges.WrittenRunRun.join.Goals as goal
 use Rattle.std.proofs.Common.{◌≡◌, ◌++◌, ℕ, true, length, subst, sym, ap, ◌∙◌, arith}
-use Rattle.std.specs.Prelude.{nat_lt, ◌&&◌}
 use Rattle.std.specs.Vec.{vec_capacity}
 use Rattle.pivot_check.proofs.Joined.{both_agree, joined, both_upto, none_left}
 use Rattle.pivot_check.specs.Inside.{in_run}
 use Rattle.pivot_check.specs.Parts.{live, left, live_in}
-use Rattle.pivot_check.specs.Postings.{Posting, keys_rise, are_upto}
+use Rattle.pivot_check.specs.Postings.{asked_in, keys_rise, are_upto}
 use Rattle.pivot_check.specs.declared.part.Part.{Part}
 
 pub invariant_of-self : goal.invariant_of-self
@@ -29,10 +28,10 @@ invariant_of-self c =
     }
 
 pub returns-clause-agree : goal.returns-clause-agree
-returns-clause-agree c = λ o t.
-    let above = λ (p : Posting). nat_lt o p.number && t p in
+returns-clause-agree c = λ begins b asks keys flagged.
+    let asked = asked_in keys b flagged in
     let was = c.args.self.now in
     let more = c.args.second in
     let none : left c.replace.new.dest ≡ 0 = ap left c.replace.ensures.after ∙ omega (arith, c.requires.room.0) in
-    both_agree above was more (live_in c.replace.new.dest c.replace.result more.made)
-    (joined above was more c.replace.new.dest c.replace.result c.requires.first c.requires.second none c.replace.ensures.value)
+    both_agree asked was more (live_in c.replace.new.dest c.replace.result more.made)
+    (joined asked was more c.replace.new.dest c.replace.result c.requires.first c.requires.second none c.replace.ensures.value)

@@ -1,10 +1,10 @@
 use Rattle.pivot_check.proofs.merges.WrittenRunRun.move_one.Goals as goal
 use Rattle.std.proofs.Common.{◌∙◌}
-use Rattle.std.specs.Prelude.{nat_lt, ◌&&◌}
+use Rattle.std.proofs.lemmas.Bool.{and_parts}
 use Rattle.pivot_check.proofs.Joined.{same_agrees}
-use Rattle.pivot_check.specs.Postings.{Posting}
+use Rattle.pivot_check.specs.Postings.{asked_in}
 
 pub returns-clause-agree : goal.returns-clause-agree
-returns-clause-agree c = λ t.
-    let above = λ (p : Posting). nat_lt c.args._oldest p.number && t p in
-    same_agrees above _ _ (c.free_room.ensures.same above ∙ c.move_least.ensures.same above)
+returns-clause-agree c = λ b asks keys flagged.
+    let asked = asked_in keys b flagged in
+    same_agrees asked _ _ (c.free_room.ensures.same asked ∙ c.move_least.ensures.same.same b (and_parts _ _ asks).1 keys flagged)

@@ -1,5 +1,5 @@
 use Rattle.pivot_check.proofs.merges.WrittenRunRun.next_number.Goals as goal
-use Rattle.std.proofs.Common.{ℕ, Bool, ◌||◌, ◌++◌, ap, ◌∙◌, sym, List}
+use Rattle.std.proofs.Common.{ℕ, ◌||◌, ◌++◌, ap, ◌∙◌, sym, List}
 use Rattle.std.proofs.lemmas.List.Folds.{list_any-append}
 use Rattle.std.specs.List.{list_any}
 use Rattle.std.specs.Prelude.{◌==◌}

@@ -1,12 +1,13 @@
 use Rattle.pivot_check.proofs.merges.WrittenRunRun.sweep.Goals as goal
-use Rattle.std.proofs.Common.{◌≡◌, ◌≤◌, ◌++◌, [], ◌&&◌, List, length, ap, sym, ◌∙◌, arith}
-use Rattle.std.specs.Prelude.{nat_lt}
+use Rattle.std.proofs.Common.{◌++◌, [], List, ap, sym, ◌∙◌, arith}
+use Rattle.std.proofs.lemmas.Bool.{leb-true}
 use Rattle.merging_runs.specs.RunSizes.{RunSize}
-use Rattle.pivot_check.proofs.Sweeps.{all_parts, asked_later, both_rise, fewer_in, fewer_left, upto_later}
+use Rattle.pivot_check.proofs.Writers.{asked_above}
+use Rattle.pivot_check.proofs.Sweeps.{all_parts, both_rise, fewer_in, fewer_left, upto_later}
 use Rattle.pivot_check.specs.Agreeing.{least-append, lesser_none}
 use Rattle.pivot_check.specs.Inside.{in_run}
-use Rattle.pivot_check.specs.Parts.{live, left, live_in}
-use Rattle.pivot_check.specs.Postings.{Posting, keys_rise, least, are_upto}
+use Rattle.pivot_check.specs.Parts.{live}
+use Rattle.pivot_check.specs.Postings.{Posting, asked_in, keys_rise, least, are_upto}
 
 pub invariant_of-self : goal.invariant_of-self
 invariant_of-self c =
@@ -36,15 +37,15 @@ returns-clause-from c = c.free_room.ensures.from c.args.oldest (omega arith)
     (omega (arith, c.sweep.ensures.number, c.sweep-2.ensures.number, c.sweep-3.ensures.number))
 
 pub returns-clause-agree : goal.returns-clause-agree
-returns-clause-agree c = λ t.
+returns-clause-agree c = λ b asks keys flagged.
     let was = c.args.self.now in
     let o = c.args.oldest in
-    let above = λ (p : Posting). nat_lt o p.number && t p in
+    let above = asked_in keys b flagged in
     let one = λ (ps : List Posting). least-append above ps [] ∙ lesser_none (least above ps) in
     one (in_run c.free_room.new.run) ∙ c.free_room.ensures.same above
     ∙ ap (least above) (all_parts o (live was.made) (live was.first) (live was.second) (live c.sweep-3.new.self) (live c.sweep.new.self)
     (live c.sweep-2.new.self) c.sweep-3.ensures.left c.sweep.ensures.left c.sweep-2.ensures.left)
-    ∙ asked_later o t (in_run was) ∙ sym (one (in_run was))
+    ∙ asked_above o b keys flagged (in_run was) (leb-true o b asks) ∙ sym (one (in_run was))
 
 pub returns-clause-swept : goal.returns-clause-swept
 returns-clause-swept c =

@@ -1,5 +1,5 @@
 use Rattle.pivot_check.proofs.part.Part.add_bounds.Goals as goal
-use Rattle.std.proofs.Common.{◌≡◌, ◌<◌, ◌∙◌, length, arith}
+use Rattle.std.proofs.Common.{◌<◌, ◌∙◌, length, arith}
 use Rattle.std.specs.Prelude.{◌/◌}
 use Rattle.std.specs.Vec.{vec_capacity}
 use Rattle.pivot_check.proofs.Sweeps.{counted_more}

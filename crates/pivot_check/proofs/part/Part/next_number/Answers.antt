@@ -1,5 +1,5 @@
 use Rattle.pivot_check.proofs.part.Part.next_number.Goals as goal
-use Rattle.std.proofs.Common.{◌≡◌, ◌-◌, ℕ, Bool, ◌||◌, ◌∙◌, List, take, drop, length, ap, subst}
+use Rattle.std.proofs.Common.{◌≡◌, ◌-◌, ◌||◌, ◌∙◌, List, take, drop, length, ap, subst}
 use Rattle.std.proofs.lemmas.List.{take_rest}
 use Rattle.std.specs.List.{list_any}
 use Rattle.std.specs.Prelude.{◌==◌}

@@ -1,8 +1,7 @@
 use Rattle.pivot_check.proofs.part.Part.sweep.Goals as goal
-use Rattle.std.proofs.Common.{◌≡◌, ◌-◌, ◌≤◌, length, take, drop, ap, sym, ◌∙◌, arith, rules}
+use Rattle.std.proofs.Common.{◌≡◌, length, take, drop, ap, sym, ◌∙◌, arith, rules}
 use Rattle.std.proofs.lemmas.Fn.{filter_same}
 use Rattle.std.specs.Prelude.{min, ◌/◌, count_by, nat_lt}
-use Rattle.std.specs.Vec.{vec_capacity}
 use Rattle.pivot_check.proofs.Sweeps.{bound_later, later_from, later_within, rises_later}
 use Rattle.pivot_check.specs.Bounds.{are_from_bound}
 use Rattle.pivot_check.specs.Postings.{keys_rise, Posting, later_than}

@@ -1,0 +1,7 @@
+-- Who may still ask, as it is held.
+use Rattle.pivot_check.specs.Kept.{Reach}
+use Rattle.pivot_check.specs.declared.active.ActiveBegins.{ActiveBegins}
+
+-- who may still ask
+abbrev pub reach_of : ActiveBegins → Reach
+reach_of a = record { begins = a.begins.items; since = a.since }
