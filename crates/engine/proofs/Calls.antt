@@ -1,7 +1,7 @@
 -- What each kind of call does to the states that an engine stands for.
 use Rattle.std.proofs.Common.{◌≡◌, ◌<◌, ◌≤◌, ◌↔◌, ℕ, Bool, true, false, T, List, [], ◌∷◌, ◌++◌, Option, Some, None}
 use Rattle.std.proofs.Common.{refl, sym, ap, subst, ◌∙◌, length, arith, ◌||◌}
-use Rattle.std.proofs.lemmas.Bool.{lt-ltb, le-ltb, or_left, iff_false, false_from_ne_true}
+use Rattle.std.proofs.lemmas.Bool.{le-leb, lt-ltb, le-ltb, or_left, iff_false, false_from_ne_true}
 use Rattle.std.proofs.lemmas.Bool.Decides.{nat_tests}
 use Rattle.std.proofs.lemmas.Cmp.{nat_cmp_total}
 use Rattle.std.proofs.lemmas.Grind.{common_steps}
@@ -27,7 +27,7 @@ use Rattle.model.specs.declared.refusals.Refusal.TheVariants.{AlreadyOpen, Store
 use Rattle.sector.specs.declared.device.Sectors.{Ghosts}
 use Rattle.commit_log.specs.LogState.{is_log_stopped}
 use Rattle.versions.specs.Laws.{HoldingLaw}
-use Rattle.versions.specs.Meaning.{map_seen}
+use Rattle.versions.specs.Meaning.{is_among, map_seen}
 use Rattle.snapshot.specs.Made.{HasMade, WhereMade, WhereSeen, is_refused}
 use Rattle.snapshot.specs.View.{View, new_view}
 use Rattle.engine.proofs.Sessions.{IsFound, beside_none, beside_some, beside_insert, beside_remove, beside_set}
@@ -130,6 +130,8 @@ module _ {D : Type 0} {g : Ghosts D} where
       let within = h.history.versions.within in
       let kept = h.kept in
       let made = fresh (map_at m.base m.history (last m)) (reached_map m (last m) h.reached) in
+      let asks = or_left (nat_le facts.reach.since facts.last) (is_among facts.reach.begins facts.last)
+      (le-leb facts.reach.since facts.last h.history.committed.now) in
       let new : IsRunning facts active m.base m.history (new_view facts.last) run = grind (arith, common_steps, nat_tests) in
       let wider : (t : View) (r : Running) → IsRunning facts h.active m.base m.history t r → IsRunning facts active m.base m.history t r =
       λ t r k. grind (arith, common_steps, or_left) in

@@ -30,7 +30,7 @@ use Rattle.versions.specs.StandsFor.{StandsFor as VersionsStandFor}
 use Rattle.snapshot.specs.Made.{HasMade, is_refused}
 use Rattle.snapshot.specs.View.{View}
 use Rattle.pivot_check.proofs.SameHistories.{in_reach_still, stand_back, still_cleared}
-use Rattle.pivot_check.specs.Kept.{Facts, CommittedValue, IsInReach}
+use Rattle.pivot_check.specs.Kept.{Facts, CommittedValue, IsInReach, KeepsReach, may_ask}
 use Rattle.pivot_check.specs.StandsFor.{IsRecordOf, IsVerdict, IsClear, IsCleared, StandForSame}
 use Rattle.pivot_check.specs.StandsFor.{StandsFor as CommittedStandsFor}
 use Rattle.pivot_check.specs.declared.verdict.Cleared.{Cleared}
@@ -38,7 +38,7 @@ use Rattle.engine.proofs.Calls.{Active, found_open, leave_call}
 use Rattle.engine.proofs.Sessions.{IsFound, beside_weaker}
 use Rattle.engine.proofs.Steps.{step_is, reached_by, store_full, store_fault, store_joined, map_at_next}
 use Rattle.engine.specs.Changes.{entry_of, EndsTransaction, WritesSomething, HasLogRoom, IsLogged, IsLogStopped}
-use Rattle.engine.specs.Changes.{sectors_taken, AddsOneAtMost, records_added}
+use Rattle.engine.specs.Changes.{sectors_taken, AddsOneAtMost}
 use Rattle.engine.specs.HistoryValue.{HistoryValue, IsSameHistory, Joins}
 use Rattle.engine.specs.Judgements.{CommitIsRefused, IsToJudge, IsToCommit}
 use Rattle.engine.specs.Meaning.{StandsForSame, Leads, IsNotRefused, IsReadOnly, IsLeftByCommit, has_risen}
@@ -294,11 +294,12 @@ module _ {D : Type 0} {g : Ghosts D} where
       → IsLogged e.log log t.writes
       → (g.keeps_model → WhereStored e.log (λ map. IsStored log (after_writes map t.writes))) → IsSameHistory e.history history
       → EndsTransaction (record e { log = log; history = history }) e' s
-      → Some u ≡ entry_of s e → new.committed.facts.last ≡ e'.history.committed.facts.last + 1 → new.committed.facts.oldest ≡ e'.history.committed.facts.oldest
+      → Some u ≡ entry_of s e → new.committed.facts.last ≡ e'.history.committed.facts.last + 1
+      → KeepsReach e'.history.committed.facts new.committed.facts
       → Joins e'.history new u
       → (WritesSomething t.writes → failed ≡ false) → n ≡ e'.history.committed.facts.last + 1
       → Leads e (record e' { history = new }) s Commit failed (Some (Number n))
-  joined e e' log history new s t u failed n j logged stored same leaves taken last' oldest' joins quiet number m h =
+  joined e e' log history new s t u failed n j logged stored same leaves taken last' reach' joins quiet number m h =
       let at = found_open e m s t h j.asked.entry in
       let r : Record = record_to_commit m at.run in
       let join : State × Response = join_history m s r (sectors_taken t.writes) in
@@ -316,7 +317,11 @@ module _ {D : Type 0} {g : Ghosts D} where
       let counted : suc (length m.history) ≡ n = omega arith in
       let later : (v : View) (x : Running) → IsRunning e'.history.committed.facts left.active m.base m.history v x
       → IsRunning new.committed.facts left.active m.base (m.history ++ r ∷ []) v x =
-      λ v x k. grind (arith, common_steps, map_at-append m.base m.history r x.begin) in
+      λ v x k.
+      let oldest' = reach'.oldest in
+      let asks = ap (λ reach. may_ask reach v.begin) reach'.reach ∙ k.in_reach.asks in
+      grind (arith, common_steps, map_at-append m.base m.history r x.begin) in
+      let oldest' = reach'.oldest in
       let running' = beside_weaker (Active (record e' { log = e.log }) (leave m s) left)
       (λ v x. IsRunning new.committed.facts left.active m.base (m.history ++ r ∷ []) v x) later e'.running.entries (leave m s).running left.running in
       let reached' = reached_by m s Commit failed join is h.reached in

@@ -1,7 +1,7 @@
 -- What a reclaim leaves of an engine: what it stands for, and what it keeps.
-use Rattle.std.proofs.Common.{◌≡◌, ◌≤◌, ◌&&◌, ℕ, Bool, true, false, List, [], ◌∷◌, refl, ap, sym, subst, ◌∙◌, length}
+use Rattle.std.proofs.Common.{◌≡◌, ◌≤◌, ◌&&◌, ℕ, Bool, true, List, [], ◌∷◌, refl, ap, sym, subst, ◌∙◌, length}
 use Rattle.std.proofs.Common.{arith, map}
-use Rattle.std.proofs.lemmas.Bool.{both_ways, or_left, or_right, and_from, eq-eqb}
+use Rattle.std.proofs.lemmas.Bool.{or_left, or_right, and_from, eq-eqb}
 use Rattle.std.proofs.lemmas.Bool.Decides.{nat_tests}
 use Rattle.std.proofs.lemmas.Grind.{common_steps}
 use Rattle.std.proofs.lemmas.List.{nil_from_length}
@@ -9,14 +9,14 @@ use Rattle.std.proofs.lemmas.List.Elements.{All-from_recursion, recursion_from_A
 use Rattle.std.specs.BTreeMap.{values}
 use Rattle.std.specs.List.{AllByRecursion}
 use Rattle.std.specs.Map.{values_of}
-use Rattle.std.specs.Prelude.{max, ◌==◌}
+use Rattle.std.specs.Prelude.{max, nat_le, ◌==◌}
 use Rattle.model.specs.History.{Record}
 use Rattle.model.specs.Machine.{State, Running}
 use Rattle.model.specs.Map.{KeyMap}
 use Rattle.sector.specs.declared.device.Sectors.{Ghosts}
 use Rattle.versions.specs.Meaning.{is_among}
 use Rattle.snapshot.specs.View.{View}
-use Rattle.pivot_check.specs.Kept.{CommittedValue, Facts, HasForgotten}
+use Rattle.pivot_check.specs.Kept.{Facts, HasForgotten, may_ask}
 use Rattle.engine.specs.HistoryValue.{HistoryValue, KeepsActive}
 use Rattle.engine.specs.Least.{IsLeast}
 use Rattle.engine.specs.Meaning.{open_begins, HasForgottenOld}
@@ -28,15 +28,25 @@ begins_of es = map (λ t. t.begin) (values_of es)
 
 module _ (facts : Facts) (active : ℕ → Bool) (base : KeyMap) (history : List Record) where
   still_running : (facts' : Facts) (bs : List ℕ) (oldest : ℕ) → facts'.last ≡ facts.last → facts'.oldest ≡ max facts.oldest oldest
-      → (es : List (ℕ × View)) (rs : List (ℕ × Running)) → AllByRecursion (λ t. oldest ≤ t.begin) (values_of es)
+      → facts'.reach ≡ record { begins = bs; since = facts.last } → (es : List (ℕ × View)) (rs : List (ℕ × Running))
+      → AllByRecursion (λ t. oldest ≤ t.begin) (values_of es)
       → ((n : ℕ) → is_among (begins_of es) n ≡ true → is_among bs n ≡ true) → AreRunning facts active base history es rs
       → AreRunning facts' (λ n. active n && is_among bs n) base history es rs
-  still_running facts' bs oldest l o [] [] low among h = tt
-  still_running facts' bs oldest l o (e ∷ es) (r ∷ rs) low among h =
+  still_running facts' bs oldest l o a [] [] low among h = tt
+  still_running facts' bs oldest l o a (e ∷ es) (r ∷ rs) low among h =
       let own = among e.1.begin (or_left (e.1.begin == e.1.begin) (is_among (begins_of es) e.1.begin) (eq-eqb e.1.begin e.1.begin refl)) in
-      let rest = still_running facts' bs oldest l o es rs low.1 (λ n t. among n (or_right (e.1.begin == n) (is_among (begins_of es) n) t)) h.1 in
+      let asks = ap (λ reach. may_ask reach e.1.begin) a ∙ or_right (nat_le facts.last e.1.begin) (is_among bs e.1.begin) own in
+      let rest = still_running facts' bs oldest l o a es rs low.1 (λ n t. among n (or_right (e.1.begin == n) (is_among (begins_of es) n) t)) h.1 in
       grind (arith, common_steps, and_from)
-  still_running facts' bs oldest l o b5 b6 low among h = absurd h
+  still_running facts' bs oldest l o a b5 b6 low among h = absurd h
+
+  -- each may ask
+  begins_ask : (es : List (ℕ × View)) (rs : List (ℕ × Running)) → AreRunning facts active base history es rs
+      → AllByRecursion (λ b. may_ask facts.reach b ≡ true) (begins_of es)
+  begins_ask [] [] h = tt
+  begins_ask (e ∷ es) (r ∷ rs) h = (h.0.1.in_reach.asks, begins_ask es rs h.1)
+  begins_ask (e ∷ es) [] h = absurd h
+  begins_ask [] (r ∷ rs) h = absurd h
 
   begins_same : (es : List (ℕ × View)) (rs : List (ℕ × Running)) → AreRunning facts active base history es rs → begins_of es ≡ map (λ r. r.1.begin) rs
   begins_same [] [] h = refl
@@ -59,11 +69,15 @@ module _ {D : Type 0} {g : Ghosts D} (e : Engine D g) (new : HistoryValue) (olde
     (least : IsLeast (λ t. t.begin) e.history.committed.facts.last (values e.running) oldest)
     (numbers : length e.running.entries ≤ 64 → bs ≡ begins_of e.running.entries) where
   pub reclaimed_stands : KeepsActive e.history new bs → new.committed.facts.last ≡ e.history.committed.facts.last
-      → new.committed.facts.oldest ≡ max e.history.committed.facts.oldest oldest → (m : State) → StandsFor e m → StandsFor (record e { history = new }) m
-  reclaimed_stands stands l o m h =
+      → new.committed.facts.oldest ≡ max e.history.committed.facts.oldest oldest
+      → new.committed.facts.reach ≡ record { begins = bs; since = e.history.committed.facts.last } → (m : State) → StandsFor e m
+      → StandsFor (record e { history = new }) m
+  reclaimed_stands stands l o a m h =
       let is = h.history.committed.last in let kept = h.kept in let below = least.below_last in
-      let after = stands h.active m.base m.history h.history in
-      let running = still_running e.history.committed.facts h.active m.base m.history new.committed.facts bs oldest l o e.running.entries m.running
+      let ask = subst (λ ns. AllByRecursion (λ b. may_ask e.history.committed.facts.reach b ≡ true) ns) (sym (numbers h.few_open))
+      (begins_ask e.history.committed.facts h.active m.base m.history e.running.entries m.running h.running) in
+      let after = stands h.active m.base m.history h.history ask in
+      let running = still_running e.history.committed.facts h.active m.base m.history new.committed.facts bs oldest l o a e.running.entries m.running
       (recursion_from_All (λ t. oldest ≤ t.begin) (values e.running) least.below) (λ n t. subst (λ ns. is_among ns n ≡ true) (sym (numbers h.few_open)) t)
       h.running in
       grind (arith, common_steps)

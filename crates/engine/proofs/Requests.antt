@@ -1,6 +1,6 @@
 -- What a request of an open transaction is answered, and what it makes of the transaction.
 use Rattle.model.specs.declared.refusals.Refusal.TheVariants as refusals
-use Rattle.std.proofs.Common.{arith, ◌≡◌, ℕ, Some, None, Err, refl, sym, ap, subst, ◌∙◌, List, [], ◌↔◌, Bool, true}
+use Rattle.std.proofs.Common.{arith, ◌≡◌, ℕ, Some, None, Err, refl, sym, ap, subst, ◌∙◌, List, [], ◌↔◌, Bool}
 use Rattle.std.proofs.Common.{false, length, ◌∷◌}
 use Rattle.std.proofs.lemmas.Bool.Decides.{nat_tests}
 use Rattle.std.proofs.lemmas.Grind.{common_steps}

@@ -1,6 +1,6 @@
 -- What has committed, as contracts see it: the versions of its writes, and what is kept to check later commits.
 use Rattle.std.specs.List.{AllByRecursion}
-use Rattle.std.specs.Prelude.{◌≡◌, ◌↔◌, ℕ, ◌+◌, ◌&&◌, Bool, IsTrue, max, nat_lt, List, [], ◌∷◌, ◌++◌}
+use Rattle.std.specs.Prelude.{◌≡◌, ◌↔◌, ℕ, ◌+◌, ◌&&◌, Bool, true, IsTrue, max, nat_lt, List, [], ◌∷◌, ◌++◌}
 use Rattle.model.specs.History.{Record}
 use Rattle.model.specs.Map.{KeyMap}
 use Rattle.versions.specs.Chains.{ChainsValue, IsPrepared}
@@ -8,7 +8,7 @@ use Rattle.versions.specs.Listings.{IsClassified}
 use Rattle.versions.specs.Meaning.{IsSameMeaning, garbage_of, is_among}
 use Rattle.versions.specs.StandsFor.{StandsFor as VersionsStandFor}
 use Rattle.snapshot.specs.View.{View}
-use Rattle.pivot_check.specs.Kept.{CommittedValue, HasForgotten, HasRoom, IsInReach, garbage_runs}
+use Rattle.pivot_check.specs.Kept.{CommittedValue, HasForgotten, HasRoom, IsInReach, garbage_runs, may_ask}
 use Rattle.pivot_check.specs.StandsFor.{StandsFor as CommittedStandsFor, StandForSame, IsRecordOf}
 
 pub record HistoryValue : Type 0 where
@@ -28,10 +28,11 @@ Joins old new t = (active : ℕ → Bool) (base : KeyMap) (history : List Record
     → IsInReach old.committed.facts t → IsRecordOf t (old.committed.facts.last + 1) r
     → HistoryStandsFor new active base (history ++ r ∷ [])
 
--- what the history stands for stays, with those of the active numbers that are among these
+-- what the history stands for stays, with those of the active numbers that are among these, where one who began at one
+-- of these may ask
 abbrev pub KeepsActive : HistoryValue → HistoryValue → List ℕ → Type 0
 KeepsActive old new bs = (active : ℕ → Bool) (base : KeyMap) (history : List Record)
-    → HistoryStandsFor old active base history
+    → HistoryStandsFor old active base history → AllByRecursion (λ b. may_ask old.committed.facts.reach b ≡ true) bs
     → HistoryStandsFor new (λ n. active n && is_among bs n) base history
 
 -- no group is unclassified after a reclaim, where these numbers are active
@@ -41,12 +42,13 @@ Classifies old new bs = (active : ℕ → Bool) (base : KeyMap) (history : List 
     → ((n : ℕ) → IsTrue (is_among bs n) → IsTrue (active n)) → AllByRecursion IsClassified new.versions.groups
 
 -- What the history stands for stays, with the last commit number, and no group is unclassified. The commits up to that
--- number are asked for no more.
+-- number are asked for no more, and no one may ask but who began at one of these numbers, or begins now.
 pub record Reclaims (bs : List ℕ) (n : ℕ) (old new : HistoryValue) : Type 0 where
   pub stands : KeepsActive old new bs
   pub last : new.committed.facts.last ≡ old.committed.facts.last
   pub oldest : new.committed.facts.oldest ≡ max old.committed.facts.oldest n
   pub forgotten : HasForgotten n new.committed.facts
+  pub reach : new.committed.facts.reach ≡ record { begins = bs; since = old.committed.facts.last }
   pub classified : Classifies old new bs
 
 -- there is garbage left where these numbers are active

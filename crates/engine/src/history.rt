@@ -1,8 +1,8 @@
 //! What has committed: the versions of each key, and what later commits are checked against.
-ghost use Rattle.std.specs.Prelude.{◌≡◌, ◌+◌, ◌-◌, ◌^◌, ◌<◌, ◌≤◌, false, true, [], IfOk, OnOk};
+ghost use Rattle.std.specs.Prelude.{◌≡◌, ◌+◌, ◌-◌, ◌^◌, ◌<◌, ◌≤◌, false, true, [], length, IfOk, OnOk};
 ghost use Rattle.model.specs.Map.{IsInBounds};
 ghost use Rattle.versions.specs.Meaning.{IsReclaimed, IsReclaimedInPart};
-ghost use Rattle.pivot_check.specs.Kept.{IsEmpty, FreesRuns, KeepsNoneUpto};
+ghost use Rattle.pivot_check.specs.Kept.{IsEmpty, FreesRuns, KeepsNoneUpto, KeepsReach};
 ghost use Rattle.pivot_check.specs.StandsFor.{IsCleared};
 ghost use Rattle.engine.specs.HistoryValue.{HistoryStandsFor, IsSameHistory, IsReady, Joins, Reclaims, is_garbage};
 
@@ -73,7 +73,7 @@ impl History {
         requires few { self.old.committed.facts.last < 2 ^ 63 - 1 }
         ensures number { result ≡ self.old.committed.facts.last + 1 }
         ensures last { self.new.committed.facts.last ≡ self.old.committed.facts.last + 1 }
-        ensures oldest { self.new.committed.facts.oldest ≡ self.old.committed.facts.oldest }
+        ensures reach { KeepsReach self.old.committed.facts self.new.committed.facts }
         ensures stands { Joins self.old self.new transaction }
     {
         let number = self.committed.last() + 1;
@@ -89,7 +89,8 @@ impl History {
     /// A step of what `reclaim` does, which is short: those of `Versions::reclaim_step` and `Committed::forget_step`. Answers whether it
     /// has to be called again until all is done.
     pub(crate) fn reclaim_step(&mut self, begins: &[u64], oldest: u64) -> bool
-        requires { oldest ≤ self.old.committed.facts.last }
+        requires oldest { oldest ≤ self.old.committed.facts.last }
+        requires few { length begins.now ≤ 64 }
         ensures reclaims { Reclaims begins.now oldest self.old self.new }
         ensures reclaimed { IsReclaimedInPart self.old.versions self.new.versions begins.now }
         ensures frees_runs { FreesRuns self.old.committed self.new.committed }
@@ -97,19 +98,23 @@ impl History {
         ensures kept { result ≡ false → KeepsNoneUpto self.new.committed.facts.oldest self.new.committed.facts }
     {
         let garbage_versions = self.versions.reclaim_step(begins);
+        self.committed.keep_active(begins);
         let garbage_runs = self.committed.forget_step(oldest);
         garbage_versions || garbage_runs
     }
 
     /// Drops the versions that are neither the newest of their keys nor seen from one of the numbers, as `Versions::reclaim` does, and what
-    /// was kept of commits with a number of at most `oldest`, as `Committed::forget` does.
+    /// was kept of commits with a number of at most `oldest`, as `Committed::forget` does. From then on merges drop what none asks for who
+    /// began at one of the numbers.
     pub(crate) fn reclaim(&mut self, begins: &[u64], oldest: u64)
-        requires { oldest ≤ self.old.committed.facts.last }
+        requires oldest { oldest ≤ self.old.committed.facts.last }
+        requires few { length begins.now ≤ 64 }
         ensures reclaims { Reclaims begins.now oldest self.old self.new }
         ensures reclaimed { IsReclaimed self.old.versions self.new.versions begins.now }
         ensures kept { KeepsNoneUpto self.new.committed.facts.oldest self.new.committed.facts }
     {
         self.versions.reclaim(begins);
+        self.committed.keep_active(begins);
         self.committed.forget(oldest);
     }
 }

@@ -67,7 +67,7 @@ returns-clause-step g c =
     let leaves = c.end-ended.ensures.leaves in
     joined c.args.self.now c.end-ended.new.self c.carry_out.new.log c.carry_out.new.history c.join.new.self c.args.s _ c.end-ended.result _ _ j
     c.in-Ok.ensures.logged c.in-Ok.ensures.stored c.carry_out.ensures.same leaves
-    c.end-ended.ensures.taken c.join.ensures.last c.join.ensures.oldest c.join.ensures.stands
+    c.end-ended.ensures.taken c.join.ensures.last c.join.ensures.reach c.join.ensures.stands
     (λ some. rw leaves.store.log (not_risen _ _ (c.in-Ok.ensures.logged.no_fault some))) c.join.ensures.number
 
 pub returns-clause-appends : goal.returns-clause-appends

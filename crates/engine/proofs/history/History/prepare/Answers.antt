@@ -9,7 +9,7 @@ returns-in_err-prepare-clause-same c =
       versions = c.prepare.ensures.same;
       stands = c.prepare.ensures.stands;
       committed =
-          record { stands = λ history. (λ s. s, λ s. s); oldest = refl; last = refl };
+          record { stands = λ history. (λ s. s, λ s. s); oldest = refl; last = refl; reach = refl };
     })
 
 pub returns-clause-same : goal.returns-clause-same

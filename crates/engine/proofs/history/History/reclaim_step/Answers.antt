@@ -1,20 +1,32 @@
 use Rattle.engine.proofs.history.History.reclaim_step.Goals as goal
-use Rattle.std.proofs.Common.{ℕ, Bool, List, subst, sym, rules}
+use Rattle.std.proofs.Common.{◌≡◌, ◌∙◌, ℕ, Bool, true, List, ap, subst, sym}
+use Rattle.std.specs.List.{AllByRecursion}
+use Rattle.std.specs.Prelude.{max}
 use Rattle.model.specs.History.{Record}
 use Rattle.model.specs.Map.{KeyMap}
+use Rattle.pivot_check.specs.Kept.{CommittedValue, may_ask}
 use Rattle.engine.specs.HistoryValue.{HistoryValue, HistoryStandsFor}
 
 pub returns-clause-reclaims : goal.returns-clause-reclaims
 returns-clause-reclaims c =
     let before = λ (active : ℕ → Bool) (base : KeyMap) (history : List Record) (h : HistoryStandsFor c.args.self.now active base history).
     subst (λ (v : HistoryValue). HistoryStandsFor v active base history) (sym c.self.view_is) h in
+    let inside = ap (λ (v : HistoryValue). v.committed) c.self.view_is in
+    let last = ap (λ (v : CommittedValue). v.facts.last) c.keep_active.ensures.asked ∙ ap (λ (v : CommittedValue). v.facts.last) inside in
     record {
-      stands = λ active base history h. record {
+      stands = λ active base history h all. record {
         versions = c.reclaim_step-garbage_versions.ensures.stands active base history (before active base history h).versions;
-        committed = c.forget_step-garbage_runs.ensures.stands_for history (before active base history h).committed;
+        committed = c.forget_step-garbage_runs.ensures.stands_for history
+            (c.keep_active.ensures.stands_for
+            (subst (λ (v : CommittedValue). AllByRecursion (λ b. may_ask v.facts.reach b ≡ true) c.args.begins.now) (sym inside) all) history
+            (before active base history h).committed);
       };
-      last = search rules;
-      oldest = search rules;
+      last = c.forget_step-garbage_runs.ensures.forgets.last ∙ last;
+      oldest = c.forget_step-garbage_runs.ensures.forgets.oldest
+          ∙ ap (λ n. max n c.args.oldest) (ap (λ (v : CommittedValue). v.facts.oldest) c.keep_active.ensures.asked
+          ∙ ap (λ (v : CommittedValue). v.facts.oldest) inside);
+      reach = c.forget_step-garbage_runs.ensures.forgets.reach ∙ ap (λ (v : CommittedValue). v.facts.reach) c.keep_active.ensures.asked
+          ∙ ap (λ (v : CommittedValue). record { begins = c.args.begins.now; since = v.facts.last }) inside;
       forgotten = c.forget_step-garbage_runs.ensures.forgotten;
       classified = λ active base history h among. c.reclaim_step-garbage_versions.ensures.classified active base history (before active base history h).versions
           among;
