@@ -1,12 +1,13 @@
 -- A posting is dropped where another answers whoever may ask in its place.
-use Rattle.std.proofs.Common.{◌≡◌, ◌+◌, ℕ, zero, suc, length, Bool, true, ◌&&◌, ◌||◌, List, [], ◌∷◌, ◌++◌, Option}
+use Rattle.std.proofs.Common.{◌≡◌, ◌+◌, ℕ, zero, suc, length, Bool, true, false, ◌&&◌, ◌||◌, List, [], ◌∷◌, ◌++◌}
+use Rattle.std.proofs.Common.{refl, Option}
 use Rattle.std.proofs.Common.{Some, None, sym, ap, ◌∙◌, arith}
 use Rattle.std.proofs.lemmas.Bool.{and_parts}
 use Rattle.std.proofs.lemmas.Bool.Decides.{nat_tests}
 use Rattle.std.proofs.lemmas.Grind.{common_steps}
 use Rattle.std.proofs.lemmas.List.{append_assoc}
 use Rattle.std.proofs.lemmas.List.Folds.{list_all-append}
-use Rattle.std.specs.List.{list_all, list_any}
+use Rattle.std.specs.List.{AllByRecursion, list_all, list_any}
 use Rattle.std.specs.Prelude.{slice_get}
 use Rattle.std.specs.Ordering.{is_le}
 use Rattle.std.specs.Prelude.{not, nat_le, nat_lt, ◌==◌, if◌then◌else◌}
@@ -16,7 +17,8 @@ use Rattle.model.specs.Map.{Bytes, is_same_key, key_cmp}
 use Rattle.pivot_check.specs.Agreeing.{lesser_assoc, lesser_none, least-append}
 use Rattle.pivot_check.specs.Kept.{Reach, may_ask}
 use Rattle.pivot_check.specs.Postings.{AnswerForAll, Posting, asked_in, keys_rise, least, lesser}
-use Rattle.pivot_check.specs.Redundant.{is_redundant, is_redundant_behind, is_undivided}
+use Rattle.pivot_check.specs.Redundant.{IsWithin, MakesFor, are_spaced, is_redundant, is_redundant_behind}
+use Rattle.pivot_check.specs.Redundant.{is_undivided}
 
 -- ---- who may ask
 
@@ -78,7 +80,7 @@ last_decides reach (o ∷ r ∷ ps) p q (suc n) e h = last_decides reach (r ∷ 
 none_of_three : (o p q : Option ℕ) → lesser o (lesser p q) ≡ None → lesser o q ≡ None
 none_of_three o p q h = grind arith
 
-pub dropped_answers : (reach : Reach) (ms xs xs' : List Posting) (q : Posting) → xs ≡ q ∷ xs' → is_redundant_behind reach ms q ≡ true
+dropped_answers : (reach : Reach) (ms xs xs' : List Posting) (q : Posting) → xs ≡ q ∷ xs' → is_redundant_behind reach ms q ≡ true
     → AnswerForAll (may_ask reach) (ms ++ xs') (ms ++ xs)
 dropped_answers reach ms xs xs' q is h = record {
   same = λ b asks keys flagged.
@@ -108,11 +110,44 @@ rises_without ms xs xs' q is h = by ms (ap (λ l. keys_rise (ms ++ l)) (sym is) 
 
 -- ---- the first of xs is moved
 
-pub moved_answers : (begins : ℕ → Bool) (ms ms' xs xs' : List Posting) (q : Posting) → xs ≡ q ∷ xs' → ms' ≡ ms ++ q ∷ []
+moved_answers : (begins : ℕ → Bool) (ms ms' xs xs' : List Posting) (q : Posting) → xs ≡ q ∷ xs' → ms' ≡ ms ++ q ∷ []
     → AnswerForAll begins (ms' ++ xs') (ms ++ xs)
 moved_answers begins ms ms' xs xs' q is added =
     let same = ap (λ l. l ++ xs') added ∙ append_assoc ms (q ∷ []) xs' ∙ ap (λ l. ms ++ l) (sym is) in
     record { same = λ b asks keys flagged. ap (least (asked_in keys b flagged)) same; none = λ c none. ap (least c) same ∙ none }
+
+-- ---- none of what was made is redundant
+
+-- one that is outside for those who might ask once is so for those who may now
+still_outside : (once : Reach) (n m : ℕ) (bs : List ℕ) → is_undivided once n m ≡ true → AllByRecursion (λ b. may_ask once b ≡ true) bs
+    → list_all (λ k. nat_lt k n || nat_le m k) bs ≡ true
+still_outside once n m [] h all = refl
+still_outside once n m (b ∷ bs) h all = grind (arith, nat_tests, began_before once n m b h all.0, still_outside once n m bs h all.1)
+
+still_undivided : (once reach : Reach) (n m : ℕ) → IsWithin once reach → is_undivided once n m ≡ true → is_undivided reach n m ≡ true
+still_undivided once reach n m within h =
+    let low = within.since in
+    grind (arith, nat_tests, still_outside once n m reach.begins h within.begins)
+
+still_redundant : (once reach : Reach) (p q : Posting) → IsWithin once reach → is_redundant reach p q ≡ false → is_redundant once p q ≡ false
+still_redundant once reach p q within h = grind (arith, still_undivided once reach p.number q.number within)
+
+pushed_spaced : (once reach : Reach) (ms : List Posting) (q : Posting) → IsWithin once reach → is_redundant_behind reach ms q ≡ false
+    → are_spaced once ms ≡ true → are_spaced once (ms ++ q ∷ []) ≡ true
+pushed_spaced once reach [] q within h spaced = refl
+pushed_spaced once reach (p ∷ []) q within h spaced = grind (arith, still_redundant once reach p q within h)
+pushed_spaced once reach (p ∷ o ∷ ps) q within h spaced = grind (arith, pushed_spaced once reach (o ∷ ps) q within h)
+
+pub moved_makes : (reach : Reach) (ms ms' xs xs' : List Posting) (q : Posting) → xs ≡ q ∷ xs' → ms' ≡ ms ++ q ∷ []
+    → is_redundant_behind reach ms q ≡ false → MakesFor reach ms ms' (ms' ++ xs') (ms ++ xs)
+moved_makes reach ms ms' xs xs' q is added h = record {
+  answers = moved_answers (may_ask reach) ms ms' xs xs' q is added;
+  spaced = λ once within spaced. ap (are_spaced once) added ∙ pushed_spaced once reach ms q within h spaced;
+}
+
+pub dropped_makes : (reach : Reach) (ms xs xs' : List Posting) (q : Posting) → xs ≡ q ∷ xs' → is_redundant_behind reach ms q ≡ true
+    → MakesFor reach ms ms (ms ++ xs') (ms ++ xs)
+dropped_makes reach ms xs xs' q is h = record { answers = dropped_answers reach ms xs xs' q is h; spaced = λ once within spaced. spaced }
 
 -- ---- beside others
 

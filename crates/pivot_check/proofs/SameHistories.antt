@@ -52,8 +52,12 @@ same_from was f g is readers postings oldest last reach =
 
 -- the other way round
 pub stand_back : (f g : Facts) → StandForSame f g → StandForSame g f
-stand_back f g same = record { stands = λ history. ((same.stands history).1, (same.stands history).0); oldest = sym same.oldest; last = sym same.last;
-    reach = sym same.reach }
+stand_back f g same = record {
+  stands = λ history. ((same.stands history).1, (same.stands history).0);
+  oldest = sym same.oldest;
+  last = sym same.last;
+  reach = sym same.reach;
+}
 
 -- a transaction stays in reach, and cleared
 pub in_reach_still : (f g : Facts) (t : View) → StandForSame f g → IsInReach f t → IsInReach g t

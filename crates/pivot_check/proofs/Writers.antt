@@ -152,7 +152,7 @@ pub written : (reach : Reach) (o b : ℕ) (ps : List Posting) (rs : List KeptRec
     is_key_written (filter (λ r. nat_lt b r.commit) rs) k ≡ is_some (least (asked_of (OfKey k) b false) ps)
 written reach o b ps rs k are le asks rise =
     any_is_found (λ r. list_any (is_same_key k) r.keys) (filter (λ r. nat_lt b r.commit) rs)
-        ∙ ap is_some (by_keys (is_same_key k) reach o b ps rs are le asks rise)
+    ∙ ap is_some (by_keys (is_same_key k) reach o b ps rs are le asks rise)
 
 -- the first of them that has written what the marks cover
 pub target : (reach : Reach) (o b : ℕ) (ps : List Posting) (rs : List KeptRecord) (t : View) → AreWriters reach o ps rs → o ≤ b → may_ask reach b ≡ true

@@ -2,8 +2,8 @@
 ghost use Rattle.std.specs.Prelude.{◌≡◌, ◌<◌, ◌+◌, ◌++◌, IsTrue, true, false, length};
 ghost use Rattle.std.specs.Vec.{vec_capacity};
 ghost use Rattle.pivot_check.specs.Active.{reach_of};
-ghost use Rattle.pivot_check.specs.Kept.{may_ask};
-ghost use Rattle.pivot_check.specs.Postings.{AnswerForAll, keys_rise};
+ghost use Rattle.pivot_check.specs.Postings.{keys_rise};
+ghost use Rattle.pivot_check.specs.Redundant.{MakesFor};
 ghost use Rattle.pivot_check.specs.Parts.{live, left, live_in};
 ghost use Rattle.pivot_check.specs.Merging.{BeginsBelow, RiseBehind, StaysRising, TakesPosting};
 
@@ -32,7 +32,7 @@ fn move_first(from: &mut Part, to: &mut Part, active: &ActiveBegins)
     requires some { 0 < left from.old }
     requires rising { IsTrue (keys_rise (live to.old ++ live from.old)) }
     requires room { length to.old.written.items < vec_capacity to.old.written }
-    ensures same { AnswerForAll (may_ask (reach_of active.now)) (live to.new ++ live from.new)
+    ensures made { MakesFor (reach_of active.now) (live to.old) (live to.new) (live to.new ++ live from.new)
         (live to.old ++ live from.old) }
     ensures rising { IsTrue (keys_rise (live to.new ++ live from.new)) }
     ensures other { StaysRising (live from.old) (live to.old) (live to.new) }
@@ -45,12 +45,12 @@ fn move_first(from: &mut Part, to: &mut Part, active: &ActiveBegins)
 }
 
 // Moves the posting of a least key of two parts behind a third, in the room that it has, or drops it. Whoever may ask is answered by all
-// three as before.
+// three as before, and of two postings of one key beside one another in the third the first doesn't answer in the place of the second.
 pub(crate) fn move_least(first: &mut Part, second: &mut Part, to: &mut Part, active: &ActiveBegins)
     requires rising { RiseBehind to.old first.old second.old }
     requires some { 0 < left first.old + left second.old }
     requires room { length to.old.written.items < vec_capacity to.old.written }
-    ensures same { AnswerForAll (may_ask (reach_of active.now)) (live_in to.new first.new second.new)
+    ensures made { MakesFor (reach_of active.now) (live to.old) (live to.new) (live_in to.new first.new second.new)
         (live_in to.old first.old second.old) }
     ensures rising { RiseBehind to.new first.new second.new }
     ensures moved { TakesPosting (left first.old + left second.old) (left first.new + left second.new) to.old to.new }

@@ -1,9 +1,8 @@
 use Rattle.pivot_check.proofs.merging.move_first.Goals as goal
 use Rattle.std.proofs.Common.{◌++◌, ap, sym, ◌∙◌}
 use Rattle.pivot_check.proofs.Joined.{moved_end, moved_other}
-use Rattle.pivot_check.proofs.Redundancy.{dropped_answers, moved_answers, rises_without}
+use Rattle.pivot_check.proofs.Redundancy.{dropped_makes, moved_makes, rises_without}
 use Rattle.pivot_check.specs.Active.{reach_of}
-use Rattle.pivot_check.specs.Kept.{may_ask}
 use Rattle.pivot_check.specs.Parts.{live}
 use Rattle.pivot_check.specs.Postings.{keys_rise}
 
@@ -12,10 +11,11 @@ push-requires-clause-rising c =
     moved_end (live c.args.to.now) (live c.args.from.now) (live c.take_first-written.new.self) c.take_first-written.result c.take_first-written.ensures.taken
     c.requires.rising
 
-pub returns-then-not-makes_redundant-clause-same : goal.returns-then-not-makes_redundant-clause-same
-returns-then-not-makes_redundant-clause-same c =
-    moved_answers (may_ask (reach_of c.args.active.now)) (live c.args.to.now) (live c.push.new.self) (live c.args.from.now)
+pub returns-then-not-makes_redundant-clause-made : goal.returns-then-not-makes_redundant-clause-made
+returns-then-not-makes_redundant-clause-made c =
+    moved_makes (reach_of c.args.active.now) (live c.args.to.now) (live c.push.new.self) (live c.args.from.now)
     (live c.take_first-written.new.self) c.take_first-written.result c.take_first-written.ensures.taken c.push.ensures.added
+    (sym c.makes_redundant.ensures ∙ c.if-not-makes_redundant.true)
 
 pub returns-then-not-makes_redundant-clause-other : goal.returns-then-not-makes_redundant-clause-other
 returns-then-not-makes_redundant-clause-other c = λ ys below rises.
@@ -23,9 +23,9 @@ returns-then-not-makes_redundant-clause-other c = λ ys below rises.
     ∙ moved_other (live c.args.to.now) (live c.args.from.now) (live c.take_first-written.new.self) ys c.take_first-written.result
     c.take_first-written.ensures.taken c.requires.rising below rises
 
-pub returns-else-not-makes_redundant-clause-same : goal.returns-else-not-makes_redundant-clause-same
-returns-else-not-makes_redundant-clause-same c =
-    dropped_answers (reach_of c.args.active.now) (live c.args.to.now) (live c.args.from.now) (live c.take_first-written.new.self)
+pub returns-else-not-makes_redundant-clause-made : goal.returns-else-not-makes_redundant-clause-made
+returns-else-not-makes_redundant-clause-made c =
+    dropped_makes (reach_of c.args.active.now) (live c.args.to.now) (live c.args.from.now) (live c.take_first-written.new.self)
     c.take_first-written.result c.take_first-written.ensures.taken (sym c.makes_redundant.ensures ∙ c.if-not-makes_redundant.false)
 
 pub returns-else-not-makes_redundant-clause-rising : goal.returns-else-not-makes_redundant-clause-rising

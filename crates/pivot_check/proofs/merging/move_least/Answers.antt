@@ -4,12 +4,18 @@ use Rattle.pivot_check.specs.Active.{reach_of}
 use Rattle.pivot_check.specs.Kept.{may_ask}
 use Rattle.pivot_check.specs.Parts.{live}
 
-pub returns-then-is_in_first-clause-same : goal.returns-then-is_in_first-clause-same
-returns-then-is_in_first-clause-same c =
-    first_answers (may_ask (reach_of c.args.active.now)) (live c.args.to.now) (live c.move_first.new.to) (live c.args.first.now)
-    (live c.move_first.new.from) (live c.args.second.now) c.move_first.ensures.same
+pub returns-then-is_in_first-clause-made : goal.returns-then-is_in_first-clause-made
+returns-then-is_in_first-clause-made c =
+    record {
+      answers = first_answers (may_ask (reach_of c.args.active.now)) (live c.args.to.now) (live c.move_first.new.to) (live c.args.first.now)
+          (live c.move_first.new.from) (live c.args.second.now) c.move_first.ensures.made.answers;
+      spaced = c.move_first.ensures.made.spaced;
+    }
 
-pub returns-else-is_in_first-clause-same : goal.returns-else-is_in_first-clause-same
-returns-else-is_in_first-clause-same c =
-    second_answers (may_ask (reach_of c.args.active.now)) (live c.args.to.now) (live c.move_first-else-is_in_first.new.to) (live c.args.first.now)
-    (live c.args.second.now) (live c.move_first-else-is_in_first.new.from) c.move_first-else-is_in_first.ensures.same
+pub returns-else-is_in_first-clause-made : goal.returns-else-is_in_first-clause-made
+returns-else-is_in_first-clause-made c =
+    record {
+      answers = second_answers (may_ask (reach_of c.args.active.now)) (live c.args.to.now) (live c.move_first-else-is_in_first.new.to) (live c.args.first.now)
+          (live c.args.second.now) (live c.move_first-else-is_in_first.new.from) c.move_first-else-is_in_first.ensures.made.answers;
+      spaced = c.move_first-else-is_in_first.ensures.made.spaced;
+    }

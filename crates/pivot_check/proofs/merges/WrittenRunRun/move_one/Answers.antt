@@ -7,4 +7,4 @@ use Rattle.pivot_check.specs.Postings.{asked_in}
 pub returns-clause-agree : goal.returns-clause-agree
 returns-clause-agree c = λ b asks keys flagged.
     let asked = asked_in keys b flagged in
-    same_agrees asked _ _ (c.free_room.ensures.same asked ∙ c.move_least.ensures.same.same b (and_parts _ _ asks).1 keys flagged)
+    same_agrees asked _ _ (c.free_room.ensures.same asked ∙ c.move_least.ensures.made.answers.same b (and_parts _ _ asks).1 keys flagged)
