@@ -35,15 +35,15 @@ abbrev pub ReadsNext : Option Bytes → Result Bool ScriptFault → Bytes → Op
 ReadsNext known result text left = IfSome known (λ script. IfOk result (λ some. ReadsLine script some text left))
 
 -- the session of a label was found, or there is no place for one more
-abbrev pub Finds : {D : Type 0} {g : Ghosts D} → Scene → ℕ → Option ℕ → Script D g → Type 0
-Finds old label (Some s) script =
+abbrev pub FindsLabel : {D : Type 0} {g : Ghosts D} → Scene → ℕ → Option ℕ → Script D g → Type 0
+FindsLabel old label (Some s) script =
     (s ≡ labelled_session old.labels label) × (IsLabelTooMany old label → ⊥) × IsAtScene script (with_label old label)
-Finds old label None script = IsLabelTooMany old label × IsAtScene script old
+FindsLabel old label None script = IsLabelTooMany old label × IsAtScene script old
 
 -- it was looked for: memory may be refused where it has a place
 abbrev pub LooksUp : {D : Type 0} {g : Ghosts D} → Scene → ℕ → Result (Option ℕ) ScriptFault → Script D g → Type 0
 LooksUp old label result script =
-    MatchResult result (λ found. Finds old label found script)
+    MatchResult result (λ found. FindsLabel old label found script)
     (λ fault. (fault ≡ Memory) × (IsLabelTooMany old label → ⊥))
 
 -- a request of the session was served, where memory was granted

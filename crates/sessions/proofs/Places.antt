@@ -11,7 +11,7 @@ use Rattle.std.specs.List.Sorted.{IsSearchInRange, IsBinarySearchResult}
 use Rattle.std.specs.Map.{lookup, remove_entry}
 use Rattle.std.specs.Ordering.{is_lt, ordering_reverse}
 use Rattle.model.proofs.InOrder.{parts, both, below_at, rise}
-use Rattle.sessions.specs.Places.{IsPlace, IsGap}
+use Rattle.sessions.specs.Places.{IsSessionPlace, IsSessionGap}
 
 module _ {X : Type 0} where
   abbrev pub IsRising : List (ℕ × X) → Type 0
@@ -20,7 +20,7 @@ module _ {X : Type 0} where
   module _ (s : ℕ) where
     -- ---- the number is there
 
-    pub is_place : (es : List (ℕ × X)) (i : ℕ) → IsRising es → i < length es → ((d : ℕ × X) → (get_or es i d).0 ≡ s) → IsPlace es s i
+    pub is_place : (es : List (ℕ × X)) (i : ℕ) → IsRising es → i < length es → ((d : ℕ × X) → (get_or es i d).0 ≡ s) → IsSessionPlace es s i
     is_place [] i h lt number = absurd (omega arith)
     is_place (e ∷ es) zero h lt number =
         let level : nat_cmp s e.0 ≡ Equal = ap (λ k. nat_cmp k e.0) (sym (number e)) ∙ tied_itself nat_cmp_total e.0 in
@@ -35,7 +35,7 @@ module _ {X : Type 0} where
     -- ---- it isn't
 
     is_gap : (es : List (ℕ × X)) (i : ℕ) → i ≤ length es → ((j : ℕ) (d : ℕ × X) → j < i → nat_cmp (get_or es j d).0 s ≡ Less)
-        → ((j : ℕ) (d : ℕ × X) → i ≤ j → j < length es → nat_cmp (get_or es j d).0 s ≡ Greater) → IsGap es s i
+        → ((j : ℕ) (d : ℕ × X) → i ≤ j → j < length es → nat_cmp (get_or es j d).0 s ≡ Greater) → IsSessionGap es s i
     is_gap [] zero le less more = record { in_range = le; absent = refl; unchanged = refl; inserted = λ x. refl }
     is_gap [] (suc i) le less more = absurd (omega arith)
     is_gap (e ∷ es) zero le less more =
@@ -56,13 +56,13 @@ module _ {X : Type 0} where
 
     pub searched : (es xs : List (ℕ × X)) → xs ≡ es → IsRising es → (r : Result ℕ ℕ) → IsSearchInRange r (length xs)
         → IsBinarySearchResult (λ (e : ℕ × X). nat_cmp e.0 s) xs r
-        → record { found : IfOk r (IsPlace es s); absent : IfErr r (IsGap es s) }
+        → record { found : IfOk r (IsSessionPlace es s); absent : IfErr r (IsSessionGap es s) }
     searched es xs same h r within by =
         ends r (subst (λ (l : List (ℕ × X)). IsSearchInRange r (length l)) same within)
         (subst (λ (l : List (ℕ × X)). IsBinarySearchResult (λ (e : ℕ × X). nat_cmp e.0 s) l r) same by)
       where
         ends : (r : Result ℕ ℕ) → IsSearchInRange r (length es) → IsBinarySearchResult (λ (e : ℕ × X). nat_cmp e.0 s) es r
-            → record { found : IfOk r (IsPlace es s); absent : IfErr r (IsGap es s) }
+            → record { found : IfOk r (IsSessionPlace es s); absent : IfErr r (IsSessionGap es s) }
         ends (Ok i) lt equal = record { found = is_place es i h lt (λ d. exact_unsigned (get_or es i d).0 s (equal d)); absent = tt }
         ends (Err i) le parted =
             let p = parted (rise nat_cmp_total es s h) in
@@ -71,14 +71,14 @@ module _ {X : Type 0} where
     -- ---- the place found last
 
     pub found_last : (es xs : List (ℕ × X)) (i : ℕ) (e : ℕ × X) → xs ≡ es → IsRising es → i < length xs → ((d : ℕ × X) → e ≡ get_or xs i d) → e.0 ≡ s
-        → IsPlace es s i
+        → IsSessionPlace es s i
     found_last es xs i e same h lt at is =
         is_place es i h (subst (λ (l : List (ℕ × X)). i < length l) same lt) (λ d. ap (λ (l : List (ℕ × X)). (get_or l i d).0) (sym same)
         ∙ ap (λ (f : ℕ × X). f.0) (sym (at d)) ∙ is)
 
     -- ---- a row that is written
 
-    module _ (es xs : List (ℕ × X)) (i : ℕ) (e : ℕ × X) (same : xs ≡ es) (at : IsPlace es s i) (is : e ≡ get_or xs i e) where
+    module _ (es xs : List (ℕ × X)) (i : ℕ) (e : ℕ × X) (same : xs ≡ es) (at : IsSessionPlace es s i) (is : e ≡ get_or xs i e) where
       row_is : e ≡ get_or es i e
       row_is = is ∙ ap (λ (l : List (ℕ × X)). get_or l i e) same
 
@@ -106,7 +106,7 @@ module _ {X : Type 0} where
     pub put_rising : (es xs : List (ℕ × X)) → IsRising es → (x : X) → xs ≡ insert_entry nat_cmp es s x → IsRising xs
     put_rising es xs h x is = subst IsRising (put_is x es ∙ sym is) (is_sorted-put nat_cmp nat_cmp_total s x es h)
 
-    pub inserted_or_not : (b : Bool) (es xs after : List (ℕ × X)) (i : ℕ) (x : X) → xs ≡ es → IsRising es → IsGap es s i
+    pub inserted_or_not : (b : Bool) (es xs after : List (ℕ × X)) (i : ℕ) (x : X) → xs ≡ es → IsRising es → IsSessionGap es s i
         → after ≡ cond b (insert xs i (s, x)) xs → IsRising after
     inserted_or_not true es xs after i x same h gap is = put_rising es after h x (is ∙ ap (λ (l : List (ℕ × X)). insert l i (s, x)) same ∙ gap.inserted x)
     inserted_or_not false es xs after i x same h gap is = subst IsRising (sym (is ∙ same)) h

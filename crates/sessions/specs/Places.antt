@@ -11,7 +11,7 @@ use Rattle.sessions.specs.contracts.session.Session.{the_row as session_row}
 
 module _ {X : Type 0} (rows : List (ℕ × X)) (s i : ℕ) where
   -- it stands at place i
-  pub record IsPlace : Type 0 where
+  pub record IsSessionPlace : Type 0 where
     pub in_range : i < length rows
     pub number : (d : ℕ × X) → (slice_index_or rows i d).0 ≡ s
     pub found : (d : ℕ × X) → lookup (is_at (nat_cmp s)) rows ≡ Some (slice_index_or rows i d).1
@@ -20,7 +20,7 @@ module _ {X : Type 0} (rows : List (ℕ × X)) (s i : ℕ) where
     pub removed : remove rows i ≡ remove_entry (is_at (nat_cmp s)) rows
 
   -- it isn't there, and would stand at place i
-  pub record IsGap : Type 0 where
+  pub record IsSessionGap : Type 0 where
     pub in_range : i ≤ length rows
     pub absent : lookup (is_at (nat_cmp s)) rows ≡ None
     pub unchanged : remove_entry (is_at (nat_cmp s)) rows ≡ rows

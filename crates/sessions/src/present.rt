@@ -5,7 +5,7 @@ ghost use Rattle.std.specs.Map.{lookup, remove_entry};
 ghost use Rattle.std.specs.BTreeMap.{insert_entry, is_at};
 ghost use Rattle.std.specs.Ordering.{nat_cmp};
 ghost use Rattle.std.specs.Borrow.{sem};
-ghost use Rattle.sessions.specs.Places.{IsPlace, IsGap, lends_session, lends_session_if_present};
+ghost use Rattle.sessions.specs.Places.{IsSessionPlace, IsSessionGap, lends_session, lends_session_if_present};
 
 use crate::session::Session;
 use model::Memory;
@@ -53,16 +53,16 @@ impl Present {
 
     /// Where the session's row is, or where it would stand.
     fn search(&self, s: u64) -> Result<usize, usize>
-        ensures found { IfOk result (IsPlace self.now s) }
-        ensures absent { IfErr result (IsGap self.now s) }
+        ensures found { IfOk result (IsSessionPlace self.now s) }
+        ensures absent { IfErr result (IsSessionGap self.now s) }
     {
         self.rows.binary_search_by(|row| row.0.cmp(&s))
     }
 
     /// The same. Where the row is, it is found at once next time.
     fn place(&self, s: u64) -> Result<usize, usize>
-        ensures found { IfOk result (IsPlace self.now s) }
-        ensures absent { IfErr result (IsGap self.now s) }
+        ensures found { IfOk result (IsSessionPlace self.now s) }
+        ensures absent { IfErr result (IsSessionGap self.now s) }
     {
         let last = self.last.get();
         if let Some(row) = self.rows.get(last) {
@@ -89,7 +89,7 @@ impl Present {
 
     /// Lends the session at its place for writing.
     fn session_at(&mut self, s: u64, place: usize) -> &mut Session
-        requires { IsPlace self.old s place }
+        requires { IsSessionPlace self.old s place }
         ensures* writes_back { sem 𝓛 (lends_session self.entry s result) }
         ensures value { lookup (is_at (nat_cmp s)) self.old ≡ Some result.now }
     {

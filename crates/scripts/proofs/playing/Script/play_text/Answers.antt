@@ -2,7 +2,7 @@ use Rattle.scripts.proofs.playing.Script.play_text.Goals as goal
 use Rattle.std.proofs.Common.{◌≡◌, ◌≢◌, true, false, [], length, Some, Err, refl, sym, ap, subst, ◌∙◌}
 use Rattle.std.specs.Prelude.{◌==◌, IsErrAnd}
 use Rattle.scripts.proofs.Runs.{err_is, text_runs}
-use Rattle.scripts.specs.Calls.{Finds, RunsLine}
+use Rattle.scripts.specs.Calls.{FindsLabel, RunsLine}
 use Rattle.scripts.specs.Transcript.{Scene, with_label, IsLabelTooMany}
 use Rattle.scripts.specs.declared.faults.ScriptFault.TheVariants.{Memory}
 
@@ -12,9 +12,9 @@ returns g c scene is_at =
     let some : c.args.text.now ≢ [] =
     λ none. (let bad : true ≡ false = sym (ap (λ text. length text == 0) none) ∙ sym c.is_empty.ensures ∙ c.if-is_empty.false in cc) in
     let label : c.label.result ≡ line.label = c.label.ensures in
-    let found : Finds scene line.label (Some c.in-Some-2.session) c.session.new.self =
-    subst (λ n. Finds scene n (Some c.in-Some-2.session) c.session.new.self) label
-    (subst (λ f. Finds scene c.label.result f c.session.new.self) c.in-Some-2.is (c.in_ok-session.ensures scene is_at)) in
+    let found : FindsLabel scene line.label (Some c.in-Some-2.session) c.session.new.self =
+    subst (λ n. FindsLabel scene n (Some c.in-Some-2.session) c.session.new.self) label
+    (subst (λ f. FindsLabel scene c.label.result f c.session.new.self) c.in-Some-2.is (c.in_ok-session.ensures scene is_at)) in
     let here : Scene = with_label scene line.label in
     let answered = subst (λ s. RunsLine here s line c.answer.result c.answer.new.self (g.O.Write.contents c.args.out.now) (g.O.Write.contents c.answer.new.out))
     found.0 (c.answer.ensures here found.2) in
