@@ -38,19 +38,20 @@ use Rattle.event_loop.proofs.Committed.{answered_committed, run_grown}
 use Rattle.event_loop.proofs.Entries.{no_entry, polled_sessions}
 use Rattle.event_loop.proofs.FoundCommits.{finds, low, run_base}
 use Rattle.event_loop.proofs.GoneSessions.{Grows, HasLeft, left_on, run_grows}
+use Rattle.event_loop.proofs.Ordering.{turns_taken}
 use Rattle.event_loop.proofs.Polled.{each_rest, gone_at, TakesTurns, was_driven, was_gone, was_polled}
 use Rattle.event_loop.proofs.TableBytes.{driven_left, driven_was, drives_bytes, finished, polled_bytes}
 use Rattle.event_loop.proofs.WholeTurns.{all_found, each_bytes, new_begins}
-use Rattle.event_loop.specs.Departures.{EntriesWereAnswered, HoldsAtEnds, IsCommitted, IsAfterCommits, IsKept}
+use Rattle.event_loop.specs.Departures.{EntriesWereAnswered, HoldsAtEnds, IsCommitted, IsAfterCommits}
+use Rattle.event_loop.specs.Departures.{IsDepartureKept}
 use Rattle.event_loop.specs.Departures.{IsOneMore, IsServing, WasAnsweredInRun, LingerersWereAnswered, Serving}
 use Rattle.event_loop.specs.Departures.{StreamWasAnswered, WasRequested, first_state, present_state}
 use Rattle.event_loop.specs.Leavings.{EndAll, EndEach, LeavesAs, LeavesIf}
 use Rattle.event_loop.specs.Leavings.EndEach.{NoneEnded, OneMore as OneEnded}
 use Rattle.event_loop.specs.Lingerings.{AllTurned, AreTurned, DropsInput, Lingerers, TurnedIf, LingersOrCloses}
-use Rattle.event_loop.specs.Order.{is_passed}
 use Rattle.event_loop.specs.Sockets.{IsNewSocket, SocketsReport, socket_session, traffic_of}
 use Rattle.event_loop.specs.TableBytes.{HaveBytes}
-use Rattle.event_loop.specs.Tables.{AdmitsEach, ComeEach, EndsTurn, TableStands, after_poll, joins_of, slot_at}
+use Rattle.event_loop.specs.Tables.{AdmitsEach, ComeEach, EndsTurn, TableStands, joins_of, slot_at}
 use Rattle.event_loop.specs.Tables.AdmitsEach.{Nobody, OneMore}
 use Rattle.event_loop.specs.Turns.{DrivesReady}
 use Rattle.event_loop.specs.declared.order.Turns.{Turns}
@@ -297,7 +298,7 @@ module _ {D : Type 0} {g : Ghosts D} (hub later : Hub D g) (slots new : Slots) (
     (d : DrivesReady SocketsReport traffic_of events last hub slots next later new) (sessions : HaveSessions hub slots)
     (old later_all : Lingerers) (left : EndAll (g.moment (device later)) d.driven old new later_all) where
   turned : TakesTurns slots d.ready events
-  turned key = (is_passed hub next key (after_poll events key (slot_at slots key)), d.turned key)
+  turned = turns_taken hub next slots d.ready events d.turned
 
   none_runs : NoneRuns later
   none_runs = no_event later (last_sound hub later d.drives.leads.choices d.drives.leads.ran)
@@ -571,7 +572,7 @@ module _ {D : Type 0} {g : Ghosts D} (hub : Hub D g) (slots : Slots) (lingerers 
           ];
         }
 
-    is_kept : (served : Served hub) (s : ℕ) (d : Departure) → WasAnsweredInRun served s d → IsKept served s d
+    is_kept : (served : Served hub) (s : ℕ) (d : Departure) → WasAnsweredInRun served s d → IsDepartureKept served s d
     is_kept served s d t =
         let left : g.keeps_model → (c : List (List ℕ)) → g.left_since (device hub) d.moment c
         → HoldsFound (first_state served) served.choices (length t.before) c =
@@ -597,8 +598,9 @@ module _ {D : Type 0} {g : Ghosts D} (hub : Hub D g) (slots : Slots) (lingerers 
               (λ c l. (let z = left keeps c l in (z.0, z.2, z.1))) follow;
         }
 
-    pub all_kept : (served : Served hub) (s : ℕ) (ds : List Departure) → AllByRecursion (WasAnsweredInRun served s) ds → AllByRecursion (IsKept served s) ds
-    all_kept served s ds all = all-each (WasAnsweredInRun served s) (IsKept served s) ds (is_kept served s) all
+    pub all_kept : (served : Served hub) (s : ℕ) (ds : List Departure) → AllByRecursion (WasAnsweredInRun served s) ds
+        → AllByRecursion (IsDepartureKept served s) ds
+    all_kept served s ds all = all-each (WasAnsweredInRun served s) (IsDepartureKept served s) ds (is_kept served s) all
 
 -- ---- what leaves in a turn
 

@@ -1,7 +1,7 @@
 -- Whose turn it is.
 use Rattle.std.proofs.Common.{◌≡◌, ◌⊎◌, inl, inr, ℕ, zero, suc, ◌<◌, ◌≤◌, Bool, true, false, cond, List, []}
-use Rattle.std.proofs.Common.{◌∷◌, Option, Some, None, refl, sym, ap, subst, ◌∙◌, arith, not, ◌==◌}
-use Rattle.std.proofs.lemmas.Bool.{cases_eq, and_parts, cases_Bool}
+use Rattle.std.proofs.Common.{◌∷◌, Option, Some, None, refl, sym, ap, subst, ◌∙◌, arith, ◌==◌}
+use Rattle.std.proofs.lemmas.Bool.{cases_eq, cases_Bool}
 use Rattle.std.proofs.lemmas.Bool.Decides.{nat_tests}
 use Rattle.std.proofs.lemmas.Grind.{common_steps}
 use Rattle.std.specs.Prelude.{nat_lt, ◌&&◌, ◌||◌}
@@ -24,10 +24,11 @@ use Rattle.stream_driver.specs.declared.entries.Entry.{Entry}
 use Rattle.stream_driver.specs.declared.entries.EntryState.{EntryState}
 use Rattle.stream_driver.specs.declared.entries.EntryState.TheVariants.{Idle, Gone, Ready}
 use Rattle.event_loop.proofs.Entries.{Remain, no_entry}
-use Rattle.event_loop.proofs.Polled.{answered_as_it_was}
+use Rattle.event_loop.proofs.Polled.{answered_as_it_was, IsSome, TakesTurns}
 use Rattle.event_loop.proofs.Slots.{Slots}
-use Rattle.event_loop.specs.Numbers.{HasPlace, HavePlaces, WasRegisteredAs}
-use Rattle.event_loop.specs.Order.{after_turn, behind, is_passed, is_ready_slot, waits_as, AreNext, HasNextTurn}
+use Rattle.event_loop.specs.Numbers.{HasTablePlace, HavePlaces, WasRegisteredAs}
+use Rattle.event_loop.specs.Order.{after_turn, behind, has_turn, is_ready_slot, share_at, waits_as, AreNext}
+use Rattle.event_loop.specs.Order.{HasNextTurn}
 use Rattle.event_loop.specs.Order.{ComesNearer}
 use Rattle.event_loop.specs.Order.{in_turn, is_of_kind, writes_in}
 use Rattle.event_loop.specs.declared.order.Kind.TheVariants.{Any, Reader, Writer}
@@ -43,9 +44,25 @@ use Rattle.event_loop.specs.declared.socket.Socket.{Socket}
 abbrev pub NoneWithin : (ℕ → Bool) → ℕ → ℕ → Type 0
 NoneWithin waits last places = (key : ℕ) → key < 128 → behind last key ≤ places → waits key ≡ false
 
+-- a share is a light one at least
+share_some : (takes has : Bool) → IsSome (cond {A = Option ℕ} takes (cond has (Some 262144) None) (Some 32768))
+share_some true true = omega arith
+share_some true false = tt
+share_some false has = omega arith
+
 module _ {T D : Type 0} {g : Ghosts D} (hub : Hub D g) (turns : Turns) where
   abbrev pub turned_slot : ℕ → Option (Entry (BufferedStream T)) → Option (Entry (BufferedStream T))
-  turned_slot key slot = after_turn (is_passed hub turns key slot) slot
+  turned_slot key slot = after_turn (share_at hub turns key slot) slot
+
+  slot_some : (key : ℕ) (slot : Option (Entry (BufferedStream T))) → IsSome (share_at hub turns key slot)
+  slot_some key None = tt
+  slot_some key (Some entry) = share_some (is_of_kind hub Any entry) (has_turn hub turns key entry)
+
+  -- so each slot has a share of the turn, or is passed over
+  pub turns_taken : (old ready : Slots (BufferedStream T)) (events : List Event)
+      → ((key : ℕ) → slot_at ready key ≡ turned_slot key (after_poll events key (slot_at old key))) → TakesTurns old ready events
+  turns_taken old ready events turned key =
+      let slot = after_poll events key (slot_at old key) in (share_at hub turns key slot, turned key, slot_some key slot)
 
   -- those below this key have taken their turns
   abbrev pub TurnedBelow : ℕ → (old new : Slots (BufferedStream T)) → Type 0
@@ -84,10 +101,10 @@ new_registered accepted key session b new = (new.0.socket, new.1.counts.5, new.4
 
 module _ {T : Type 0} where
   pub remain_places : (old new : Slots T) → Remain old new → HavePlaces old → HavePlaces new
-  remain_places old new remain places key entry e = let b = remain key entry e in subst (HasPlace key) b.2 (places key b.0 b.1)
+  remain_places old new remain places key entry e = let b = remain key entry e in subst (HasTablePlace key) b.2 (places key b.0 b.1)
 
   pub places_after : (old new : Slots T) → KeepSessions old new → HavePlaces old → HavePlaces new
-  places_after old new keep places key entry e = let b = keep key entry e in subst (HasPlace key) (sym b.2) (places key b.0 b.1)
+  places_after old new keep places key entry e = let b = keep key entry e in subst (HasTablePlace key) (sym b.2) (places key b.0 b.1)
 
   module _ {D : Type 0} {g : Ghosts D} {IsNew : AcceptedSocket → ℕ → ℕ → T → Type 0} {hub : Hub D g} {next : ℕ} {slots : Slots T} where
     pub each_placed : {came : List AcceptedSocket} {later : Hub D g} {then : ℕ} {new : Slots T} → AdmitsEach IsNew hub next slots came later then new
@@ -99,7 +116,7 @@ module _ {T : Type 0} where
     each_placed (OneMore came accepted mid later number then between new each (inr l)) begins places key entry e = elim (cases_eq key l.key) [
       | inl same ↦
           let which : l.entry ≡ entry = some_same (sym l.changed ∙ ap (slot_at new) (sym same) ∙ e) in
-          subst (λ k. HasPlace k entry.session) (sym same) (subst (λ (x : Entry T). HasPlace l.key x.session) which
+          subst (λ k. HasTablePlace k entry.session) (sym same) (subst (λ (x : Entry T). HasTablePlace l.key x.session) which
           (record { place = l.key_is; registered = ∣ begins accepted l.key l.entry.session l.entry.stream l.fresh ∣₁ }))
       | inr differs ↦ each_placed each begins places key entry (sym (l.others key differs) ∙ e)
     ]
@@ -125,9 +142,15 @@ behind_few last key place = elim (cases_Bool (nat_lt last key)) [
 apart : (a b : ℕ) → (a == b) ≡ false → a ≡ b → ⊥
 apart a b differs same = grind (arith, common_steps, nat_tests)
 
-not_first : (a b : Bool) → not (a || b) ≡ true → a ≡ false
+not_first : (a b : Bool) → (a || b) ≡ false → a ≡ false
 not_first true b is = absurd (cc)
 not_first false b is = refl
+
+-- who has no share takes turns, and has none
+none_shared : (takes has : Bool) → cond {A = Option ℕ} takes (cond has (Some 262144) None) (Some 32768) ≡ None → (takes ≡ true) × (has ≡ false)
+none_shared true true is = absurd (cc)
+none_shared true false is = (refl, refl)
+none_shared false has is = absurd (cc)
 
 ready_at : (state : EntryState) → is_ready state ≡ true → state ≡ Ready
 ready_at Ready is = refl
@@ -175,13 +198,13 @@ module _ {T : Type 0} (reports : Type 0) (traffic : T → Traffic) (moment : ℕ
 
   -- as it is passed over
   passed : (entry : Entry (BufferedStream T)) → entry.state ≡ Ready
-      → (after : Entry (BufferedStream T)) × (after_turn true (Some entry) ≡ Some after) × (after.state ≡ Idle) × (after.stream.share ≡ 0)
+      → (after : Entry (BufferedStream T)) × (after_turn None (Some entry) ≡ Some after) × (after.state ≡ Idle) × (after.stream.share ≡ 0)
   passed entry ready =
       let after : Entry (BufferedStream T) = record entry { state = Idle; stream = record entry.stream { share = 0 } } in
-      (after, ap (λ s. Some (in_turn s true entry)) ready, refl, refl)
+      (after, ap (λ s. Some (in_turn s None entry)) ready, refl, refl)
 
-  driven : (entry : Entry (BufferedStream T)) → entry.state ≡ Ready → is_ready_slot (after_turn false (Some entry)) ≡ true
-  driven entry ready = ap (λ s. is_ready (in_turn s false entry).state) ready ∙ ap is_ready ready
+  driven : (bytes : ℕ) (entry : Entry (BufferedStream T)) → entry.state ≡ Ready → is_ready_slot (after_turn (Some bytes) (Some entry)) ≡ true
+  driven bytes entry ready = ap (λ s. is_ready (in_turn s (Some bytes) entry).state) ready ∙ ap is_ready ready
 
 module _ {D : Type 0} {g : Ghosts D} (reports : Type 0) (traffic : Socket
     → Traffic) (old new : EventLoop D g) (turn : IsTurn reports traffic old new) (key : ℕ) where
@@ -215,18 +238,18 @@ module _ {D : Type 0} {g : Ghosts D} (reports : Type 0) (traffic : Socket
   module _ (nearer : (waits : ℕ → Bool) (last next key : ℕ)
       → ComesNearer waits last next key) (entry : Entry (BufferedStream Socket)) (is : polled ≡ Some entry) (ready : entry.state ≡ Ready) (place : key
       < 128) where
-    turned : slot_at turn.drives.ready key ≡ after_turn (is_passed old.hub turn.driven.turns key (Some entry)) (Some entry)
-    turned = turn.drives.turned key ∙ ap (λ slot. after_turn (is_passed old.hub turn.driven.turns key slot) slot) is
+    turned : slot_at turn.drives.ready key ≡ after_turn (share_at old.hub turn.driven.turns key (Some entry)) (Some entry)
+    turned = turn.drives.turned key ∙ ap (λ slot. after_turn (share_at old.hub turn.driven.turns key slot) slot) is
 
-    by_passed : (b : Bool) → is_passed old.hub turn.driven.turns key (Some entry) ≡ b → Soon
-    by_passed false not_passed = inl (ap is_ready_slot (turned ∙ ap (λ b. after_turn b (Some entry)) not_passed) ∙ driven reports traffic 0 entry ready)
-    by_passed true is_so =
-        let another = key == turn.driven.turns.next || (key == turn.driven.turns.beside && is_of_kind old.hub turn.driven.turns.kind entry) in
-        let parts = and_parts (not another) (is_of_kind old.hub Any entry) is_so in
-        let waits : waits_as old.hub Any polled ≡ true = ap (waits_as old.hub Any) is ∙ ap (λ s. is_ready s && is_of_kind old.hub Any entry) ready ∙ parts.1 in
-        let differs : (key == turn.driven.turns.next) ≡ false = not_first (key == turn.driven.turns.next) _ parts.0 in
+    by_share : (share : Option ℕ) → share_at old.hub turn.driven.turns key (Some entry) ≡ share → Soon
+    by_share (Some bytes) is_so =
+        inl (ap is_ready_slot (turned ∙ ap (λ o. after_turn o (Some entry)) is_so) ∙ driven reports traffic 0 bytes entry ready)
+    by_share None is_so =
+        let parts = none_shared (is_of_kind old.hub Any entry) (has_turn old.hub turn.driven.turns key entry) is_so in
+        let waits : waits_as old.hub Any polled ≡ true = ap (waits_as old.hub Any) is ∙ ap (λ s. is_ready s && is_of_kind old.hub Any entry) ready ∙ parts.0 in
+        let differs : (key == turn.driven.turns.next) ≡ false = not_first (key == turn.driven.turns.next) _ parts.1 in
         let after = passed reports traffic 0 entry ready in
-        let ends = still_ready after.0 (turned ∙ ap (λ b. after_turn b (Some entry)) is_so ∙ after.1) after.2 after.3 in
+        let ends = still_ready after.0 (turned ∙ ap (λ o. after_turn o (Some entry)) is_so ∙ after.1) after.2 after.3 in
         elim (nearer (λ other. waits_as old.hub Any (after_poll (items new.poller.events) other (slot_at old.table.slots other))) old.turns.next
         turn.driven.turns.next key turn.drives.turn_of.next old.next_place place waits) [
           | inl same ↦ absurd (apart key turn.driven.turns.next differs same)
@@ -234,7 +257,7 @@ module _ {D : Type 0} {g : Ghosts D} (reports : Type 0) (traffic : Socket
         ]
 
     pub soon : IsDrivenSoon reports traffic old new turn key
-    soon = record { soon = by_passed (is_passed old.hub turn.driven.turns key (Some entry)) refl; bound = behind_few old.turns.next key place }
+    soon = record { soon = by_share (share_at old.hub turn.driven.turns key (Some entry)) refl; bound = behind_few old.turns.next key place }
 
   -- who is ready once the poll reported stands at a place of the table
   polled_place : (entry : Entry (BufferedStream Socket)) → polled ≡ Some entry → key < 128

@@ -1,6 +1,6 @@
 -- Each entry that is idle waits for its peer: after the drives of a turn, as connections come, and while nobody is driven.
-use Rattle.std.proofs.Common.{◌≡◌, ◌≢◌, ◌⊎◌, inl, inr, ℕ, zero, suc, ◌<◌, ◌==◌, ◌||◌, Bool, true, false, [], ◌∷◌}
-use Rattle.std.proofs.Common.{List, Option, Some, None, refl, sym, ap, subst, ◌∙◌, arith}
+use Rattle.std.proofs.Common.{◌≡◌, ◌≢◌, ◌⊎◌, inl, inr, ℕ, zero, suc, ◌<◌, ◌≤◌, ◌==◌, ◌||◌, Bool, true, false, []}
+use Rattle.std.proofs.Common.{◌∷◌, List, Option, Some, None, refl, sym, ap, subst, ◌∙◌, arith}
 use Rattle.std.proofs.Math.Logic.{∥∥₁_map}
 use Rattle.std.proofs.lemmas.Bool.{cases_eq}
 use Rattle.std.proofs.lemmas.Grind.{common_steps}
@@ -24,7 +24,7 @@ use Rattle.stream_driver.specs.Drives.{LeavesIfGone, Why}
 use Rattle.stream_driver.specs.Entries.{DrivenAll, DrivenIn, EndsIn, entry_state_after, state_at_end}
 use Rattle.stream_driver.specs.Sessions.{AwaitsMore, Leads, Point, inbox_in, pending_at}
 use Rattle.stream_driver.specs.Traffic.{Traffic}
-use Rattle.stream_driver.specs.Waits.{EachEntry, IsSound, SaysWhyBlocked, WaitsSince}
+use Rattle.stream_driver.specs.Waits.{EachEntry, HasSoundNotes, SaysWhyBlocked, WaitsSince}
 use Rattle.stream_driver.specs.declared.answers.Call.TheVariants.{Read, Write}
 use Rattle.stream_driver.specs.declared.answers.Progress.{Progress}
 use Rattle.stream_driver.specs.declared.answers.Progress.TheVariants.{Waiting}
@@ -35,7 +35,7 @@ use Rattle.stream_driver.specs.declared.entries.Entry.{Entry}
 use Rattle.stream_driver.specs.declared.entries.EntryState.{EntryState}
 use Rattle.stream_driver.specs.declared.entries.EntryState.TheVariants.{Idle, Ready, Gone}
 use Rattle.event_loop.proofs.Entries.{no_entry}
-use Rattle.event_loop.proofs.Polled.{TakesTurns, was_driven}
+use Rattle.event_loop.proofs.Polled.{IsSome, TakesTurns, was_driven}
 use Rattle.event_loop.proofs.Present.{joins_not, joins_other}
 use Rattle.event_loop.proofs.Slots.{Slots}
 use Rattle.event_loop.proofs.TableBytes.{AreOwn, all_other, driven_at, same_numbers, slot_driven, slot_other}
@@ -154,18 +154,18 @@ module _ {T : Type 0} where
       (poll_idle events key (after_event event key slot) entry e idle) idle
 
   -- one that is idle was so, or is passed over
-  in_turn_idle : (state : EntryState) (passed : Bool) (x entry : Entry (BufferedStream T)) → x.state ≡ state → in_turn state passed x ≡ entry
+  in_turn_idle : (state : EntryState) (share : Option ℕ) (x entry : Entry (BufferedStream T)) → x.state ≡ state → in_turn state share x ≡ entry
       → entry.state ≡ Idle → (x ≡ entry) ⊎ (entry.stream.share ≡ zero)
-  in_turn_idle Ready true x entry is e idle = inr (ap (λ (y : Entry (BufferedStream T)). y.stream.share) (sym e))
-  in_turn_idle Ready false x entry is e idle =
+  in_turn_idle Ready None x entry is e idle = inr (ap (λ (y : Entry (BufferedStream T)). y.stream.share) (sym e))
+  in_turn_idle Ready (Some bytes) x entry is e idle =
       absurd (let bad : Ready ≡ Idle = sym is ∙ ap (λ (y : Entry (BufferedStream T)). y.state) e ∙ idle in cc)
-  in_turn_idle Idle passed x entry is e idle = inl e
-  in_turn_idle Gone passed x entry is e idle = inl e
+  in_turn_idle Idle share x entry is e idle = inl e
+  in_turn_idle Gone share x entry is e idle = inl e
 
-  turn_idle : (passed : Bool) (slot : Option (Entry (BufferedStream T))) (entry : Entry (BufferedStream T)) → after_turn passed slot ≡ Some entry
+  turn_idle : (share : Option ℕ) (slot : Option (Entry (BufferedStream T))) (entry : Entry (BufferedStream T)) → after_turn share slot ≡ Some entry
       → entry.state ≡ Idle → (slot ≡ Some entry) ⊎ (entry.stream.share ≡ zero)
-  turn_idle passed None entry e idle = absurd (let bad : None ≡ Some entry = e in cc)
-  turn_idle passed (Some x) entry e idle = elim (in_turn_idle x.state passed x entry refl (some_same e) idle) [
+  turn_idle share None entry e idle = absurd (let bad : None ≡ Some entry = e in cc)
+  turn_idle share (Some x) entry e idle = elim (in_turn_idle x.state share x entry refl (some_same e) idle) [
     | inl same ↦ inl (ap (λ (y : Entry (BufferedStream T)). Some y) same)
     | inr none ↦ inr none
   ]
@@ -174,11 +174,6 @@ module _ {T : Type 0} where
   abbrev RestsIn : Option (Entry (BufferedStream T)) → Type 0
   RestsIn None = Unit {0}
   RestsIn (Some entry) = (entry.stream.is_short ≡ false) × (entry.stream.is_drained ≡ false)
-
-  -- a whole share is left of its next turn
-  abbrev WholeIn : Option (Entry (BufferedStream T)) → Type 0
-  WholeIn None = Unit {0}
-  WholeIn (Some entry) = entry.stream.share ≡ 262144
 
   event_rests : (b on : Bool) (slot : Option (Entry (BufferedStream T))) → RestsIn slot → RestsIn (reported_slot b on slot)
   event_rests true on (Some entry) rests = rests
@@ -191,58 +186,41 @@ module _ {T : Type 0} where
       poll_rests events key (after_event event key slot)
       (event_rests ((event_token event).0 == key) (is_priority event || is_read_closed event) slot rests)
 
-  in_turn_rests : (state : EntryState) (passed : Bool) (x : Entry (BufferedStream T)) → RestsIn (Some x) → RestsIn (Some (in_turn state passed x))
-  in_turn_rests Ready true x rests = rests
-  in_turn_rests Ready false x rests = rests
-  in_turn_rests Idle passed x rests = rests
-  in_turn_rests Gone passed x rests = rests
+  in_turn_rests : (state : EntryState) (share : Option ℕ) (x : Entry (BufferedStream T)) → RestsIn (Some x) → RestsIn (Some (in_turn state share x))
+  in_turn_rests Ready None x rests = rests
+  in_turn_rests Ready (Some bytes) x rests = rests
+  in_turn_rests Idle share x rests = rests
+  in_turn_rests Gone share x rests = rests
 
-  turn_rests : (passed : Bool) (slot : Option (Entry (BufferedStream T))) → RestsIn slot → RestsIn (after_turn passed slot)
-  turn_rests passed None rests = tt
-  turn_rests passed (Some x) rests = in_turn_rests x.state passed x rests
+  turn_rests : (share : Option ℕ) (slot : Option (Entry (BufferedStream T))) → RestsIn slot → RestsIn (after_turn share slot)
+  turn_rests share None rests = tt
+  turn_rests share (Some x) rests = in_turn_rests x.state share x rests
 
   slot_rests : (slots : Slots (BufferedStream T)) (key : ℕ) → AreRested slots → (slot : Option (Entry (BufferedStream T))) → slot_at slots key ≡ slot
       → RestsIn slot
   slot_rests slots key rested None is = tt
   slot_rests slots key rested (Some entry) is = let r = rested key entry is in (r.short, r.drained)
 
-  event_whole : (b on : Bool) (slot : Option (Entry (BufferedStream T))) → WholeIn slot → WholeIn (reported_slot b on slot)
-  event_whole true on (Some entry) whole = whole
-  event_whole true on None whole = tt
-  event_whole false on slot whole = whole
-
-  poll_whole : (events : List Event) (key : ℕ) (slot : Option (Entry (BufferedStream T))) → WholeIn slot → WholeIn (after_poll events key slot)
-  poll_whole [] key slot whole = whole
-  poll_whole (event ∷ events) key slot whole =
-      poll_whole events key (after_event event key slot)
-      (event_whole ((event_token event).0 == key) (is_priority event || is_read_closed event) slot whole)
-
-  -- who has a turn has a whole share of it
-  in_turn_whole : (state : EntryState) (passed : Bool) (x entry : Entry (BufferedStream T)) → x.state ≡ state → in_turn state passed x ≡ entry
-      → entry.state ≡ Ready → x.stream.share ≡ 262144 → entry.stream.share ≡ 262144
-  in_turn_whole Ready true x entry is e ready whole =
+  -- who is ready has a share of the turn, a light one at least
+  in_turn_some : (state : EntryState) (share : Option ℕ) (x entry : Entry (BufferedStream T)) → x.state ≡ state → in_turn state share x ≡ entry
+      → entry.state ≡ Ready → IsSome share → 32768 ≤ entry.stream.share
+  in_turn_some Ready None x entry is e ready some =
       absurd (let bad : Idle ≡ Ready = ap (λ (y : Entry (BufferedStream T)). y.state) e ∙ ready in cc)
-  in_turn_whole Ready false x entry is e ready whole = ap (λ (y : Entry (BufferedStream T)). y.stream.share) (sym e) ∙ whole
-  in_turn_whole Idle passed x entry is e ready whole =
+  in_turn_some Ready (Some bytes) x entry is e ready some = subst (λ (y : Entry (BufferedStream T)). 32768 ≤ y.stream.share) e some
+  in_turn_some Idle share x entry is e ready some =
       absurd (let bad : Idle ≡ Ready = sym is ∙ ap (λ (y : Entry (BufferedStream T)). y.state) e ∙ ready in cc)
-  in_turn_whole Gone passed x entry is e ready whole =
+  in_turn_some Gone share x entry is e ready some =
       absurd (let bad : Gone ≡ Ready = sym is ∙ ap (λ (y : Entry (BufferedStream T)). y.state) e ∙ ready in cc)
 
-  turn_whole : (passed : Bool) (slot : Option (Entry (BufferedStream T))) (entry : Entry (BufferedStream T)) → after_turn passed slot ≡ Some entry
-      → entry.state ≡ Ready → WholeIn slot → entry.stream.share ≡ 262144
-  turn_whole passed None entry e ready whole = absurd (let bad : None ≡ Some entry = e in cc)
-  turn_whole passed (Some x) entry e ready whole = in_turn_whole x.state passed x entry refl (some_same e) ready whole
+  turn_some : (share : Option ℕ) (slot : Option (Entry (BufferedStream T))) (entry : Entry (BufferedStream T)) → after_turn share slot ≡ Some entry
+      → entry.state ≡ Ready → IsSome share → 32768 ≤ entry.stream.share
+  turn_some share None entry e ready some = absurd (let bad : None ≡ Some entry = e in cc)
+  turn_some share (Some x) entry e ready some = in_turn_some x.state share x entry refl (some_same e) ready some
 
-  slot_whole : (slots : Slots (BufferedStream T)) (key : ℕ) → AreRested slots → (slot : Option (Entry (BufferedStream T))) → slot_at slots key ≡ slot
-      → WholeIn slot
-  slot_whole slots key rested None is = tt
-  slot_whole slots key rested (Some entry) is = (rested key entry is).share
-
-  polled_whole : (slots ready : Slots (BufferedStream T)) (events : List Event) → TakesTurns slots ready events → AreRested slots → (key : ℕ)
-      → (entry : Entry (BufferedStream T)) → slot_at ready key ≡ Some entry → entry.state ≡ Ready → entry.stream.share ≡ 262144
-  polled_whole slots ready events polled rested key entry e is =
-      turn_whole (polled key).0 (after_poll events key (slot_at slots key)) entry (sym (polled key).1 ∙ e) is
-      (poll_whole events key (slot_at slots key) (slot_whole slots key rested (slot_at slots key) refl))
+  polled_some : (slots ready : Slots (BufferedStream T)) (events : List Event) → TakesTurns slots ready events → (key : ℕ)
+      → (entry : Entry (BufferedStream T)) → slot_at ready key ≡ Some entry → entry.state ≡ Ready → 32768 ≤ entry.stream.share
+  polled_some slots ready events polled key entry e is =
+      let turn = polled key in turn_some turn.0 (after_poll events key (slot_at slots key)) entry (sym turn.1 ∙ e) is turn.2
 
   polled_rested : (slots ready : Slots (BufferedStream T)) (events : List Event) → TakesTurns slots ready events → AreRested slots → (key : ℕ)
       → (entry : Entry (BufferedStream T)) → slot_at ready key ≡ Some entry → (entry.stream.is_short ≡ false) × (entry.stream.is_drained ≡ false)
@@ -257,10 +235,10 @@ module _ {T : Type 0} where
   module _ (reports : Type 0) (traffic : T → Traffic) (moment : ℕ) where
     end_rests : (state : EntryState) (old new : BufferedStream T) → EndsIn reports traffic moment state old new
         → IsRested new
-    end_rests Idle old new ends = rested_as (fresh old) new ends (record { short = refl; drained = refl; share = refl })
+    end_rests Idle old new ends = rested_as (fresh old) new ends (record { short = refl; drained = refl })
     end_rests _ old new ends = elim ends [
-      | inl same ↦ rested_as (fresh old) new same.1 (record { short = refl; drained = refl; share = refl })
-      | inr y ↦ record { short = y.2.kept.short; drained = y.2.kept.drained; share = y.2.kept.turn.share }
+      | inl same ↦ rested_as (fresh old) new same.1 (record { short = refl; drained = refl })
+      | inr y ↦ record { short = y.2.kept.short; drained = y.2.kept.drained }
     ]
 
     pub ended_rested : (driven new : Slots (BufferedStream T)) → ((key : ℕ) → EndsTurn reports traffic moment (slot_at driven key) (slot_at new key))
@@ -272,7 +250,7 @@ module _ {T : Type 0} where
 -- ---- the drives of a turn
 
 -- one of which no drive is under way has noted nothing
-sound_rested : {T : Type 0} (short : T → Type 0) (b : BufferedStream T) → (b.is_short ≡ false) × (b.is_drained ≡ false) → IsSound short b
+sound_rested : {T : Type 0} (short : T → Type 0) (b : BufferedStream T) → (b.is_short ≡ false) × (b.is_drained ≡ false) → HasSoundNotes short b
 sound_rested short b rests = record {
   short = λ yes. absurd (let no = rests.0 in cc);
   drained = λ yes. absurd (let no = rests.1 in cc);
@@ -281,10 +259,10 @@ sound_rested short b rests = record {
 module _ {T : Type 0} (traffic : T → Traffic) (short : T → Type 0) (reports : Type 0) where
   -- each entry that was ready used its turn
   pub drives_use : (slots ready driven : Slots (BufferedStream T)) (events : List Event) → TakesTurns slots ready events → AreRested slots
-      → EachEntry (WaitsSince (IsSound short) (SaysWhyBlocked short traffic)) ready driven
+      → EachEntry (WaitsSince (HasSoundNotes short) (SaysWhyBlocked short traffic)) ready driven
       → EachEntry (UsesShare reports (traffic_through traffic) share_of) ready driven → EachEntry (UsesTurn reports traffic) ready driven
   drives_use slots ready driven events polled rested since uses key was entry e f = record {
-    whole = polled_whole slots ready events polled rested key was e;
+    some = polled_some slots ready events polled key was e;
     uses = uses key was entry e f;
     blocked = λ is idle last.
         since key was entry e f is idle (sound_rested short was.stream (polled_rested slots ready events polled rested key was e)) (Write WriteBlocked) last;
@@ -313,7 +291,7 @@ module _ {T : Type 0} (traffic : T → Traffic) (short : T → Type 0) where
 
   module _ (reports : Type 0) (slots ready driven new : Slots (BufferedStream T)) (events : List Event) (polled : TakesTurns slots ready events)
       (own : AreOwn ready) (moment : ℕ) (ended : (key : ℕ) → EndsTurn reports traffic moment (slot_at driven key) (slot_at new key))
-      (since : EachEntry (WaitsSince (IsSound short) (SaysWhyBlocked short traffic)) ready driven) (rested : AreRested slots) where
+      (since : EachEntry (WaitsSince (HasSoundNotes short) (SaysWhyBlocked short traffic)) ready driven) (rested : AreRested slots) where
     pub drives_wait : (h k : Point) → DrivenAll reports (traffic_through traffic) h ready k driven → IdleWait traffic short h.hub slots
         → IdleWait traffic short k.hub new
     drives_wait h k d has key entry e idle =
@@ -427,7 +405,7 @@ module _ {D : Type 0} {g : Ghosts D} where
   pub accepted_rested : {hub : Hub D g} {next : ℕ} {slots : Slots (BufferedStream Socket)} {came : List AcceptedSocket} {later : Hub D g} {then : ℕ}
       {new : Slots (BufferedStream Socket)} → AdmitsEach IsNewSocket hub next slots came later then new → AreRested slots → AreRested new
   accepted_rested each rested =
-      each_rested traffic_of CameShort IsNewSocket (λ accepted key s b n. record { short = n.2.short; drained = n.2.drained; share = n.2.share })
+      each_rested traffic_of CameShort IsNewSocket (λ accepted key s b n. record { short = n.2.short; drained = n.2.drained })
       each rested
 
   -- what leads from one hub to another, and keeps what is idle waiting

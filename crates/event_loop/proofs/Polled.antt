@@ -45,9 +45,15 @@ was_gone Idle false gone = gone
 pub gone_as : (a b : EntryState) → is_gone a ≡ is_gone b → a ≡ Gone → b ≡ Gone
 gone_as a b same gone = gone_at b (sym same ∙ ap is_gone gone)
 
--- each slot is as the poll reported, or passed over
+-- a light share at least, if one is had
+abbrev pub IsSome : Option ℕ → Type 0
+IsSome None = Unit {0}
+IsSome (Some bytes) = 32768 ≤ bytes
+
+-- each slot is as the poll reported, with a share of the turn, or passed over
 abbrev pub TakesTurns : {T : Type 0} → (old new : Slots (BufferedStream T)) → List Event → Type 0
-TakesTurns old new events = (key : ℕ) → (passed : Bool) × (slot_at new key ≡ after_turn passed (after_poll events key (slot_at old key)))
+TakesTurns old new events =
+    (key : ℕ) → (share : Option ℕ) × (slot_at new key ≡ after_turn share (after_poll events key (slot_at old key))) × IsSome share
 
 module _ {T : Type 0} where
   poll_more : {R : Type 0} (now : R → Event) (yielded : List R) (event : R) (key : ℕ) (slot : Option (Entry (BufferedStream T)))
@@ -101,12 +107,12 @@ module _ {T : Type 0} where
     poll_left (event ∷ events) key slot =
         poll_left events key (after_event event key slot) ∙ reported_left ((event_token event).0 == key) (is_priority event || is_read_closed event) slot
 
-    turn_left : (passed : Bool) (slot : Option (Entry (BufferedStream T))) → option_map left (after_turn passed slot) ≡ option_map left slot
-    turn_left passed slot = grind arith
+    turn_left : (share : Option ℕ) (slot : Option (Entry (BufferedStream T))) → option_map left (after_turn share slot) ≡ option_map left slot
+    turn_left share slot = grind arith
 
-    sent_left : (events : List Event) (key : ℕ) (passed : Bool) (slot new : Option (Entry (BufferedStream T)))
-        → new ≡ after_turn passed (after_poll events key slot) → option_map left new ≡ option_map left slot
-    sent_left events key passed slot new e = ap (option_map left) e ∙ turn_left passed (after_poll events key slot) ∙ poll_left events key slot
+    sent_left : (events : List Event) (key : ℕ) (share : Option ℕ) (slot new : Option (Entry (BufferedStream T)))
+        → new ≡ after_turn share (after_poll events key slot) → option_map left new ≡ option_map left slot
+    sent_left events key share slot new e = ap (option_map left) e ∙ turn_left share (after_poll events key slot) ∙ poll_left events key slot
 
     -- so one entry is as the other was, or will be
     pub record IsLeft (entry other : Entry (BufferedStream T)) : Type 0 where

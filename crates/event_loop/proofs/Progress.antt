@@ -26,6 +26,7 @@ use Rattle.stream_driver.specs.declared.entries.Entry.{Entry}
 use Rattle.stream_driver.specs.declared.entries.EntryState.{EntryState}
 use Rattle.stream_driver.specs.declared.entries.EntryState.TheVariants.{Idle, Ready, Gone}
 use Rattle.event_loop.proofs.Entries.{no_entry, polled_sessions}
+use Rattle.event_loop.proofs.Ordering.{turns_taken}
 use Rattle.event_loop.proofs.Peers.{awaits_same, idle_as}
 use Rattle.event_loop.proofs.Slots.{Slots}
 use Rattle.event_loop.proofs.TableBytes.{AreOwn, all_other, slot_other}
@@ -143,10 +144,9 @@ module _ {T : Type 0} (reports : Type 0) (traffic : T → Traffic) (was entry : 
   had_share : entry.stream.share ≡ 0 → HadItsShare reports traffic was entry
   had_share none = elim (uses.uses ready) [
     | inl (bytes, spends) ↦
-        let whole = uses.whole ready in
         let left = spends.takes.left in
-        let all : bytes ≡ 262144 = omega (arith, none, whole, left) in
-        inl (λ r. (let sent = spends.sent r in omega (arith, sent, all)))
+        let all : bytes ≡ was.stream.share = omega (arith, none, left) in
+        inl (record { some = uses.some ready; sent = λ r. (let sent = spends.sent r in omega (arith, sent, all)) })
     | inr ended ↦ inr ended
   ]
 
@@ -174,7 +174,9 @@ module _ {T : Type 0} (reports : Type 0) (traffic : T → Traffic) (was entry : 
 module _ {D : Type 0} {g : Ghosts D} (reports : Type 0) (traffic : Socket → Traffic) (old new : EventLoop D g) (turn : IsTurn reports traffic old new)
     (h : HubState) (stands : StandsFor old.hub h) where
   own : AreOwn turn.drives.ready
-  own = (polled_sessions old.table.slots turn.drives.ready (items new.poller.events) (λ key. (_, turn.drives.turned key)) old.hub old.sessions).own
+  own =
+      (polled_sessions old.table.slots turn.drives.ready (items new.poller.events)
+      (turns_taken old.hub turn.driven.turns old.table.slots turn.drives.ready (items new.poller.events) turn.drives.turned) old.hub old.sessions).own
 
   pub each_gets_on : (k : HubState) × StandsFor turn.driven.hub k
       × ((key : ℕ) (was : Entry (BufferedStream Socket)) → slot_at turn.drives.ready key ≡ Some was → was.state ≡ Ready

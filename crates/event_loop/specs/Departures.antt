@@ -93,7 +93,7 @@ module _ {D : Type 0} {g : Ghosts D} {hub : Hub D g} (served : Served hub) where
   -- a transaction committed by then. A crash at the moment of the departure or since leaves no map that is older than
   -- the one committed there: one after at least as many commits. So whatever restarts follow, the first begins with
   -- such a map, and each other with one that the restart before it may have left.
-  pub record IsKept (s : ℕ) (d : Departure) : Type 0 where
+  pub record IsDepartureKept (s : ℕ) (d : Departure) : Type 0 where
     pub was_answered : WasAnsweredInRun s d
     pub texts : IsBeginning d.bytes (replies_text was_answered.was_answered.stream)
     pub reading : HasOneReading was_answered.was_answered.stream
@@ -135,5 +135,5 @@ pub record HoldsAtEnds (P : Bool → ℕ → Traffic → Type 0) (moment : ℕ)
 -- each departure is kept, and what was served for a session that is gone was requested
 pub record IsExplained {D : Type 0} {g : Ghosts D} {hub : Hub D g} (served : Served hub) (gone : Bool) (s : ℕ)
     (t : Traffic) : Type 0 where
-  pub kept : AllByRecursion (IsKept served s) t.departed
+  pub kept : AllByRecursion (IsDepartureKept served s) t.departed
   pub requested : gone ≡ true → WasRequested served s t.received

@@ -14,11 +14,11 @@ abbrev pub WasRegisteredAs : (key session : ℕ) → Type 0
 WasRegisteredAs key session = (first : CountedSocket) × (first.connection ≡ session) × HasItsPlace key first
 
 -- it stands at one of the 128 places of the table, under whose key the poll reports its connection
-pub record HasPlace (key session : ℕ) : Type 0 where
+pub record HasTablePlace (key session : ℕ) : Type 0 where
   pub place : key < 128
   pub registered : ∥ WasRegisteredAs key session ∥₁
 
 -- so it is of each
 abbrev pub HavePlaces : {T : Type 0} → List (Option (Entry T)) → Type 0
 HavePlaces {T} slots = (key : ℕ) (entry : Entry T) → slice_index_or slots key None ≡ Some entry
-    → HasPlace key entry.session
+    → HasTablePlace key entry.session

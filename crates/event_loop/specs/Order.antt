@@ -5,6 +5,7 @@ use Rattle.std.specs.Prelude.{Option, Some, None}
 use Rattle.sector.specs.declared.device.Sectors.{Ghosts}
 use Rattle.sessions.specs.StandsFor.{has_written}
 use Rattle.sessions.specs.declared.hub.Hub.{Hub}
+use Rattle.stream_driver.specs.Buffers.{in_turn_of}
 use Rattle.stream_driver.specs.declared.buffered.BufferedStream.{BufferedStream}
 use Rattle.stream_driver.specs.declared.entries.Entry.{Entry}
 use Rattle.stream_driver.specs.declared.entries.EntryState.{EntryState}
@@ -53,14 +54,19 @@ module _ {T D : Type 0} {g : Ghosts D} (hub : Hub D g) where
   writes_in None = false
   writes_in (Some entry) = is_writer entry
 
-  -- does it take turns, and is it another's?
-  abbrev pub is_passed_over : Turns → ℕ → Entry (BufferedStream T) → Bool
-  is_passed_over turns key entry =
-      not (key == turns.next || (key == turns.beside && is_of_kind turns.kind entry)) && is_of_kind Any entry
+  -- does it have one of the turns?
+  abbrev pub has_turn : Turns → ℕ → Entry (BufferedStream T) → Bool
+  has_turn turns key entry = key == turns.next || (key == turns.beside && is_of_kind turns.kind entry)
 
-  abbrev pub is_passed : Turns → ℕ → Option (Entry (BufferedStream T)) → Bool
-  is_passed turns key None = false
-  is_passed turns key (Some entry) = is_passed_over turns key entry
+  -- how many bytes it may be sent in this turn: a light share where it takes no turns, a whole one where it has this,
+  -- and none where this is another's
+  abbrev pub share_in_turn : Turns → ℕ → Entry (BufferedStream T) → Option ℕ
+  share_in_turn turns key entry =
+      cond (is_of_kind Any entry) (cond (has_turn turns key entry) (Some 262144) None) (Some 32768)
+
+  abbrev pub share_at : Turns → ℕ → Option (Entry (BufferedStream T)) → Option ℕ
+  share_at turns key None = None
+  share_at turns key (Some entry) = share_in_turn turns key entry
 
   -- The turns of the entries at these keys: the next has one, and beside it the next of the other kind. So one at most
   -- that writes has one.
@@ -75,13 +81,13 @@ is_ready_slot None = false
 is_ready_slot (Some entry) = is_ready entry.state
 
 module _ {T : Type 0} where
-  -- an entry that is ready has a turn of its own; or it is passed over, and waits with no share of the turn
-  abbrev pub in_turn : EntryState → Bool → Entry (BufferedStream T) → Entry (BufferedStream T)
-  in_turn Ready false entry = record entry { stream = record entry.stream { appended = false; is_heavy = false } }
-  in_turn Ready true entry = record entry { state = Idle; stream = record entry.stream { share = 0 } }
-  in_turn Idle passed entry = entry
-  in_turn Gone passed entry = entry
+  -- an entry that is ready has its share of the turn; or it is passed over, and waits with none
+  abbrev pub in_turn : EntryState → Option ℕ → Entry (BufferedStream T) → Entry (BufferedStream T)
+  in_turn Ready (Some bytes) entry = record entry { stream = in_turn_of bytes entry.stream }
+  in_turn Ready None entry = record entry { state = Idle; stream = record entry.stream { share = 0 } }
+  in_turn Idle share entry = entry
+  in_turn Gone share entry = entry
 
-  abbrev pub after_turn : Bool → Option (Entry (BufferedStream T)) → Option (Entry (BufferedStream T))
-  after_turn passed None = None
-  after_turn passed (Some entry) = Some (in_turn entry.state passed entry)
+  abbrev pub after_turn : Option ℕ → Option (Entry (BufferedStream T)) → Option (Entry (BufferedStream T))
+  after_turn share None = None
+  after_turn share (Some entry) = Some (in_turn entry.state share entry)

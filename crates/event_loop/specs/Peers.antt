@@ -43,11 +43,10 @@ IdleWait {T} traffic came_short h slots =
 abbrev pub LackNothing : {D : Type 0} {g : Ghosts D} → Hub D g → List (Option (Entry (BufferedStream Socket))) → Type 0
 LackNothing hub slots = ∥ ((h : HubState) × StandsFor hub h × IdleWait traffic_of CameShort h slots) ∥₁
 
--- no drive of it is under way, and a whole share is left of its next turn
+-- no drive of it is under way
 pub record IsRested {T : Type 0} (b : BufferedStream T) : Type 0 where
   pub short : b.is_short ≡ false
   pub drained : b.is_drained ≡ false
-  pub share : b.share ≡ 262144
 
 -- so it is of each entry
 abbrev pub AreRested : {T : Type 0} → List (Option (Entry (BufferedStream T))) → Type 0

@@ -1,5 +1,5 @@
 -- That a session that is driven gets on: it is served, or it waits for its peer.
-use Rattle.std.specs.Prelude.{◌≡◌, ◌⊎◌, ◌+◌, ℕ, true, List, length, Option, Some}
+use Rattle.std.specs.Prelude.{◌≡◌, ◌≤◌, ◌⊎◌, ◌+◌, ℕ, true, List, length, Option, Some}
 use Rattle.sessions.specs.SessionStreams.{HubState, stream_of}
 use Rattle.stream_driver.specs.Appends.{UsesShare}
 use Rattle.stream_driver.specs.Buffers.{share_of, traffic_through}
@@ -17,21 +17,24 @@ use Rattle.stream_driver.specs.declared.entries.EntryState.TheVariants.{Idle, Re
 use Rattle.event_loop.specs.Tables.{slot_at}
 
 module _ {T : Type 0} (reports : Type 0) (traffic : T → Traffic) (was entry : Entry (BufferedStream T)) where
-  -- An entry that was ready had a whole share of the turn, and what is gone of it was sent, or it was ended. Where its
-  -- last write blocked, nothing is left of the share, or its peer takes no more.
+  -- An entry that was ready had a share of the turn, a light one at least, and what is gone of it was sent, or it was
+  -- ended. Where its last write blocked, nothing is left of the share, or its peer takes no more.
   pub record UsesTurn : Type 0 where
-    pub whole : was.state ≡ Ready → was.stream.share ≡ 262144
+    pub some : was.state ≡ Ready → 32768 ≤ was.stream.share
     pub uses : UsesShare reports (traffic_through traffic) share_of was entry
     pub blocked : was.state ≡ Ready → entry.state ≡ Idle
         → (traffic_through traffic entry.stream).last ≡ Some (Write WriteBlocked)
         → (entry.stream.share ≡ 0) ⊎ EndsOn traffic (Write WriteBlocked) entry.stream
 
-  -- it has had its share of the turn: 262,144 bytes were sent, or its drive appended a record, with which that ended
+  -- all bytes of its share of the turn were sent, 32,768 at least
+  pub record WasSentItsShare : Type 0 where
+    pub some : 32768 ≤ was.stream.share
+    pub sent : reports → length (traffic_through traffic entry.stream).sent
+        ≡ length (traffic_through traffic was.stream).sent + was.stream.share
+
+  -- it has had its share of the turn: that was sent, or its drive appended a record, with which that ended
   abbrev pub HadItsShare : Type 0
-  HadItsShare =
-      (reports → length (traffic_through traffic entry.stream).sent
-      ≡ length (traffic_through traffic was.stream).sent + 262144)
-      ⊎ (entry.stream.appended ≡ true)
+  HadItsShare = WasSentItsShare ⊎ (entry.stream.appended ≡ true)
 
   -- How far its drive came, in which so many requests were served. One that is ready still was served 64. One that is
   -- idle was served each request that had come in whole, and is owed nothing; or its peer takes no more; or it has had

@@ -30,7 +30,7 @@ use Rattle.stream_driver.specs.declared.entries.EntryState.TheVariants.{Gone, Re
 use Rattle.event_loop.specs.Accepts.{Accepts, AsksOnce}
 use Rattle.event_loop.specs.Leavings.{EndAll, LingerOn}
 use Rattle.event_loop.specs.Lingerings.{lingers_in, unless_failed}
-use Rattle.event_loop.specs.Order.{AreNext, after_turn, behind, is_passed, is_ready_slot}
+use Rattle.event_loop.specs.Order.{AreNext, after_turn, behind, is_ready_slot, share_at}
 use Rattle.event_loop.specs.Progress.{GetsOn, UsesTurn}
 use Rattle.event_loop.specs.Polls.{WasAskedOnce, after_wait, polls_of}
 use Rattle.event_loop.specs.Sockets.{IsNewSocket, SocketsReport, all_interests}
@@ -45,10 +45,10 @@ use Rattle.event_loop.specs.declared.server.EventLoop.{EventLoop}
 use Rattle.event_loop.specs.declared.server.TheConstants.{LISTENER}
 use Rattle.event_loop.specs.declared.socket.Socket.{Socket}
 
--- a slot is ready as the poll reported, unless it takes turns and it is another's
+-- a slot is ready as the poll reported, with its share of the turn, unless it takes turns and this is another's
 abbrev pub IsTurnOf : {T D : Type 0} {g : Ghosts D} → Hub D g → Turns → ℕ
     → (polled ready : Option (Entry (BufferedStream T))) → Type 0
-IsTurnOf hub turns key polled ready = ready ≡ after_turn (is_passed hub turns key polled) polled
+IsTurnOf hub turns key polled ready = ready ≡ after_turn (share_at hub turns key polled) polled
 
 -- The drives of a turn in which the poll reported these events. The entries that waited and that it reported became
 -- ready. Of those that are ready and take turns, one that writes and one that reads at most have this one, and the

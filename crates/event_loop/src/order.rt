@@ -1,19 +1,20 @@
 //! Fairness: which of the sessions that are ready are driven in a turn.
 //!
 //! A COMMIT that writes waits for its syncs, and a long reply takes its time, and so does everybody meanwhile. So a turn drives all
-//! sessions that have written nothing and whose last drive was short. Of the others it drives two at most: the next by key, round the
-//! table, and one of the other kind, a reader if the next is a writer, and a writer if it is a reader. So between two polls one session
-//! writes at most, and one reads much. Each that waits is driven within as many turns as the table has places.
+//! sessions that have written nothing and whose last drive was short, with a light share of it: who needs more takes turns from then on.
+//! Of the others it drives two at most, with a whole share: the next by key, round the table, and one of the other kind, a reader if the
+//! next is a writer, and a writer if it is a reader. So between two polls one session writes at most, and one reads much. Each that waits
+//! is driven within as many turns as the table has places.
 ghost use Rattle.std.specs.Prelude.{◌≡◌, ◌<◌, ◌≤◌, ℕ, Bool};
-ghost use Rattle.event_loop.specs.Order.{AreNext, ComesNearer, HasNextTurn, after_turn, behind, in_turn, is_of_kind};
-ghost use Rattle.event_loop.specs.Order.{is_passed, is_passed_over, is_writer, waits_as, writes_in};
+ghost use Rattle.event_loop.specs.Order.{AreNext, ComesNearer, HasNextTurn, after_turn, behind, has_turn, in_turn};
+ghost use Rattle.event_loop.specs.Order.{is_of_kind, is_writer, share_at, share_in_turn, waits_as, writes_in};
 ghost use Rattle.event_loop.specs.Tables.{slot_at};
 
 use crate::socket::Socket;
 use sector::Sectors;
 use sessions::{Hub, SESSIONS_MAX};
 use slab::Slab;
-use stream_driver::{BufferedStream, Entry, EntryState};
+use stream_driver::{BufferedStream, Entry, EntryState, LIGHT_MAX, SHARE_MAX};
 
 /// The sessions that take turns.
 #[derive(Clone, Copy, PartialEq, Eq, Debug)]
@@ -158,50 +159,68 @@ pub(crate) fn next_turns<D: Sectors>(
     }
 }
 
-// Is it another's turn?
-fn is_passed_over<D: Sectors>(
+// Does it have one of the turns?
+fn has_turn<D: Sectors>(
     hub: &Hub<D>,
     turns: Turns,
     key: usize,
     entry: &Entry<BufferedStream<Socket>>,
 ) -> bool
-    ensures { result ≡ is_passed_over hub.now turns key entry.now }
+    ensures { result ≡ has_turn hub.now turns key entry.now }
 {
-    if key == turns.next || (key == turns.beside && is_of_kind(hub, turns.kind, entry)) {
-        return false;
-    }
-    is_of_kind(hub, Kind::Any, entry)
+    key == turns.next || (key == turns.beside && is_of_kind(hub, turns.kind, entry))
 }
 
-// An entry that is ready has a turn of its own, unless it is another's.
+// How many bytes it may be sent in this turn: a light share where it takes no turns, a whole one where it has this, and `None` where this
+// is another's.
+fn share_in_turn<D: Sectors>(
+    hub: &Hub<D>,
+    turns: Turns,
+    key: usize,
+    entry: &Entry<BufferedStream<Socket>>,
+) -> Option<usize>
+    ensures { result ≡ share_in_turn hub.now turns key entry.now }
+{
+    if !is_of_kind(hub, Kind::Any, entry) {
+        return Some(LIGHT_MAX);
+    }
+    if has_turn(hub, turns, key, entry) {
+        Some(SHARE_MAX)
+    } else {
+        None
+    }
+}
+
+// An entry that is ready has its share of the turn, or is passed over.
 fn take_turn<D: Sectors>(
     hub: &Hub<D>,
     turns: Turns,
     key: usize,
     entry: &mut Entry<BufferedStream<Socket>>,
 )
-    ensures { entry.new ≡ in_turn entry.old.state (is_passed_over hub.now turns key entry.old) entry.old }
+    ensures { entry.new ≡ in_turn entry.old.state (share_in_turn hub.now turns key entry.old) entry.old }
 {
     if entry.state != EntryState::Ready {
         return;
     }
-    if is_passed_over(hub, turns, key, entry) {
-        entry.state = EntryState::Idle;
-        entry.stream.pass_over();
-    } else {
-        entry.stream.begin_turn();
+    match share_in_turn(hub, turns, key, entry) {
+        Some(bytes) => entry.stream.begin_turn(bytes),
+        None => {
+            entry.state = EntryState::Idle;
+            entry.stream.pass_over();
+        }
     }
 }
 
-/// Passes over the entries that take turns but for those whose turn it is: they aren't ready in this turn, and are again at its end. Takes
-/// no memory.
+/// Passes over the entries that take turns but for those whose turn it is: they aren't ready in this turn, and are again at its end. The
+/// others have their shares of the turn. Takes no memory.
 pub(crate) fn take_turns<D: Sectors>(
     hub: &Hub<D>,
     turns: Turns,
     table: &mut Slab<Entry<BufferedStream<Socket>>>,
 )
     ensures { (key : ℕ) → slot_at table.new.slots key
-        ≡ after_turn (is_passed hub.now turns key (slot_at table.old.slots key)) (slot_at table.old.slots key) }
+        ≡ after_turn (share_at hub.now turns key (slot_at table.old.slots key)) (slot_at table.old.slots key) }
 {
     for key in 0..table.capacity() {
         if let Some(entry) = table.get_mut(key) {

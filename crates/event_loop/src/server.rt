@@ -145,10 +145,11 @@ impl<D: Sectors> EventLoop<D> {
     /// have left and buffer nothing, and accepts at most 128 connections, which the next turn drives.
     ///
     /// It is the turn of each that has written nothing and whose last drive was short, of one at most that writes, and of one at most whose
-    /// last drive was heavy, as it took more than `LIGHT_MAX` bytes. So nobody waits for more than one of each. Those write whose open
-    /// transaction has written, or who were answered last in a drive that appended a record. Of the two kinds together the next by key,
-    /// round the table, has its turn, and beside it one of the other kind; the rest are ready in the next turn, which doesn't wait. So each
-    /// is driven within as many turns as the table has places (`law_each_has_its_turn`). An append ends the share of its stream, so what
+    /// last drive was heavy, as it took `LIGHT_MAX` bytes. So nobody waits for more than one of each, and for what the others have of the
+    /// turn: `LIGHT_MAX` bytes each, and `SHARE_MAX` for these two. Those write whose open transaction has written, or who were answered
+    /// last in a drive that appended a record. Of the two kinds together the next by key, round the table, has its turn, and beside it one
+    /// of the other kind; the rest are ready in the next turn, which doesn't wait. So each is driven within as many turns as the table has
+    /// places (`law_each_has_its_turn`). An append ends the share of its stream, so what
     /// comes behind it in one piece waits for a turn as well. So a turn appends one record at most for the one that writes, and one for
     /// each other that comes with a whole transaction in one piece: from then on it writes, until a drive answers it and appends nothing.
     ///
@@ -216,7 +217,7 @@ impl<D: Sectors> EventLoop<D> {
 
     /// Does nothing, and takes no memory. Its contract says that a session that is ready is driven within as many turns as the table has
     /// places: in each turn it is driven, or it is ready still and comes nearer. And one that is driven gets on: it is served each request
-    /// that had come in whole, or `REQUESTS_MAX`, or what it has had of the turn is a whole share of bytes or the reply to a request that
+    /// that had come in whole, or `REQUESTS_MAX`, or what it has had of the turn is its share of bytes or the reply to a request that
     /// appended a record; or its peer takes no more; or it leaves.
     ///
     /// Under the premise that a poll reports what was registered with it and became ready, and that on sockets, a session over whose

@@ -19,10 +19,11 @@ use Rattle.sessions.specs.declared.events.Outcome.TheVariants.{Done, Memory}
 use Rattle.stream_driver.proofs.States.{seen_after}
 use Rattle.stream_driver.specs.Appends.{AddsNone, AddsOne, IsReplied, KeepsShare, ServesOnce, Spends, Spent}
 use Rattle.stream_driver.specs.Appends.{AppendsAtMost, SpendsShare, ready_count, ready_in, count_if_ready}
-use Rattle.stream_driver.specs.Calls.{Flushes, WritesSome}
+use Rattle.stream_driver.specs.Calls.{WritesOut, WritesSome}
 use Rattle.stream_driver.specs.Sends.{LeadsAnswering}
 use Rattle.stream_driver.specs.Sessions.{Ghosts, Hub, Leads, Stands, pending_at, session_of}
-use Rattle.stream_driver.specs.Traffic.{IsEnded, ReadsBytes, Share, TakesOf, Traffic, WritesBytes, WritesWithin}
+use Rattle.stream_driver.specs.Traffic.{IsShareEnded, ReceivesBytes, Share, TakesOf, Traffic, SendsBytes}
+use Rattle.stream_driver.specs.Traffic.{WritesWithin}
 use Rattle.stream_driver.specs.Traffic.{bytes_written}
 use Rattle.stream_driver.specs.Types.{Empty, Exchange, WriteAnswer, Wrote, WriteBlocked, WriteFailed, Entry}
 use Rattle.stream_driver.specs.Types.{EntryState, Ready}
@@ -119,7 +120,7 @@ replied_now {D} {g} {a} {b} {s} some p =
 
 -- nothing is pending once the output was written
 pub pending_none : {D : Type 0} {g : Ghosts D} {a b : Hub D g} {s : ℕ} {reports : Type 0} {t u : Traffic} → Stands a
-    → LeadsAnswering s reports a t b u (λ h k. Flushes s reports h t Empty k u) → pending_of b s ≡ []
+    → LeadsAnswering s reports a t b u (λ h k. WritesOut s reports h t Empty k u) → pending_of b s ≡ []
 pending_none {D} {g} {a} {b} {s} some p = seen_after (hlevel props) some p.leads (λ h k was is q. pending_seen b k.hub is s ∙ q.why.1)
 
 pub none_none : {D : Type 0} {g : Ghosts D} (s : ℕ) (hub : Hub D g) → AddsNone s hub hub
@@ -135,14 +136,14 @@ module _ {D : Type 0} {g : Ghosts D} {T : Type 0} (reports : Type 0) (traffic : 
   -- that request; or nothing is left of it, and the reply to the next one is pending.
   pub data SoFar (hub : Hub D g) (stream : T) : Type 0 where
     AddedNone : records_of hub ≡ records → Spent reports traffic share was stream → SoFar hub stream
-    AddedOne : records_of hub ≡ records + 1 → has_written hub s ≡ false → IsEnded (length (pending_of hub s)) (share stream) → SoFar hub stream
-    TakesNone : records_of hub ≡ records + 1 → pending_of hub s ≢ [] → IsEnded 0 (share stream) → SoFar hub stream
+    AddedOne : records_of hub ≡ records + 1 → has_written hub s ≡ false → IsShareEnded (length (pending_of hub s)) (share stream) → SoFar hub stream
+    TakesNone : records_of hub ≡ records + 1 → pending_of hub s ≢ [] → IsShareEnded 0 (share stream) → SoFar hub stream
 
   -- nothing is pending: no record was added, or one was, and nothing is left of the share
   abbrev pub IsOut : Hub D g → T → Type 0
   IsOut hub stream =
       ((records_of hub ≡ records) × Spent reports traffic share was stream)
-      ⊎ ((records_of hub ≡ records + 1) × (has_written hub s ≡ false) × IsEnded 0 (share stream))
+      ⊎ ((records_of hub ≡ records + 1) × (has_written hub s ≡ false) × IsShareEnded 0 (share stream))
 
 pub once_then : {T : Type 0} {reports : Type 0} {traffic : T → Traffic} {share : T → Share} {before now later : ℕ} {was is : T}
     → IsOnce reports traffic share before was now is → later ≡ now → IsOnce reports traffic share before was later is
@@ -179,16 +180,16 @@ module _ {T : Type 0} {reports : Type 0} {traffic : T → Traffic} {share : T �
   spent_then {bytes = bytes} p q = (p.0 + bytes, spends_both refl p.1 q)
 
   -- nothing is left once all was taken of no more than so many bytes
-  ended_then : {t u : T} {most bytes : ℕ} → most ≤ bytes → IsEnded most (share t) → Spends reports traffic share t bytes u → IsEnded 0 (share u)
+  ended_then : {t u : T} {most bytes : ℕ} → most ≤ bytes → IsShareEnded most (share t) → Spends reports traffic share t bytes u → IsShareEnded 0 (share u)
   ended_then le p q = record { few = omega (arith, le, p.few, q.takes.left); ended = q.takes.stays ∙ p.ended }
 
 -- what a read and a write did to it
 pub spends_read : {T : Type 0} {reports : Type 0} {traffic : T → Traffic} {share : T → Share} {moment : ℕ} {t u : T} {bytes : List ℕ}
-    → (reports → ReadsBytes moment (traffic t) bytes (traffic u)) → TakesOf (share t) 0 (share u) → Spends reports traffic share t 0 u
+    → (reports → ReceivesBytes moment (traffic t) bytes (traffic u)) → TakesOf (share t) 0 (share u) → Spends reports traffic share t 0 u
 spends_read {traffic = traffic} {t = t} moved takes = record { takes = takes; sent = λ r. omega (arith, ap length (moved r).sent) }
 
 pub spends_write : {T : Type 0} {reports : Type 0} {traffic : T → Traffic} {share : T → Share} {moment : ℕ} {t u : T} (answer : WriteAnswer) (from : List ℕ)
-    → WritesWithin answer (length from) → (reports → WritesBytes moment (traffic t) (take (bytes_written answer) from) (traffic u))
+    → WritesWithin answer (length from) → (reports → SendsBytes moment (traffic t) (take (bytes_written answer) from) (traffic u))
     → TakesOf (share t) (bytes_written answer) (share u) → Spends reports traffic share t (bytes_written answer) u
 spends_write {traffic = traffic} {t = t} answer from within moved takes = record {
   takes = takes;
@@ -315,7 +316,7 @@ module _ {D : Type 0} {g : Ghosts D} {T : Type 0} {keeps reports : Type 0} {traf
   -- a request was looked for, and where that added a record the share was ended, and no more is left of it than the reply
   pub served : {answer : Exchange} → keeps → IsOut reports traffic share s records was hub stream
       → ServesOnce keeps reports traffic share s hub stream answer new after
-      → (records_of new ≢ records_of hub → IsEnded (length (pending_of new s)) (share after)) → pending_of new s ≢ []
+      → (records_of new ≢ records_of hub → IsShareEnded (length (pending_of new s)) (share after)) → pending_of new s ≢ []
       → SoFar reports traffic share s records was new after
   served k (inl x) q ends some = elim (cases_eq (records_of new) (records_of hub)) [
     | inl still ↦ AddedNone (still ∙ x.0) (spent_then x.1 (q.spends k still))
@@ -325,7 +326,7 @@ module _ {D : Type 0} {g : Ghosts D} {T : Type 0} {keeps reports : Type 0} {traf
 
   pub served_once : {answer : Exchange} → keeps → IsOut reports traffic share s records was hub stream
       → ServesOnce keeps reports traffic share s hub stream answer new after
-      → (records_of new ≢ records_of hub → IsEnded (length (pending_of new s)) (share after))
+      → (records_of new ≢ records_of hub → IsShareEnded (length (pending_of new s)) (share after))
       → IsOnce reports traffic share records was (records_of new) after
   served_once k (inl x) q ends = elim (cases_eq (records_of new) (records_of hub)) [
     | inl still ↦ inl (still ∙ x.0, spent_then x.1 (q.spends k still))

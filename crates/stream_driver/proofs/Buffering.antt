@@ -91,11 +91,12 @@ module _ {T : Type 0} where
   write_fails old new answer none stays = grind arith
 
   same_turn : {b : BufferedStream T} → KeepsTurn b b
-  same_turn = record { share = refl; appended = refl; writer = refl; heavy = refl }
+  same_turn = record { share = refl; whole = refl; appended = refl; writer = refl; heavy = refl }
 
   turn_then : {a b c : BufferedStream T} → KeepsTurn a b → KeepsTurn b c → KeepsTurn a c
   turn_then p q = record {
     share = q.share ∙ p.share;
+    whole = q.whole ∙ p.whole;
     appended = q.appended ∙ p.appended;
     writer = q.writer ∙ p.writer;
     heavy = q.heavy ∙ p.heavy;

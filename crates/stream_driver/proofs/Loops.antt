@@ -21,7 +21,7 @@ use Rattle.stream_driver.proofs.Events.{effect_replied, served_event, effect, op
 use Rattle.stream_driver.proofs.Inboxes.{beginning_short}
 use Rattle.stream_driver.proofs.Sends.{reports_step, reports_still, reports_three, reports_two_at}
 use Rattle.stream_driver.proofs.States.{Follow, seen_after}
-use Rattle.stream_driver.specs.Calls.{Moves, WritesSome, ReadsSome, Flushes, Exchanges, WhyExchanged, WhyFlushed}
+use Rattle.stream_driver.specs.Calls.{Moves, WritesSome, ReadsSome, WritesOut, Exchanges, WhyExchanged, WhyFlushed}
 use Rattle.stream_driver.specs.Calls.{WrittenSoFar, ReadSoFar, DrivenSoFar, DrivenOut, served_in}
 use Rattle.stream_driver.specs.Drives.{Carried, Departs, Drove, LeavesIfGone, Why}
 use Rattle.stream_driver.specs.Sends.{LeadsAnswering}
@@ -75,7 +75,7 @@ module _ {s : ℕ} {reports : Type 0} where
       pub written_stopped : (answer : WriteAnswer) (flush : OutputState) → 0 < owed → (q : WritesSome s reports mid between answer new after)
           → pending_at new.hub s ≡ pending_at mid.hub s
           → (CountsLast (Write answer) before after × (pending_at new.hub s ≢ []) → WhyFlushed s new.hub before after flush)
-          → Flushes s reports old before flush new after
+          → WritesOut s reports old before flush new after
       written_stopped answer flush some q same why =
           let left : pending_at new.hub s ≢ [] = λ none. absurd (omega (arith, p.owed_is, ap length (sym same ∙ none))) in
           let why_so = why (ends_then (Write answer) before between after p.moved q.answered, left) in
@@ -227,7 +227,7 @@ module _ {s : ℕ} {reports : Type 0} where
     served_still q is_open =
         omega (arith, length-append p.driven.carried.runs.history.served q.carried.runs.history.served, p.served_is (sym q.status ∙ is_open), q.none_served)
 
-    pub out_flushed : Flushes s reports mid between Empty new after → DrivenOut s reports old before new after count × (pending_at new.hub s ≡ [])
+    pub out_flushed : WritesOut s reports mid between Empty new after → DrivenOut s reports old before new after count × (pending_at new.hub s ≡ [])
     out_flushed q = (
       record {
         driven = driven_flushed p.driven q.moves;
@@ -237,22 +237,22 @@ module _ {s : ℕ} {reports : Type 0} where
       q.why.1,
     )
 
-    pub waits_to_write : count ≤ 64 → Flushes s reports mid between FlushBlocked new after → Drove s reports old before Waiting new after
+    pub waits_to_write : count ≤ 64 → WritesOut s reports mid between FlushBlocked new after → Drove s reports old before Waiting new after
     waits_to_write le q = drove (driven_flushed p.driven q.moves) le Waiting refl
         (inl (ends_then (Write WriteBlocked) before between after p.moved q.why.0, q.why.1))
 
-    pub again : count ≡ 64 → Flushes s reports mid between Empty new after → status_at new.hub s ≡ Open → Drove s reports old before Again new after
+    pub again : count ≡ 64 → WritesOut s reports mid between Empty new after → status_at new.hub s ≡ Open → Drove s reports old before Again new after
     again all q is_open =
         drove (driven_flushed p.driven q.moves) (omega arith) Again refl
         (moved_then before between after p.moved q.why.0, served_still q.moves is_open ∙ all, is_open, q.why.1)
 
-    pub gone_writing : count ≤ 64 → Flushes s reports mid between FlushFailed new after → {gone : Point} → Departs s new gone
+    pub gone_writing : count ≤ 64 → WritesOut s reports mid between FlushFailed new after → {gone : Point} → Departs s new gone
         → Drove s reports old before Gone gone after
     gone_writing le q departs =
         drove (driven_flushed p.driven q.moves) le Gone departs (inr (inl (ends_then (Write WriteFailed) before between after p.moved q.why.0, q.why.1)))
 
     -- nothing is pending, and the session is no longer open
-    pub gone_closed : count ≤ 64 → Flushes s reports mid between Empty new after → status_at new.hub s ≢ Open → {gone : Point} → Departs s new gone
+    pub gone_closed : count ≤ 64 → WritesOut s reports mid between Empty new after → status_at new.hub s ≢ Open → {gone : Point} → Departs s new gone
         → Drove s reports old before Gone gone after
     gone_closed le q is_closed departs =
         let closed = closed_kinds (status_at new.hub s) q.moves.carried.runs.present is_closed q.why.1 in
@@ -307,13 +307,13 @@ module _ {s : ℕ} {reports : Type 0} where
 
 -- the output was written: the session stands as it stood, and its inbox has as much room
 pub status_flushed : {D : Type 0} {g : Ghosts D} {a b : Hub D g} {s : ℕ} {reports : Type 0} {before between : Traffic} {flush : OutputState} → Stands a
-    → LeadsAnswering s reports a before b between (λ h k. Flushes s reports h before flush k between)
+    → LeadsAnswering s reports a before b between (λ h k. WritesOut s reports h before flush k between)
     → status_of b s ≡ status_of a s
 status_flushed {D} {g} {a} {b} {s} some p =
     seen_after (hlevel props) some p.leads (λ h k was stands q. status_seen b k.hub stands s ∙ q.moves.status ∙ sym (status_seen a h.hub was s))
 
 pub room_flushed : {D : Type 0} {g : Ghosts D} {a b : Hub D g} {s : ℕ} {reports : Type 0} {before between : Traffic} {flush : OutputState} → Stands a
-    → LeadsAnswering s reports a before b between (λ h k. Flushes s reports h before flush k between)
+    → LeadsAnswering s reports a before b between (λ h k. WritesOut s reports h before flush k between)
     → room_of b s ≡ room_of a s
 room_flushed {D} {g} {a} {b} {s} some p =
     seen_after (hlevel ℕ_set) some p.leads (λ h k was stands q. room_seen b k.hub stands s ∙ q.room ∙ sym (room_seen a h.hub was s))
@@ -326,14 +326,14 @@ owed_now {D} {g} {a} {b} {s} some p = seen_after (hlevel ℕ_set) some p.leads (
 
 module _ {D : Type 0} {g : Ghosts D} (follow : Follow D g) {a b c : Hub D g} {s : ℕ} {reports : Type 0} {before between behind : Traffic} {count : ℕ}
     (p : LeadsAnswering s reports a before b between (λ h k. DrivenOut s reports h before k between count)) where
-  pub flushes_out : LeadsAnswering s reports b between c behind (λ k l. Flushes s reports k between Empty l behind)
+  pub flushes_out : LeadsAnswering s reports b between c behind (λ k l. WritesOut s reports k between Empty l behind)
       → LeadsAnswering s reports a before c behind (λ h l. DrivenOut s reports h before l behind count × (pending_at l.hub s ≡ []))
   flushes_out q = reports_two_at follow p q (λ h k x. x.driven.carried) (λ h k l was stands x y. out_flushed x y)
 
   -- the session leaves after a write of the output
   pub leaves : {d : Hub D g} {answer : Progress} {flush : OutputState} → answer ≡ Gone
-      → LeadsAnswering s reports b between c behind (λ k l. Flushes s reports k between flush l behind) → Leads c d (λ l m. Departs s l m)
-      → ((h k l m : Point) → StandsFor c l.hub → DrivenOut s reports h before k between count → Flushes s reports k between flush l behind → Departs s l m
+      → LeadsAnswering s reports b between c behind (λ k l. WritesOut s reports k between flush l behind) → Leads c d (λ l m. Departs s l m)
+      → ((h k l m : Point) → StandsFor c l.hub → DrivenOut s reports h before k between count → WritesOut s reports k between flush l behind → Departs s l m
       → Drove s reports h before Gone m behind)
       → LeadsAnswering s reports a before d behind (λ h m. Drove s reports h before answer m behind)
   leaves is q left f = rw is (reports_three follow p q (reports_still left) (λ h k x. x.driven.carried) (λ k l y. y.moves.carried) f)

@@ -9,7 +9,7 @@ use Rattle.stream_driver.specs.Buffers.{ShortAfter, WhyTook, buffered_in}
 use Rattle.stream_driver.specs.Traffic.{Traffic}
 use Rattle.stream_driver.specs.Types.{BufferedStream, Call, Entry, Read, ReadAnswer, Moved, Blocked, Failed}
 use Rattle.stream_driver.specs.Types.{Ended, CallCounts, WriteAnswer, Wrote, WriteBlocked, WriteFailed}
-use Rattle.stream_driver.specs.Waits.{ComesShort, EachEntry, IsSound, StaysSound, SaysWhyBlocked, WhyBlocked}
+use Rattle.stream_driver.specs.Waits.{ComesShort, EachEntry, HasSoundNotes, StaysSound, SaysWhyBlocked, WhyBlocked}
 use Rattle.stream_driver.specs.Waits.{WhyReadBlocked, WhyWriteBlocked}
 
 -- several calls, of which the last may have blocked
@@ -81,7 +81,7 @@ module _ {T : Type 0} (short : T → Type 0) where
 
   -- calls that kept the notes
   pub sound_kept : (old new : BufferedStream T) → (short old.inner → short new.inner) → new.is_short ≡ old.is_short → new.is_drained ≡ old.is_drained
-      → new.reads_on ≡ old.reads_on → IsSound short old → IsSound short new
+      → new.reads_on ≡ old.reads_on → HasSoundNotes short old → HasSoundNotes short new
   sound_kept old new inner shorter drained on sound = record {
     short = λ e. (let was = sound.short (sym shorter ∙ e) in (inner was.0, on ∙ was.1));
     drained = λ e. (let was = sound.drained (sym drained ∙ e) in (inner was.0, on ∙ was.1));
@@ -89,7 +89,7 @@ module _ {T : Type 0} (short : T → Type 0) where
 
   -- a read that moved bytes, where not all had been read
   pub sound_moved : (old new : BufferedStream T) (n len : ℕ) → (n < len → short new.inner) → ShortAfter old len (Moved n) new → new.is_drained ≡ false
-      → new.reads_on ≡ old.reads_on → IsSound short new
+      → new.reads_on ≡ old.reads_on → HasSoundNotes short new
   sound_moved old new n len comes after drained on = record {
     short = λ e. (let how = after.0 e in (comes how.0, on ∙ how.1));
     drained = λ e. absurd (grind (arith, common_steps));
@@ -97,8 +97,8 @@ module _ {T : Type 0} (short : T → Type 0) where
 
   -- a write, after which all was read if a read had come short
   pub sound_drained : (old new : BufferedStream T) → (short old.inner → short new.inner) → new.is_short ≡ old.is_short
-      → (new.is_drained ≡ true → (old.is_drained ≡ true) ⊎ (old.is_short ≡ true)) → new.reads_on ≡ old.reads_on → IsSound short old
-      → IsSound short new
+      → (new.is_drained ≡ true → (old.is_drained ≡ true) ⊎ (old.is_short ≡ true)) → new.reads_on ≡ old.reads_on → HasSoundNotes short old
+      → HasSoundNotes short new
   sound_drained old new inner shorter drained on sound = record {
     short = λ e. (let was = sound.short (sym shorter ∙ e) in (inner was.0, on ∙ was.1));
     drained = λ e. elim (drained e) [

@@ -1,6 +1,6 @@
 -- A stream that buffers what is written to it, over an inner one.
 use Rattle.std.specs.Prelude.{◌≡◌, ◌⊎◌, ◌+◌, ◌-◌, ◌<◌, ◌≤◌, ◌==◌, ◌++◌, ◌||◌, ◌≢◌, ◌↔◌, ℕ, Bool, true, false, List}
-use Rattle.std.specs.Prelude.{[], ◌∷◌, take, drop, length, min, nat_lt, vec_len}
+use Rattle.std.specs.Prelude.{[], ◌∷◌, take, drop, length, min, nat_le, vec_len}
 use Rattle.stream_driver.specs.Counts.{counted, counted_with}
 use Rattle.stream_driver.specs.Traffic.{AllMoved, DepartAt, CountsLast, Share, Traffic, ReadsWithin, WritesWithin}
 use Rattle.stream_driver.specs.Traffic.{bytes_read, bytes_written, untouched}
@@ -35,6 +35,7 @@ module _ {T : Type 0} where
     pub drained : b.is_drained ≡ false
     pub reads_on : b.reads_on ≡ false
     pub share : b.share ≡ 262144
+    pub whole : b.whole ≡ 262144
     pub appended : b.appended ≡ false
     pub writer : b.is_writer ≡ false
     pub heavy : b.is_heavy ≡ false
@@ -43,6 +44,10 @@ module _ {T : Type 0} where
   -- the next drive may read, and has a share of its own
   abbrev pub fresh : BufferedStream T → BufferedStream T
   fresh b = record b { is_short = false; is_drained = false; share = 262144 }
+
+  -- a turn of its own begins, with a share of so many bytes
+  abbrev pub in_turn_of : ℕ → BufferedStream T → BufferedStream T
+  in_turn_of bytes b = record b { share = bytes; whole = bytes; appended = false; is_heavy = false }
 
   -- it has taken its share of this turn
   abbrev pub has_had_share : BufferedStream T → Bool
@@ -64,13 +69,13 @@ module _ {T : Type 0} where
 
   -- What is buffered has failed to leave, and nothing happens: the inner stream isn't called, and what is buffered
   -- stays so.
-  pub record Stops (old new : BufferedStream T) : Type 0 where
+  pub record FailsAgain (old new : BufferedStream T) : Type 0 where
     pub failed : old.has_failed ≡ true
     pub inner_is : new.inner ≡ old.inner
     pub buffered_is : new.buffered ≡ old.buffered
 
   -- it calls the inner stream: some share is left, and what is buffered hasn't failed to leave
-  pub record GoesOn (old : BufferedStream T) : Type 0 where
+  pub record CallsInner (old : BufferedStream T) : Type 0 where
     pub some : 0 < old.share
     pub failed : old.has_failed ≡ false
 
@@ -93,6 +98,7 @@ module _ {T : Type 0} where
   -- what it has of its turn is as it was
   pub record KeepsTurn (old new : BufferedStream T) : Type 0 where
     pub share : new.share ≡ old.share
+    pub whole : new.whole ≡ old.whole
     pub appended : new.appended ≡ old.appended
     pub writer : new.is_writer ≡ old.is_writer
     pub heavy : new.is_heavy ≡ old.is_heavy
@@ -109,9 +115,9 @@ module _ {T : Type 0} where
   is_drained_after WriteBlocked b = b.is_drained
   is_drained_after WriteFailed b = b.is_drained
 
-  -- more than 32,768 bytes of a share of 262,144 make a drive heavy
+  -- 32,768 bytes of its share make a drive heavy
   abbrev pub is_heavy_after : WriteAnswer → BufferedStream T → Bool
-  is_heavy_after (Wrote n) b = b.is_heavy || nat_lt (b.share - n) 229376
+  is_heavy_after (Wrote n) b = b.is_heavy || nat_le 32768 (b.whole - (b.share - n))
   is_heavy_after WriteBlocked b = b.is_heavy
   is_heavy_after WriteFailed b = b.is_heavy
 
@@ -127,6 +133,7 @@ module _ {T : Type 0} where
     pub short : new.is_short ≡ old.is_short
     pub reads_on : new.reads_on ≡ old.reads_on
     pub share : new.share + bytes_written answer ≡ old.share
+    pub whole : new.whole ≡ old.whole
     pub appended : new.appended ≡ old.appended
     pub writer : new.is_writer ≡ is_writer_after answer old
     pub heavy : new.is_heavy ≡ is_heavy_after answer old
@@ -196,7 +203,7 @@ module _ {T : Type 0} where
     abbrev pub WhyTook : BufferedStream T → WriteAnswer → BufferedStream T → Type 0
     WhyTook old answer new =
         (Pauses old new × (answer ≡ WriteBlocked))
-        ⊎ ((Stops old new × (answer ≡ WriteFailed)) ⊎ (GoesOn old × WhyTookSome old answer new))
+        ⊎ ((FailsAgain old new × (answer ≡ WriteFailed)) ⊎ (CallsInner old × WhyTookSome old answer new))
 
     -- the inner stream was read once nothing was buffered, in a drive that hadn't read all that is there
     abbrev pub InnerWasRead : BufferedStream T → ReadAnswer → BufferedStream T → Type 0
@@ -218,7 +225,7 @@ module _ {T : Type 0} where
     abbrev pub WhyGave : BufferedStream T → ReadAnswer → BufferedStream T → Type 0
     WhyGave old answer new =
         (Pauses old new × (answer ≡ Blocked))
-        ⊎ ((Stops old new × (answer ≡ Failed)) ⊎ (GoesOn old × WhyGaveSome old answer new))
+        ⊎ ((FailsAgain old new × (answer ≡ Failed)) ⊎ (CallsInner old × WhyGaveSome old answer new))
 
     -- a read: why it answers so, whether more is there to read, and whether what is buffered has failed to leave
     pub record AfterRead (old : BufferedStream T) (len : ℕ) (answer : ReadAnswer) (new : BufferedStream T) : Type 0

@@ -43,7 +43,7 @@ WhyFlushed s new before after Empty = AllMoved before after × (pending_at new s
 WhyFlushed s new before after FlushBlocked = CountsLast (Write WriteBlocked) before after × (pending_at new s ≢ [])
 WhyFlushed s new before after FlushFailed = CountsLast (Write WriteFailed) before after × (pending_at new s ≢ [])
 
-pub record Flushes (s : ℕ) (reports : Type 0) (old : Point) (before : Traffic) (answer : OutputState) (new : Point)
+pub record WritesOut (s : ℕ) (reports : Type 0) (old : Point) (before : Traffic) (answer : OutputState) (new : Point)
     (after : Traffic) : Type 0 where
   pub moves : Moves s reports old before new after
   pub room : inbox_room new.hub s ≡ inbox_room old.hub s

@@ -72,7 +72,7 @@ pub record TakesOf (old : Share) (bytes : ℕ) (new : Share) : Type 0 where
   pub stays : new.ended ≡ old.ended
 
 -- it was ended, and no more than so many bytes are left of it
-pub record IsEnded (most : ℕ) (share : Share) : Type 0 where
+pub record IsShareEnded (most : ℕ) (share : Share) : Type 0 where
   pub few : share.left ≤ most
   pub ended : share.ended ≡ true
 
@@ -127,13 +127,13 @@ pub record DepartAt (moment : ℕ) (before after : Traffic) : Type 0 where
   pub each : AllByRecursion (λ d. (d.moment ≡ moment) × IsBeginning d.bytes after.sent) departures
 
 -- these bytes were received, and none was sent; what left meanwhile, left at this moment
-pub record ReadsBytes (moment : ℕ) (before : Traffic) (bytes : List ℕ) (after : Traffic) : Type 0 where
+pub record ReceivesBytes (moment : ℕ) (before : Traffic) (bytes : List ℕ) (after : Traffic) : Type 0 where
   pub received : after.received ≡ before.received ++ bytes
   pub sent : after.sent ≡ before.sent
   pub departed : DepartAt moment before after
 
 -- these bytes were sent, and none was received
-pub record WritesBytes (moment : ℕ) (before : Traffic) (bytes : List ℕ) (after : Traffic) : Type 0 where
+pub record SendsBytes (moment : ℕ) (before : Traffic) (bytes : List ℕ) (after : Traffic) : Type 0 where
   pub received : after.received ≡ before.received
   pub sent : after.sent ≡ before.sent ++ bytes
   pub departed : DepartAt moment before after

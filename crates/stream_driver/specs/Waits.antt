@@ -56,7 +56,7 @@ module _ {T : Type 0} (came_short : T → Type 0) where
   IsReadOut b = came_short b.inner × (b.reads_on ≡ false)
 
   -- what it has noted of its reads in this drive is so
-  pub record IsSound (b : BufferedStream T) : Type 0 where
+  pub record HasSoundNotes (b : BufferedStream T) : Type 0 where
     pub short : b.is_short ≡ true → IsReadOut b
     pub drained : b.is_drained ≡ true → IsReadOut b
 
@@ -89,5 +89,5 @@ module _ {T : Type 0} (came_short : T → Type 0) where
     pub record GivesSoundly (old : BufferedStream T) (len : ℕ) (answer : ReadAnswer) (new : BufferedStream T) : Type 0
       where
         pub short : ComesShort (λ b. came_short b.inner) old len answer new
-        pub sound : IsSound old → IsSound new
-        pub why : IsSound old → WhyReadBlocked answer new
+        pub sound : HasSoundNotes old → HasSoundNotes new
+        pub why : HasSoundNotes old → WhyReadBlocked answer new

@@ -8,10 +8,10 @@ use crate::stream::Stream;
 use sector::Sectors;
 use std::alloc::{AllocError, Global};
 
-/// The most bytes that a buffered stream takes in one turn: its share of it.
+/// The most bytes that a buffered stream takes in one turn: the share of one whose turn it is.
 pub const SHARE_MAX: usize = 262_144;
 
-/// The most bytes that a buffered stream takes in a drive that isn't heavy.
+/// A light share: that of a stream that takes no turns. A drive that takes so many bytes is heavy.
 pub const LIGHT_MAX: usize = 32_768;
 
 /// How the writing of what a stream buffers came out.
@@ -36,12 +36,13 @@ pub enum Flushed {
 /// moves bytes. After a read of fewer bytes than it asked for nothing more is there, until the poll reports it: so once a reply to it was
 /// written, a read is answered `Blocked` with no call, until the next drive begins.
 ///
-/// It takes at most `SHARE_MAX` bytes in a drive, its share of a turn: a write takes no more than is left of it. Once none is left, reads
-/// and writes are answered `Blocked` with no call of the inner stream, until the next drive begins. No poll reports that, so whoever drives
-/// it asks whether it `has_had_its_share`. A reply that is larger than the share is taken in parts, over several turns.
+/// In a drive it takes no more bytes than its share of the turn (`begin_turn`), at most `SHARE_MAX`: a write takes no more than is left of
+/// it. Once none is left, reads and writes are answered `Blocked` with no call of the inner stream, until the next drive begins. No poll
+/// reports that, so whoever drives it asks whether it `has_had_its_share`. A reply that is larger than the share is taken in parts, over
+/// several turns.
 ///
 /// A drive that appends a record ends the share with the reply to it. From then on the stream is a writer's (`is_writer`), until it takes
-/// bytes in a turn of its own that no such drive has ended. That a drive took more than `LIGHT_MAX` bytes (`is_heavy`) is kept until a turn
+/// bytes in a turn of its own that no such drive has ended. That a drive took `LIGHT_MAX` bytes or more (`is_heavy`) is kept until a turn
 /// of its own begins.
 #[derive(Drop)]
 pub struct BufferedStream<S: Stream> {
@@ -57,18 +58,21 @@ pub struct BufferedStream<S: Stream> {
     reads_on: bool,
     /// How many bytes it may still take in this drive.
     share: usize,
+    /// How many it might take when the turn began.
+    whole: usize,
     /// The last drive of a turn of its own appended a record.
     appended: bool,
     /// And so did the last in which it took bytes.
     is_writer: bool,
-    /// The last drive of a turn of its own took more than `LIGHT_MAX` bytes.
+    /// The last drive of a turn of its own took `LIGHT_MAX` bytes or more.
     is_heavy: bool,
     counts: CallCounts,
 }
 
 impl<S: Stream> BufferedStream<S> {
     ghost use Rattle.std.specs.Prelude.{◌≡◌, ◌≢◌, ◌≤◌, ◌↔◌, ◌||◌, [], IfOk, length, true, false};
-    ghost use Rattle.stream_driver.specs.Buffers.{IsNew, fresh, has_had_share, buffered_in, is_flushed_or_failed};
+    ghost use Rattle.stream_driver.specs.Buffers.{IsNew, fresh, has_had_share, in_turn_of, buffered_in};
+    ghost use Rattle.stream_driver.specs.Buffers.{is_flushed_or_failed};
     ghost use Rattle.stream_driver.specs.Buffers.{Finishes, Flushes, KeepsBytes, RoomFails, WhyRoom, WritesBuffered};
     ghost use Rattle.stream_driver.specs.Buffers.{GivesSome, TakesSome, WhyGave, WhyGaveSome, WhyTook, WhyTookSome};
     ghost use Rattle.stream_driver.specs.Traffic.{bytes_written};
@@ -86,6 +90,7 @@ impl<S: Stream> BufferedStream<S> {
             is_drained: false,
             reads_on: false,
             share: SHARE_MAX,
+            whole: SHARE_MAX,
             appended: false,
             is_writer: false,
             is_heavy: false,
@@ -138,17 +143,19 @@ impl<S: Stream> BufferedStream<S> {
         self.is_writer
     }
 
-    /// Did its last drive take more than `LIGHT_MAX` bytes? Takes no memory.
+    /// Did its last drive take `LIGHT_MAX` bytes or more? Takes no memory.
     pub fn is_heavy(&self) -> bool
         ensures { result ≡ self.now.is_heavy }
     {
         self.is_heavy
     }
 
-    /// A turn of its own begins: no drive of it has appended a record yet, or taken much. Takes no memory.
-    pub fn begin_turn(&mut self)
-        ensures { self.new ≡ record self.old { appended = false; is_heavy = false } }
+    /// A turn of its own begins, with a share of so many bytes: no drive of it has appended a record yet, or taken much. Takes no memory.
+    pub fn begin_turn(&mut self, bytes: usize)
+        ensures { self.new ≡ in_turn_of bytes self.old }
     {
+        self.share = bytes;
+        self.whole = bytes;
         self.appended = false;
         self.is_heavy = false;
     }
@@ -293,10 +300,10 @@ impl<S: Stream> BufferedStream<S> {
 
 impl<S: Stream> Stream for BufferedStream<S> {
     ghost use Rattle.std.specs.Prelude.{◌≡◌, ◌<◌, length, take};
-    ghost use Rattle.stream_driver.specs.Traffic.{CountsLast, IsEnded, ReadsBytes, ReadsWithin, WritesBytes};
+    ghost use Rattle.stream_driver.specs.Traffic.{CountsLast, IsShareEnded, ReceivesBytes, ReadsWithin, SendsBytes};
     ghost use Rattle.stream_driver.specs.Traffic.{WritesWithin, bytes_read, bytes_written};
     ghost use Rattle.stream_driver.specs.Buffers.{AfterRead, AfterWrite, share_ended, share_of, traffic_through};
-    ghost use Rattle.stream_driver.specs.Waits.{IsSound, ReadStays, SaysWhyBlocked, WriteStays};
+    ghost use Rattle.stream_driver.specs.Waits.{HasSoundNotes, ReadStays, SaysWhyBlocked, WriteStays};
 
     ghost reports = { S.reports };
 
@@ -306,7 +313,7 @@ impl<S: Stream> Stream for BufferedStream<S> {
 
     ghost came_short = { λ b. S.came_short b.inner };
 
-    ghost is_sound = { IsSound S.came_short };
+    ghost is_sound = { HasSoundNotes S.came_short };
 
     ghost waits = { SaysWhyBlocked S.came_short S.traffic };
 
@@ -315,12 +322,12 @@ impl<S: Stream> Stream for BufferedStream<S> {
     fn read<D: Sectors>(&mut self, device: &D, into: &mut [u8]) -> ReadAnswer
         requires { 0 < length into.old }
         ensures within { ReadsWithin result (length into.old) }
-        ensures moved { S.reports → ReadsBytes (D.moment device.now) (traffic_through S.traffic self.old)
+        ensures moved { S.reports → ReceivesBytes (D.moment device.now) (traffic_through S.traffic self.old)
             (take (bytes_read result) into.new) (traffic_through S.traffic self.new) }
         ensures answered { CountsLast (Call.Read result) (traffic_through S.traffic self.old)
             (traffic_through S.traffic self.new) }
         ensures buffer { AfterRead S.traffic self.old (length into.old) result self.new }
-        ensures stays { ReadStays (λ b. S.came_short b.inner) (IsSound S.came_short)
+        ensures stays { ReadStays (λ b. S.came_short b.inner) (HasSoundNotes S.came_short)
             (SaysWhyBlocked S.came_short S.traffic) self.old (length into.old) result self.new }
     {
         let answer = self.give_in_share(device, into);
@@ -331,19 +338,19 @@ impl<S: Stream> Stream for BufferedStream<S> {
     fn write<D: Sectors>(&mut self, device: &D, from: &[u8]) -> WriteAnswer
         requires { 0 < length from.now }
         ensures within { WritesWithin result (length from.now) }
-        ensures moved { S.reports → WritesBytes (D.moment device.now) (traffic_through S.traffic self.old)
+        ensures moved { S.reports → SendsBytes (D.moment device.now) (traffic_through S.traffic self.old)
             (take (bytes_written result) from.now) (traffic_through S.traffic self.new) }
         ensures answered { CountsLast (Call.Write result) (traffic_through S.traffic self.old)
             (traffic_through S.traffic self.new) }
         ensures buffer { AfterWrite S.traffic self.old result self.new }
-        ensures stays { WriteStays (λ b. S.came_short b.inner) (IsSound S.came_short)
+        ensures stays { WriteStays (λ b. S.came_short b.inner) (HasSoundNotes S.came_short)
             (SaysWhyBlocked S.came_short S.traffic) self.old self.new }
     {
         let answer = self.take_in_share(device, from);
         if let WriteAnswer::Moved(n) = answer {
             self.is_drained = self.is_drained || self.is_short;
             self.share -= n;
-            self.is_heavy = self.is_heavy || self.share < SHARE_MAX - LIGHT_MAX;
+            self.is_heavy = self.is_heavy || LIGHT_MAX <= self.whole.saturating_sub(self.share);
             self.is_writer = self.appended;
         }
         self.counts.note_write(answer);
@@ -351,7 +358,7 @@ impl<S: Stream> Stream for BufferedStream<S> {
     }
 
     fn end_share(&mut self, reply: usize)
-        ensures ended { IsEnded reply (share_of self.new) }
+        ensures ended { IsShareEnded reply (share_of self.new) }
         ensures traffic { traffic_through S.traffic self.new ≡ traffic_through S.traffic self.old }
         ensures share { self.new ≡ share_ended reply self.old }
     {

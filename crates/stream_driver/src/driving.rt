@@ -5,8 +5,8 @@ ghost use Rattle.stream_driver.specs.Sessions.{IsPresent, Leads, Stands};
 ghost use Rattle.stream_driver.specs.Appends.{AppendsOnce, KeepsShare, ServesOnce, SpendsShare};
 ghost use Rattle.stream_driver.specs.Sends.{LeadsAs};
 ghost use Rattle.stream_driver.specs.Drives.{Drove, Departs};
-ghost use Rattle.stream_driver.specs.Calls.{ReadsInTurn, WritesSome, Flushes, Exchanges, MayBeServed};
-ghost use Rattle.stream_driver.specs.Traffic.{IsEnded, ReadsWithin, WritesWithin};
+ghost use Rattle.stream_driver.specs.Calls.{ReadsInTurn, WritesSome, WritesOut, Exchanges, MayBeServed};
+ghost use Rattle.stream_driver.specs.Traffic.{IsShareEnded, ReadsWithin, WritesWithin};
 ghost use Rattle.stream_driver.specs.Waits.{StaysSound};
 
 use crate::answers::{Progress, ReadAnswer, WriteAnswer};
@@ -66,7 +66,8 @@ fn write_out<D: Sectors, S: Stream>(
 ) -> OutputState
     requires present { IsPresent hub.old s }
     requires pending { pending ≡ length (pending_of hub.old s) }
-    ensures written { LeadsAs s S.reports Flushes result hub.old (S.traffic stream.old) hub.new (S.traffic stream.new) }
+    ensures written { LeadsAs s S.reports WritesOut result hub.old (S.traffic stream.old) hub.new
+        (S.traffic stream.new) }
     ensures spends { SpendsShare S.keeps_share S.reports S.traffic S.share s hub.old stream.old hub.new stream.new }
     ensures stays { StaysSound S.is_sound S.waits (result ≡ OutputState.Blocked) stream.old stream.new }
 {
@@ -151,7 +152,7 @@ fn serve_in_share<D: Sectors, S: Stream>(
     ensures served { LeadsAs s S.reports Exchanges result hub.old (S.traffic stream.old) hub.new
         (S.traffic stream.new) }
     ensures ended { S.keeps_share → records_of hub.new ≢ records_of hub.old
-        → IsEnded (length (pending_of hub.new s)) (S.share stream.new) }
+        → IsShareEnded (length (pending_of hub.new s)) (S.share stream.new) }
     ensures once { ServesOnce S.keeps_share S.reports S.traffic S.share s hub.old stream.old result hub.new stream.new }
     ensures stays { StaysSound S.is_sound S.waits (result ≡ Exchange.Blocked) stream.old stream.new }
 {

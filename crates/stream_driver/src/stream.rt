@@ -13,8 +13,9 @@ use sector::Sectors;
 /// made: what leaves for the peer in the call leaves at that moment of the device.
 pub trait Stream: Drop {
     ghost use Rattle.std.specs.Prelude.{◌≡◌, ◌<◌, length, take};
-    ghost use Rattle.stream_driver.specs.Traffic.{CountsLast, IsEnded, ReadsBytes, ReadsWithin, Share, TakesOf};
-    ghost use Rattle.stream_driver.specs.Traffic.{Traffic, WritesBytes, WritesWithin, bytes_read, bytes_written};
+    ghost use Rattle.stream_driver.specs.Traffic.{CountsLast, IsShareEnded, ReceivesBytes, ReadsWithin, Share};
+    ghost use Rattle.stream_driver.specs.Traffic.{TakesOf};
+    ghost use Rattle.stream_driver.specs.Traffic.{Traffic, SendsBytes, WritesWithin, bytes_read, bytes_written};
     ghost use Rattle.stream_driver.specs.Waits.{ReadStays, WriteStays};
 
     /// The bytes of `traffic` are those that the calls moved: said of each call where this holds.
@@ -43,7 +44,7 @@ pub trait Stream: Drop {
     fn read<D: Sectors>(&mut self, device: &D, into: &mut [u8]) -> ReadAnswer
         requires { 0 < length into.old }
         ensures within { ReadsWithin result (length into.old) }
-        ensures moved { reports → ReadsBytes (D.moment device.now) (traffic self.old)
+        ensures moved { reports → ReceivesBytes (D.moment device.now) (traffic self.old)
             (take (bytes_read result) into.new) (traffic self.new) }
         ensures answered { CountsLast (Call.Read result) (traffic self.old) (traffic self.new) }
         ensures taken { keeps_share → TakesOf (share self.old) 0 (share self.new) }
@@ -53,7 +54,7 @@ pub trait Stream: Drop {
     fn write<D: Sectors>(&mut self, device: &D, from: &[u8]) -> WriteAnswer
         requires { 0 < length from.now }
         ensures within { WritesWithin result (length from.now) }
-        ensures moved { reports → WritesBytes (D.moment device.now) (traffic self.old)
+        ensures moved { reports → SendsBytes (D.moment device.now) (traffic self.old)
             (take (bytes_written result) from.now) (traffic self.new) }
         ensures answered { CountsLast (Call.Write result) (traffic self.old) (traffic self.new) }
         ensures taken { keeps_share → TakesOf (share self.old) (bytes_written result) (share self.new) }
@@ -62,7 +63,7 @@ pub trait Stream: Drop {
     /// The drive has appended a record to the log, and a reply of so many bytes reports it: with these bytes the stream's share of the turn
     /// ends, so that others have theirs before this session is served again. It moves no byte. Takes no memory.
     fn end_share(&mut self, reply: usize)
-        ensures ended { keeps_share → IsEnded reply (share self.new) }
+        ensures ended { keeps_share → IsShareEnded reply (share self.new) }
         ensures traffic { traffic self.new ≡ traffic self.old }
         ensures sound { is_sound self.old → is_sound self.new }
         ensures waits { waits self.old → waits self.new };

@@ -6,6 +6,7 @@ use std::io::{Read, Write};
 use std::net::Net;
 use std::process::Abort;
 use std::time::{Clock, Duration, Instant};
+use stream_driver::LIGHT_MAX;
 
 /// How many transactions a writer sends in one piece.
 const SENT: usize = 4;
@@ -160,8 +161,8 @@ fn received<S: Read>(client: &mut S) -> usize {
     all
 }
 
-/// Two readers ask for more than a turn gives them. Once both have had a long turn, one of them at most has each turn; another client is
-/// answered in each, and both are answered all that they asked for.
+/// Two readers ask for more than a turn gives them. The first turn answers both, with a light share for each. From then on one of them at
+/// most has each turn; another client is answered in each, and both are answered all that they asked for.
 fn one_heavy_each<D: Sectors, R: Net + Abort + AllocGlobal>(rt: &R, events: &mut EventLoop<D>) {
     let mut other = client(rt, events);
     let input = one_value(rt);
@@ -183,6 +184,7 @@ fn one_heavy_each<D: Sectors, R: Net + Abort + AllocGlobal>(rt: &R, events: &mut
         let second = received(&mut two);
         if first > 0 && second > 0 {
             together = together.saturating_add(1);
+            assert!(rt; first <= LIGHT_MAX && second <= LIGHT_MAX);
         }
         all = [all[0].saturating_add(first), all[1].saturating_add(second)];
     }

@@ -4,9 +4,8 @@ use Rattle.stream_driver.proofs.States.{leads_map, stands_after}
 use Rattle.event_loop.proofs.Departing.{drives_serve}
 use Rattle.event_loop.proofs.Entries.{driven_entries, ended_entries, ended_remain, polled_entries, polled_remain}
 use Rattle.event_loop.proofs.Entries.{polled_sessions, remain_numbers, remain_sessions}
-use Rattle.event_loop.proofs.Ordering.{places_after, polled_next, polled_turned, remain_places}
+use Rattle.event_loop.proofs.Ordering.{places_after, polled_next, polled_turned, remain_places, turns_taken}
 use Rattle.event_loop.proofs.Peers.{drives_use, drives_wait, ended_rested, leads_lack}
-use Rattle.event_loop.proofs.Polled.{TakesTurns}
 use Rattle.event_loop.proofs.TableBytes.{drives_bytes}
 use Rattle.event_loop.proofs.Tables.{below_after}
 use Rattle.event_loop.specs.Sockets.{CameShort}
@@ -15,11 +14,9 @@ use Rattle.event_loop.specs.contracts.socket.SocketStream.TheImpl.{ghosts}
 pub drive_ready-requires : goal.drive_ready-requires
 drive_ready-requires g c =
     polled_sessions c.args.self.now.table.slots c.take_turns.new.table.slots (items c.events.result.now)
-    (λ key. (
-      _,
-      polled_turned c.args.self.now.hub c.args.self.now.turns c.next_turns-self.result c.args.self.now.table.slots c.make_polled_ready.new.table.slots
-          (items c.events.result.now) c.make_polled_ready.ensures c.take_turns.new.table.slots c.take_turns.ensures key,
-    ))
+    (turns_taken c.args.self.now.hub c.next_turns-self.result c.args.self.now.table.slots c.take_turns.new.table.slots (items c.events.result.now)
+    (polled_turned c.args.self.now.hub c.args.self.now.turns c.next_turns-self.result c.args.self.now.table.slots c.make_polled_ready.new.table.slots
+    (items c.events.result.now) c.make_polled_ready.ensures c.take_turns.new.table.slots c.take_turns.ensures))
     c.args.self.now.hub c.args.self.now.sessions
 
 pub invariant_of-self : goal.invariant_of-self
@@ -32,7 +29,7 @@ invariant_of-self g c =
     let events = items c.events.result.now in
     let turned = polled_turned old.hub old.turns c.next_turns-self.result old.table.slots c.make_polled_ready.new.table.slots events c.make_polled_ready.ensures
     ready c.take_turns.ensures in
-    let turns : TakesTurns old.table.slots ready events = λ key. (_, turned key) in
+    let turns = turns_taken old.hub c.next_turns-self.result old.table.slots ready events turned in
     let ended = c.end_drives.ensures.ended in
     record {
       room = old.room;
@@ -83,7 +80,9 @@ returns-clause-drives g c =
         drives = c.drive_ready.ensures.driven;
         appends = c.drive_ready.ensures.appends _;
         uses = drives_use ghosts.traffic CameShort ghosts.reports old.table.slots c.take_turns.new.table.slots c.drive_ready.new.table.slots
-            (items old.poller.events) (λ key. (_, turned key)) old.rested c.drive_ready.ensures.waits (c.drive_ready.ensures.shares _);
+            (items old.poller.events)
+            (turns_taken old.hub c.next_turns-self.result old.table.slots c.take_turns.new.table.slots (items old.poller.events) turned) old.rested
+            c.drive_ready.ensures.waits (c.drive_ready.ensures.shares _);
         ended = rw c.device.ensures at c.end_drives.ensures.ended;
       },
       rw c.device.ensures at c.end_drives.ensures.left,
@@ -94,13 +93,9 @@ returns-clause-keeps g c =
     let old = c.args.self.now in
     let ready = c.take_turns.new.table.slots in
     let events = items c.events.result.now in
-    let turns : TakesTurns old.table.slots ready events =
-    λ key. (
-      _,
-      polled_turned old.hub old.turns c.next_turns-self.result old.table.slots c.make_polled_ready.new.table.slots events c.make_polled_ready.ensures
-          ready c.take_turns.ensures key,
-    )
-    in
+    let turns = turns_taken old.hub c.next_turns-self.result old.table.slots ready events
+    (polled_turned old.hub old.turns c.next_turns-self.result old.table.slots c.make_polled_ready.new.table.slots events c.make_polled_ready.ensures
+    ready c.take_turns.ensures) in
     let has_own = polled_sessions old.table.slots ready events turns old.hub old.sessions in
     leads_map old.hub c.drive_ready.new.hub _ _ c.drive_ready.ensures.driven.leads (λ h k stands d has.
     drives_bytes ghosts.reports ghosts.traffic _ old.table.slots ready c.drive_ready.new.table.slots c.end_drives.new.table.slots events turns has_own.own
