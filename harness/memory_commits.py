@@ -2,7 +2,8 @@
 
 Each COMMIT replaces a version, which nobody sees. The memory of the process must not grow with how many came, not even while they come: a server that
 frees such versions only at the end of its turns falls behind. During an old transaction a version of each key is kept. A preloaded library must count
-these, and that they are freed after its end, also while further commits come.
+these, and that they are freed after its end, also while further commits come. What is kept besides grows with the keys that are written meanwhile,
+and not with how often: of many commits of a few keys no more than of some.
 
 During an old transaction, what commits have read is merged in steps. How often memory is allocated is counted too: a merge that freed room with each
 of its moves, and not with its last, would allocate more than twice as often.
@@ -23,14 +24,17 @@ PIECES, KEYS = 200, 840
 # By how much the process may grow while commits come, and how many bytes more than before may be held once an old transaction has ended: those of the
 # versions that the last COMMITs replaced.
 GROWTH, BOUND = 1 << 20, 16_384
+# So many pieces of commits of so few keys during an old transaction, after as many, may add so many bytes to what is held: a third of what a key, its
+# number and its flag would take for each commit.
+AGAIN, FEW, AGAIN_BOUND = 200, 10, 65_536
 # So many transactions of so many reads, and how often each may ask for memory.
 READERS, READS, CALLS = 400, 60, 180
 OK = b"+OK\r\n"
 
 
-def piece(number):
-    """The requests of some transactions, each of which writes one key, after those of the pieces before."""
-    keys = [b"key %d" % (it % KEYS) for it in range(number * TRANSACTIONS, (number + 1) * TRANSACTIONS)]
+def piece(number, count=KEYS):
+    """The requests of some transactions, each of which writes one of so many keys, after those of the pieces before."""
+    keys = [b"key %d" % (it % count) for it in range(number * TRANSACTIONS, (number + 1) * TRANSACTIONS)]
     return b"".join(BEGIN + frame("SET", key, b"v" * VALUE_BYTES) + COMMIT for key in keys)
 
 
@@ -40,11 +44,11 @@ def read_piece(client):
         expect(replies[:2] == [OK, OK] and replies[2][:1] == b":", f"a transaction was answered {replies}")
 
 
-def write_again(client, count, pieces):
+def write_again(client, count, pieces, keys=KEYS):
     """The most that was counted while this many pieces were written, from when the first replies came."""
     most = 0
     for number in range(pieces):
-        client.send(piece(number))
+        client.send(piece(number, keys))
         if number >= AHEAD:
             read_piece(client)
             most = max(most, count())
@@ -81,6 +85,19 @@ def an_old_one_is_counted(tally, port, held):
         expect(more <= BOUND, f"{more:,} bytes more are held after its end")
 
 
+def a_few_keys_keep_little(tally, port, held):
+    """While an old transaction is open, what is kept of the commits of a few keys doesn't grow with how many come."""
+    with Connection(port) as client, Connection(port) as old, tally.run("a few keys during an old transaction"):
+        expect(old.ask(BEGIN) == OK, "BEGIN was refused")
+        write_again(client, held, AGAIN, FEW)
+        first = held()
+        write_again(client, held, AGAIN, FEW)
+        more = held() - first
+        print(f"  memory: {more:,} bytes more are held after {AGAIN * TRANSACTIONS:,} more commits of {FEW} keys, of {AGAIN_BOUND:,}")
+        expect(more <= AGAIN_BOUND, f"{more:,} bytes more are held after more commits of the same keys")
+        expect(old.ask(ABORT) == OK, "ABORT was refused")
+
+
 def readings_ask_rarely(tally, port, allocations):
     """The keys fall, so that the earlier of two runs is the first of which nothing is left."""
     with Connection(port) as client, Connection(port) as old, tally.run("reads during an old transaction"):
@@ -102,6 +119,7 @@ class MemoryCommits(Harness):
         with refusing_server(SECTORS) as (server, refusals):
             commits_leave_nothing(self.tally, server)
             an_old_one_is_counted(self.tally, server.port, refusals.held)
+            a_few_keys_keep_little(self.tally, server.port, refusals.held)
             readings_ask_rarely(self.tally, server.port, refusals.of(MEMORY))
             expect(server.is_alive() and server.error_text() == b"", "the server ended, or wrote an error")
 

@@ -13,7 +13,7 @@ use Rattle.std.specs.declared.cmp.Ordering.TheVariants.{Less, Greater}
 use Rattle.byteorder.specs.Endian.{big_number}
 use Rattle.byteorder.specs.Numbers.{big_from-cons}
 use Rattle.model.specs.Map.{Bytes}
-use Rattle.sorted_pages.specs.Heads.{head, IsHead, IsHeadOf}
+use Rattle.sorted_pages.specs.Heads.{head, IsFirstHead, IsHeadOf}
 use Rattle.sorted_pages.specs.Pages.{starts_by}
 
 abbrev AreBytes : List ℕ → Type 0
@@ -85,28 +85,28 @@ of_padded xs ys h bytes short same is =
     }
 
 module _ {X : Type 0} where
-  pub starts_head : (k : Bytes) (es : List (Bytes × X)) (h g : ℕ) → IsHead es h → IsHeadOf k g → (h ≡ g → ⊥) → 0 < length es
+  pub starts_head : (k : Bytes) (es : List (Bytes × X)) (h g : ℕ) → IsFirstHead es h → IsHeadOf k g → (h ≡ g → ⊥) → 0 < length es
       → nat_lt h g ≡ starts_by k es
   starts_head k [] h g a b differ some = absurd (omega arith)
   starts_head k (e ∷ es) h g a b differ some = by_head e.0 k h g a b differ
 
   -- an entry that comes in after the first leaves the first
-  pub head-insert : (es : List (Bytes × X)) (i h : ℕ) (e : Bytes × X) → 0 < i → i ≤ length es → IsHead es h → IsHead (insert es i e) h
+  pub head-insert : (es : List (Bytes × X)) (i h : ℕ) (e : Bytes × X) → 0 < i → i ≤ length es → IsFirstHead es h → IsFirstHead (insert es i e) h
   head-insert es zero h e p within is = absurd (omega arith)
   head-insert [] (suc i) h e p within is = absurd (omega arith)
   head-insert (d ∷ es) (suc i) h e p within is = is
 
-  pub head-push : (es : List (Bytes × X)) (h : ℕ) (e : Bytes × X) → 0 < length es → IsHead es h → IsHead (es ++ e ∷ []) h
+  pub head-push : (es : List (Bytes × X)) (h : ℕ) (e : Bytes × X) → 0 < length es → IsFirstHead es h → IsFirstHead (es ++ e ∷ []) h
   head-push [] h e p is = absurd (omega arith)
   head-push (d ∷ es) h e p is = is
 
-  pub head-take : (n h : ℕ) (es : List (Bytes × X)) → IsHead es h → IsHead (take n es) h
+  pub head-take : (n h : ℕ) (es : List (Bytes × X)) → IsFirstHead es h → IsFirstHead (take n es) h
   head-take zero h es is = tt
   head-take (suc n) h [] is = tt
   head-take (suc n) h (e ∷ es) is = is
 
   -- so does another value of an entry
-  pub head-set : (es : List (Bytes × X)) (i h : ℕ) (e d : Bytes × X) → d ≡ get_or es i d → e.0 ≡ d.0 → IsHead es h → IsHead (set es i e) h
+  pub head-set : (es : List (Bytes × X)) (i h : ℕ) (e d : Bytes × X) → d ≡ get_or es i d → e.0 ≡ d.0 → IsFirstHead es h → IsFirstHead (set es i e) h
   head-set [] i h e d at same is = tt
   head-set (c ∷ es) zero h e d at same is = subst (λ (k : Bytes). IsHeadOf k h) (sym (same ∙ ap (λ (b : Bytes × X). b.0) at)) is
   head-set (c ∷ es) (suc i) h e d at same is = is

@@ -14,6 +14,6 @@ pub record IsHeadOf (k : Bytes) (h : ℕ) : Type 0 where
   pub bytes : (i : ℕ) → slice_index k i < 256
 
 -- h is that of the first entry's key, if there is an entry
-abbrev pub IsHead : {X : Type 0} → List (Bytes × X) → ℕ → Type 0
-IsHead [] h = ⊤
-IsHead (e ∷ es) h = IsHeadOf e.0 h
+abbrev pub IsFirstHead : {X : Type 0} → List (Bytes × X) → ℕ → Type 0
+IsFirstHead [] h = ⊤
+IsFirstHead (e ∷ es) h = IsHeadOf e.0 h

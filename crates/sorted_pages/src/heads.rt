@@ -1,6 +1,6 @@
 //! The first 16 bytes of a key as one number: where those of two keys differ, the keys stand as they do.
 ghost use Rattle.std.specs.Prelude.{◌≡◌, ◌<◌};
-ghost use Rattle.sorted_pages.specs.Heads.{IsHead, IsHeadOf};
+ghost use Rattle.sorted_pages.specs.Heads.{IsFirstHead, IsHeadOf};
 
 use byteorder::{BigEndian, ByteOrder};
 use model::{Key, KeyRef};
@@ -22,7 +22,7 @@ fn head_of(bytes: &[u8]) -> u128
 
 // The head of the first of the entries' keys, and 0 where there is none.
 pub(crate) fn first_head<V>(entries: &[(Key, V)]) -> u128
-    ensures { IsHead entries.now result }
+    ensures { IsFirstHead entries.now result }
 {
     match entries.first() {
         None => 0,
@@ -32,8 +32,8 @@ pub(crate) fn first_head<V>(entries: &[(Key, V)]) -> u128
 
 // The head of the first of the entries' keys, of which the one at `i` is new. Before it came the head was this one.
 pub(crate) fn renewed_head<V>(entries: &[(Key, V)], i: usize, head: u128) -> u128
-    requires { 0 < i → IsHead entries.now head }
-    ensures { IsHead entries.now result }
+    requires { 0 < i → IsFirstHead entries.now head }
+    ensures { IsFirstHead entries.now result }
 {
     if i == 0 { first_head(entries) } else { head }
 }

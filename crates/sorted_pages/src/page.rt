@@ -106,7 +106,7 @@ impl<V: Aging> Model for Page<V> {
     ghost use Rattle.std.specs.Prelude.{ℕ, List, ◌-◌};
     ghost use Rattle.std.specs.Vec.{vec_len, vec_capacity};
     ghost use Rattle.sorted_pages.specs.Blanks.{IsBlankTo};
-    ghost use Rattle.sorted_pages.specs.Heads.{IsHead};
+    ghost use Rattle.sorted_pages.specs.Heads.{IsFirstHead};
     ghost use Rattle.sorted_pages.specs.Summaries.{IsSummaryBut};
 
     ghost Value = { List (List ℕ × V) × ℕ };
@@ -115,7 +115,7 @@ impl<V: Aging> Model for Page<V> {
 
     ghost invariant = { λ p. IsBlankTo V.hides p.entries.items p.blank
         × IsSummaryBut V.hides V.shows p.entries.items p.summary.value
-        × IsHead p.entries.items p.head };
+        × IsFirstHead p.entries.items p.head };
 }
 
 // Which of the entry's key and another stands first.
