@@ -11,7 +11,7 @@ use Rattle.model.specs.Map.{Bytes}
 use Rattle.last_readers.proofs.StepLaws.{low, over_less, over_both, rises_left, rises_right}
 use Rattle.last_readers.specs.Merging.{IsJoined, with_step, later}
 use Rattle.last_readers.specs.Steps.{StepValue, number_from, number_at, merged_at, end_from, are_over}
-use Rattle.last_readers.specs.Steps.{steps_rise, cut, cut_step, is_redundant, swept, is_from, is_step_from}
+use Rattle.last_readers.specs.Steps.{steps_rise, cut, cut_step, is_level_in, swept, is_from, is_step_from}
 use Rattle.last_readers.specs.Steps.{steps_from, are_from, in_place_of, renumbered}
 use Rattle.last_readers.specs.Sweeping.{IsInForce, IsTurned}
 
@@ -37,7 +37,7 @@ IsInForceBelow o None b = Unit {0}
 IsInForceBelow o (Some n) b = n ≡ cut o b
 
 -- a step that says no more than what is in force
-levelled : (o n b : ℕ) (s : StepValue) (ss : List StepValue) (k : Bytes) → are_over s.key ss ≡ true → n ≡ cut o b → is_redundant (Some n) (cut_step o s) ≡ true
+levelled : (o n b : ℕ) (s : StepValue) (ss : List StepValue) (k : Bytes) → are_over s.key ss ≡ true → n ≡ cut o b → is_level_in (Some n) (cut_step o s) ≡ true
     → (now : ℕ) → now ≡ cut o (number_from s.above ss k) → now ≡ cut o (number_from b (s ∷ ss) k)
 levelled o n b s ss k over is_in_force level now is =
     grind (arith, nat_tests, low s.above ss k, over_less k s.key ss, same_keys k s.key)
@@ -48,7 +48,7 @@ pick : {X : Type 0} (f : List StepValue → X) (c : Bool) (xs ys : List StepValu
 pick f true xs ys x front _ = front refl
 pick f false xs ys x _ back = back refl
 
-in_force_is : (o n : ℕ) (s : StepValue) → is_redundant (Some n) (cut_step o s) ≡ true → n ≡ cut o s.above
+in_force_is : (o n : ℕ) (s : StepValue) → is_level_in (Some n) (cut_step o s) ≡ true → n ≡ cut o s.above
 in_force_is o n s e = grind (arith, nat_tests)
 
 -- a step that says more
@@ -63,7 +63,7 @@ numbers o None b (s ∷ ss) k rise is_in_force =
     unlevelled o b s ss (swept o (Some (cut o s.above)) ss) k (numbers o (Some (cut o s.above)) s.above ss k (and_parts _ _ rise).1 refl)
 numbers o (Some n) b (s ∷ ss) k rise is_in_force =
     let rest = and_parts (are_over s.key ss) (steps_rise ss) rise in
-    pick (λ l. number_from (cut o b) l k) (is_redundant (Some n) (cut_step o s)) _ _ _
+    pick (λ l. number_from (cut o b) l k) (is_level_in (Some n) (cut_step o s)) _ _ _
     (λ e.
     let is = in_force_is o n s e in
     levelled o n b s ss k rest.0 is_in_force e _ (ap (λ m. number_from m (swept o (Some n) ss) k) (sym is_in_force ∙ is)
@@ -94,14 +94,14 @@ over_swept : (x : Bytes) (o : ℕ) (in_force : Option ℕ) (ss : List StepValue)
 over_swept x o in_force [] h = refl
 over_swept x o in_force (s ∷ ss) h =
     let parts = and_parts _ _ h in
-    pick (are_over x) (is_redundant in_force (cut_step o s)) _ _ true (λ e. over_swept x o in_force ss parts.1)
+    pick (are_over x) (is_level_in in_force (cut_step o s)) _ _ true (λ e. over_swept x o in_force ss parts.1)
     (λ e. and_from _ _ parts.0 (over_swept x o (Some (cut o s.above)) ss parts.1))
 
 one_rises : (o : ℕ) (in_force : Option ℕ) (ss : List StepValue) → steps_rise ss ≡ true → steps_rise (swept o in_force ss) ≡ true
 one_rises o in_force [] h = refl
 one_rises o in_force (s ∷ ss) h =
     let parts = and_parts (are_over s.key ss) (steps_rise ss) h in
-    pick steps_rise (is_redundant in_force (cut_step o s)) _ _ true (λ e. one_rises o in_force ss parts.1)
+    pick steps_rise (is_level_in in_force (cut_step o s)) _ _ true (λ e. one_rises o in_force ss parts.1)
     (λ e. and_from _ _ (over_swept s.key o (Some (cut o s.above)) ss parts.0) (one_rises o (Some (cut o s.above)) ss parts.1))
 
 pub rises_swept : (o : ℕ) (in_force next : Option ℕ) (xs ts : List StepValue) → steps_rise (xs ++ ts) ≡ true
@@ -110,7 +110,7 @@ rises_swept o in_force next [] ts h = one_rises o next ts h
 rises_swept o in_force next (x ∷ xs) ts h =
     let parts = and_parts (are_over x.key (xs ++ ts)) (steps_rise (xs ++ ts)) h in
     let over = and_parts (are_over x.key xs) (are_over x.key ts) (sym (over_both x xs ts) ∙ parts.0) in
-    pick (λ l. steps_rise (l ++ swept o next ts)) (is_redundant in_force (cut_step o x)) _ _ true (λ e. rises_swept o in_force next xs ts parts.1)
+    pick (λ l. steps_rise (l ++ swept o next ts)) (is_level_in in_force (cut_step o x)) _ _ true (λ e. rises_swept o in_force next xs ts parts.1)
     (λ e. and_from _ _
     (over_both (cut_step o x) (swept o (Some (cut o x.above)) xs) (swept o next ts)
     ∙ and_from _ _ (over_swept x.key o (Some (cut o x.above)) xs over.0) (over_swept x.key o next ts over.1))
@@ -124,7 +124,7 @@ cut_from o n = grind (arith, nat_tests)
 pub from_swept : (o : ℕ) (in_force : Option ℕ) (ss : List StepValue) → steps_from (o + 1) (swept o in_force ss) ≡ true
 from_swept o in_force [] = refl
 from_swept o in_force (s ∷ ss) =
-    pick (steps_from (o + 1)) (is_redundant in_force (cut_step o s)) _ _ true (λ e. from_swept o in_force ss)
+    pick (steps_from (o + 1)) (is_level_in in_force (cut_step o s)) _ _ true (λ e. from_swept o in_force ss)
     (λ e. and_from _ _ (and_from _ _ (cut_from o s.at) (cut_from o s.above)) (from_swept o (Some (cut o s.above)) ss))
 
 number_is_from : (n b : ℕ) (ss : List StepValue) (k : Bytes) → is_from n b ≡ true → steps_from n ss ≡ true → is_from n (number_from b ss k) ≡ true
@@ -173,7 +173,7 @@ pub record IsSoFar (o : ℕ) (first in_force : Option ℕ) (xs now : List StepVa
 pub so_far_none : (o : ℕ) (first : Option ℕ) (xs : List StepValue) → IsSoFar o first first xs xs 0
 so_far_none o first xs = record { kept = []; items = sym (append-nil xs); all = refl }
 
-unrolled : (o : ℕ) (in_force : Option ℕ) (s : StepValue) (ss : List StepValue) (c : Bool) → is_redundant in_force (cut_step o s) ≡ c
+unrolled : (o : ℕ) (in_force : Option ℕ) (s : StepValue) (ss : List StepValue) (c : Bool) → is_level_in in_force (cut_step o s) ≡ c
     → (if c then [] else cut_step o s ∷ []) ++ swept o (if c then in_force else Some (cut o s.above)) ss
     ≡ (if c then swept o in_force ss else cut_step o s ∷ swept o (Some (cut o s.above)) ss)
 unrolled o in_force s ss true e = refl
@@ -187,7 +187,7 @@ so_far_more o first in_force later xs now is i j next lt turned far =
     let both : s ∷ turned.rest ≡ get_or xs i s ∷ (drop j xs ++ far.kept) = sym turned.was ∙ far.items ∙ ap (λ l. l ++ far.kept) front in
     let own : s ≡ get_or xs i s = cc in
     let rest : turned.rest ≡ drop j xs ++ far.kept = cc in
-    let c = is_redundant in_force (cut_step o s) in
+    let c = is_level_in in_force (cut_step o s) in
     let back = if c then [] else cut_step o s ∷ [] in
     record {
       kept = far.kept ++ back;

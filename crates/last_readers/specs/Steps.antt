@@ -76,16 +76,16 @@ abbrev pub cut_step : ℕ → StepValue → StepValue
 cut_step o s = record { key = s.key; at = cut o s.at; above = cut o s.above }
 
 -- whether the step says no more than that the numbers from its key on are the one in force
-abbrev pub is_redundant : Option ℕ → StepValue → Bool
-is_redundant None s = false
-is_redundant (Some n) s = is_level n s
+abbrev pub is_level_in : Option ℕ → StepValue → Bool
+is_level_in None s = false
+is_level_in (Some n) s = is_level n s
 
 -- 0 in the place of each number up to o, without the steps that say no more then than those before them, where
 -- `in_force` is the number that they have at the keys from theirs on
 abbrev pub swept : ℕ → Option ℕ → List StepValue → List StepValue
 swept o in_force [] = []
 swept o in_force (s ∷ ss) = let t =
-    cut_step o s in if is_redundant in_force t then swept o in_force ss else t ∷ swept o (Some t.above) ss
+    cut_step o s in if is_level_in in_force t then swept o in_force ss else t ∷ swept o (Some t.above) ss
 
 -- whether the number is none, or one from n on
 abbrev pub is_from : ℕ → ℕ → Bool

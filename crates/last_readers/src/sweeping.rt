@@ -1,7 +1,7 @@
 //! Drops forgotten readers from a list of steps, and the steps that then repeat the one before them.
 ghost use Rattle.std.specs.Prelude.{◌≡◌, ◌≤◌, ◌<◌, Some};
 ghost use Rattle.std.specs.VecDeque.{deque_len, deque_capacity};
-ghost use Rattle.last_readers.specs.Steps.{is_redundant, swept};
+ghost use Rattle.last_readers.specs.Steps.{is_level_in, swept};
 ghost use Rattle.last_readers.specs.Sweeping.{IsInForce, IsTurned};
 
 use crate::merging::are_empty;
@@ -9,8 +9,8 @@ use crate::step::Step;
 use std::collections::VecDeque;
 
 // Does the step say no more than that the numbers from its key on are the one in force, if one is?
-fn is_redundant(in_force: Option<u64>, step: &Step) -> bool
-    ensures { result ≡ is_redundant in_force step.now }
+fn is_level_in(in_force: Option<u64>, step: &Step) -> bool
+    ensures { result ≡ is_level_in in_force step.now }
 {
     match in_force {
         None => false,
@@ -30,7 +30,7 @@ fn turn(steps: &mut VecDeque<Step>, oldest: u64, in_force: Option<u64>) -> Optio
         unreachable!()
     };
     let step = step.cut(oldest);
-    if is_redundant(in_force, &step) {
+    if is_level_in(in_force, &step) {
         return in_force;
     }
     let above = step.number_above();

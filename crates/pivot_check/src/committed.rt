@@ -28,12 +28,13 @@ use std::alloc::Global;
 use std::marker::Model;
 
 /// The committed transactions that an open one may still be concurrent with. A clause sees what is kept of them (`facts`), the memory that
-/// was made ready (`room`), and how much the runs hold (`held`). What is kept stands for histories: over each of them the answers are those
-/// of the definition, which looks at the whole history.
+/// was made ready (`room`), and how much the runs hold (`held`). What is kept stands for histories: over each of them the answers to those
+/// who may ask are those of the definition, which looks at the whole history.
 ///
 /// Kept are the last reader of each key, and the keys that they wrote, each with the number and the flag of its transaction. The keys stand
 /// in runs, each sorted by key, of transactions that committed one after another; runs of a like size are merged, so that few are left. A
-/// merge goes on some keys with each commit, so that no commit is long; it takes the places of both runs until it has ended.
+/// merge goes on some keys with each commit, so that no commit is long; it takes the places of both runs until it has ended. It drops what
+/// none who may ask is answered by, so that a key that is written again and again is kept a few times, and not once for each commit.
 #[derive(Drop)]
 pub struct Committed {
     readers: LastReaders,
@@ -268,8 +269,8 @@ impl Committed {
     }
 
     /// From then on one may ask alone who began at one of these numbers, or at the last commit number or later; what is kept stands for the
-    /// same histories, where each of them may ask already. All that is kept stays: the merges that go on drop what none may ask for any
-    /// more. Takes no memory.
+    /// same histories, where each of them may ask already. Nothing is dropped at once: the merges that go on drop what none of these asks
+    /// for. So it has to be called again and again, as transactions end and others commit. Takes no memory.
     pub fn keep_active(&mut self, begins: &[u64])
         requires few { length begins.now ≤ 64 }
         ensures stands_for { AllByRecursion (λ b. may_ask self.old.facts.reach b ≡ true) begins.now

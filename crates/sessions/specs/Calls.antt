@@ -26,7 +26,7 @@ abbrev pub rest : Buffer → Bytes
 rest b = drop b.start b.bytes.items
 
 -- what was consumed is a part of its bytes, which are so many at most, and it has room for as many
-pub record IsWithin (max : ℕ) (buffer : Buffer) : Type 0 where
+pub record IsBufferWithin (max : ℕ) (buffer : Buffer) : Type 0 where
   pub start : buffer.start ≤ vec_len buffer.bytes
   pub len : vec_len buffer.bytes ≤ max
   pub reserved : max ≤ vec_capacity buffer.bytes

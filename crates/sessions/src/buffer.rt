@@ -1,6 +1,6 @@
 //! An inbox: bytes that are added at the end and consumed from the head.
 ghost use Rattle.std.specs.Prelude.{◌≡◌, ◌≤◌, ◌+◌, ◌++◌, [], length, drop, vec_len, vec_capacity};
-ghost use Rattle.sessions.specs.Calls.{IsWithin, rest};
+ghost use Rattle.sessions.specs.Calls.{IsBufferWithin, rest};
 
 /// Bytes, of which the first `start` are consumed.
 #[derive(Drop)]
@@ -55,10 +55,10 @@ impl Buffer {
 
     /// The piece follows what is left, which is moved only where there is no place behind it. Takes no memory.
     pub(crate) fn append(&mut self, piece: &[u8], max: usize)
-        requires within { IsWithin max self.old }
+        requires within { IsBufferWithin max self.old }
         requires room { length (rest self.old) + length piece.now ≤ max }
         ensures rest { rest self.new ≡ rest self.old ++ piece.now }
-        ensures within { IsWithin max self.new }
+        ensures within { IsBufferWithin max self.new }
         ensures capacity { vec_capacity self.old.bytes ≤ vec_capacity self.new.bytes }
     {
         if piece.len() > max - self.bytes.len() {

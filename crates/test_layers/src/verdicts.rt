@@ -342,3 +342,79 @@ fn written_keys_stay_in_few_runs(rt: HostRuntime) {
     assert!(rt; committed.runs() == 0);
     assert!(rt; committed.postings() == 0);
 }
+
+// A transaction that writes one key, of one letter.
+fn writer_of<R: Abort + AllocGlobal>(rt: &R, begin: u64, letter: u8) -> Transaction {
+    let mut tx = Transaction::new(rt.alloc(), begin);
+    write(rt, &mut tx, &[letter]);
+    tx
+}
+
+/// Beside a transaction that was left open, a key that is written again and again is kept a few times, and not once for each commit.
+#[test]
+fn one_key_is_kept_a_few_times(rt: HostRuntime) {
+    let mut committed = Committed::new(rt.alloc());
+    for n in 0..100_000u64 {
+        let tx = writer_of(&rt, committed.last(), b'k');
+        assert!(rt; commit(&rt, &mut committed, &tx) == Answer::Clear);
+        committed.keep_active(&[0]);
+        assert!(rt; committed.postings() <= 32, "after commit {n}");
+    }
+    let old = writer_of(&rt, 0, b'k');
+    assert!(rt; commit(&rt, &mut committed, &old) == Answer::Overwritten(0));
+}
+
+/// So it is beside eight of them, which began one after another: each keeps its own first commit of each of two keys.
+#[test]
+fn each_that_is_open_keeps_a_few(rt: HostRuntime) {
+    let mut committed = Committed::new(rt.alloc());
+    let mut begins = Vec::new(rt.alloc());
+    for n in 0..8_000u64 {
+        if n % 1_000 == 0 && begins.len() < 64 {
+            begins.push(n).expect(&rt, "memory");
+        }
+        let letter = if n % 3 == 0 { b'a' } else { b'b' };
+        let tx = writer_of(&rt, committed.last(), letter);
+        assert!(rt; commit(&rt, &mut committed, &tx) == Answer::Clear);
+        assert!(rt; begins.len() <= 64);
+        committed.keep_active(&begins);
+        assert!(rt; committed.postings() <= 96, "after commit {n}");
+    }
+    let mut letter = b'c';
+    for begin in &begins {
+        let tx = transaction(&rt, *begin, b"b", &[letter]);
+        assert!(rt; commit(&rt, &mut committed, &tx) == Answer::ClearWithTarget);
+        letter = letter.saturating_add(1);
+    }
+}
+
+// The next number of a linear congruential generator.
+fn next_random(random: u64) -> u64 {
+    random
+        .wrapping_mul(6_364_136_223_846_793_005)
+        .wrapping_add(1_442_695_040_888_963_407)
+}
+
+/// What none who may ask is answered by is dropped, and each verdict is that of one who keeps all: of four open transactions at a time,
+/// which read a key and write another, of six keys.
+#[test]
+fn verdicts_stay_while_merges_drop(rt: HostRuntime) {
+    let mut all = Committed::new(rt.alloc());
+    let mut few = Committed::new(rt.alloc());
+    let mut begins = [0u64; 4];
+    let mut random = 1u64;
+    for n in 0..4_000usize {
+        random = next_random(random);
+        let place = n % 4;
+        let read = b'a' + ((random >> 33) % 6) as u8;
+        let write = b'a' + ((random >> 43) % 6) as u8;
+        let tx = transaction(&rt, begins[place], &[read], &[write]);
+        let answer = commit(&rt, &mut all, &tx);
+        assert!(rt; commit(&rt, &mut few, &tx) == answer, "commit {n}");
+        if random >> 60 != 0 {
+            begins[place] = all.last();
+        }
+        few.keep_active(&begins);
+    }
+    assert!(rt; all.last() > 500 && few.postings() < all.postings() / 4);
+}

@@ -246,3 +246,35 @@ fn kept_versions_and_records(rt: HostRuntime) -> Result<(), Fail> {
     }
     Ok(())
 }
+
+/// Begins a transaction of session 1, and then commits one write of one key 300 times by session 2.
+fn write_again<S: Store>(alloc: Global, store: &mut S) -> Result<(), Fail> {
+    expect_row(alloc, store, &[("1 BEGIN", "+OK"), ("1 SET a 1", "+OK")])?;
+    for n in 1..301u16 {
+        expect_row(alloc, store, &[("2 BEGIN", "+OK"), ("2 SET a 2", "+OK")])?;
+        let reply = reply_to(alloc, store, "2 COMMIT")?;
+        let number = format!(in alloc; ":{n}")?;
+        if reply.as_str() != number.as_str() {
+            return Err(Fail::new(format_args!("commit {n}: {reply}")));
+        }
+    }
+    Ok(())
+}
+
+/// Beside a transaction that was left open, a store that reclaims keeps something of a few commits of one key alone, and each store refuses
+/// the transaction for the key.
+#[test]
+fn one_key_beside_an_open_transaction(rt: HostRuntime) -> Result<(), Fail> {
+    let mut stores = SideBySide::new(rt.alloc(), SECTORS, false)?;
+    write_again(rt.alloc(), &mut stores)?;
+    expect_row(
+        rt.alloc(),
+        &mut stores,
+        &[("1 COMMIT", "-CONFLICT overwritten 61")],
+    )?;
+    let mut store = engine_store(rt.alloc(), SECTORS, false, true)?;
+    write_again(rt.alloc(), &mut store)?;
+    let kept = store.store.engine.kept_records();
+    assert!(rt; 1 <= kept && kept <= 16, "{kept} are kept");
+    Ok(())
+}
