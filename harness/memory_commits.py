@@ -15,6 +15,8 @@ from ssikvd_harness.connection import Connection
 from ssikvd_harness.deviations import expect
 from ssikvd_harness.failing_calls import MEMORY, refusing_server
 from ssikvd_harness.frames import ABORT, BEGIN, COMMIT, PING, frame
+from ssikvd_harness.server import Server, fresh
+from ssikvd_harness.tools import in_memory
 
 SECTORS = 65_536
 VALUE_BYTES = 1_000
@@ -27,15 +29,17 @@ GROWTH, BOUND = 1 << 20, 16_384
 # So many pieces of commits of so few keys during an old transaction, after as many, may add so many bytes to what is held: a third of what a key, its
 # number and its flag would take for each commit.
 AGAIN, FEW, AGAIN_BOUND = 200, 10, 65_536
+# In the long form: so many commits of one key with a short value, and how many bytes they may add to the process.
+MILLION, MILLION_BOUND = 1_000_000, 10_000_000
 # So many transactions of so many reads, and how often each may ask for memory.
 READERS, READS, CALLS = 400, 60, 180
 OK = b"+OK\r\n"
 
 
-def piece(number, count=KEYS):
+def piece(number, count=KEYS, value=VALUE_BYTES):
     """The requests of some transactions, each of which writes one of so many keys, after those of the pieces before."""
     keys = [b"key %d" % (it % count) for it in range(number * TRANSACTIONS, (number + 1) * TRANSACTIONS)]
-    return b"".join(BEGIN + frame("SET", key, b"v" * VALUE_BYTES) + COMMIT for key in keys)
+    return b"".join(BEGIN + frame("SET", key, b"v" * value) + COMMIT for key in keys)
 
 
 def read_piece(client):
@@ -44,11 +48,11 @@ def read_piece(client):
         expect(replies[:2] == [OK, OK] and replies[2][:1] == b":", f"a transaction was answered {replies}")
 
 
-def write_again(client, count, pieces, keys=KEYS):
+def write_again(client, count, pieces, keys=KEYS, value=VALUE_BYTES):
     """The most that was counted while this many pieces were written, from when the first replies came."""
     most = 0
     for number in range(pieces):
-        client.send(piece(number, keys))
+        client.send(piece(number, keys, value))
         if number >= AHEAD:
             read_piece(client)
             most = max(most, count())
@@ -112,8 +116,22 @@ def readings_ask_rarely(tally, port, allocations):
         expect(calls <= CALLS, f"each transaction makes {calls} allocations")
 
 
+def a_million_keep_little(tally):
+    """A transaction that was left open, and a million commits of one key."""
+    with in_memory() as place, Server(fresh(place, 2 * MILLION + 1_000)) as server, tally.run(f"{MILLION:,} commits of one key"):
+        with Connection(server.port) as client, Connection(server.port) as old:
+            expect(old.ask(BEGIN) == OK, "BEGIN was refused")
+            write_again(client, lambda: 0, AGAIN, 1, 1)
+            first = server.memory("VmRSS")
+            write_again(client, lambda: 0, MILLION // TRANSACTIONS - AGAIN, 1, 1)
+            more = server.memory("VmRSS") - first
+        print(f"  memory: the process grew by {more:,} bytes with {MILLION:,} commits of one key during an old transaction, of {MILLION_BOUND:,}")
+        expect(more <= MILLION_BOUND, f"the process grew by {more:,} bytes")
+
+
 class MemoryCommits(Harness):
     NAME = "what commits leave"
+    PARTS_OF_LONG = (a_million_keep_little,)
 
     def test_memory_commits(self):
         with refusing_server(SECTORS) as (server, refusals):

@@ -52,7 +52,7 @@ TOGETHER = (
     Harness("streams"), Harness("pictures"), Harness("installing"), Harness("under_systemd", LONG), Harness("fail_over", LONG),
     Harness("audit", QUICK), Harness("columns", QUICK), Harness("words", QUICK), Harness("reading", QUICK), Harness("clauses", QUICK),
     Harness("handles", QUICK), Harness("frames", QUICK), Harness("memory_commands", QUICK), Harness("memory_calls", QUICK), Harness("memory_reads", QUICK),
-    Harness("memory_pages", QUICK), Harness("memory_sessions", QUICK), Harness("memory_commits", QUICK), Harness("memory_opening", QUICK),
+    Harness("memory_pages", QUICK), Harness("memory_sessions", QUICK), Harness("memory_commits"), Harness("memory_opening", QUICK),
     Harness("memory_order", QUICK))
 # One by one: the first two run programs of several languages side by side, with deadlines of a few seconds, the others judge processor time.
 ALONE = (Harness("starters"), Harness("cookbook"), Harness("opening", QUICK), Harness("pauses"))
