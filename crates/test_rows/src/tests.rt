@@ -247,10 +247,10 @@ fn kept_versions_and_records(rt: HostRuntime) -> Result<(), Fail> {
     Ok(())
 }
 
-/// Begins a transaction of session 1, and then commits one write of one key 300 times by session 2.
+/// Begins a transaction of session 1, and then commits one write of one key 40 times by session 2.
 fn write_again<S: Store>(alloc: Global, store: &mut S) -> Result<(), Fail> {
     expect_row(alloc, store, &[("1 BEGIN", "+OK"), ("1 SET a 1", "+OK")])?;
-    for n in 1..301u16 {
+    for n in 1..41u16 {
         expect_row(alloc, store, &[("2 BEGIN", "+OK"), ("2 SET a 2", "+OK")])?;
         let reply = reply_to(alloc, store, "2 COMMIT")?;
         let number = format!(in alloc; ":{n}")?;
