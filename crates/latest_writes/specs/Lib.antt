@@ -1,4 +1,3 @@
 -- The definitions of heads, of the order in which writes are sorted, and of how many are held.
-pub mod Heads
 pub mod Held
 pub mod Rising

@@ -24,14 +24,14 @@ impl Model for Entry {
     ghost use Rattle.std.specs.Prelude.{◌≡◌, drop, IfSome};
     ghost use Rattle.model.specs.Key.{IsValue};
     ghost use Rattle.model.specs.Map.{KeyWrite};
-    ghost use Rattle.latest_writes.specs.Heads.{head, AreBytes};
+    ghost use Rattle.model.specs.FirstBytes.{AreBytes, first_bytes};
 
     ghost Value = { KeyWrite };
 
     ghost view = { λ e. e.write };
 
     ghost invariant = { λ e.
-        (e.high ≡ head 8 e.write.0) × (e.low ≡ head 8 (drop 8 e.write.0)) × AreBytes e.write.0
+        (e.high ≡ first_bytes 8 e.write.0) × (e.low ≡ first_bytes 8 (drop 8 e.write.0)) × AreBytes e.write.0
         × IfSome e.write.1 IsValue };
 }
 

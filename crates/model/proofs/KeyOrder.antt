@@ -40,10 +40,6 @@ le_of_lt a b h = ap is_le (less _ h)
 pub lt_of_not_le : (a b : Bytes) → is_le (key_cmp a b) ≡ false → is_lt (key_cmp b a) ≡ true
 lt_of_not_le a b h = grind (arith, common_steps, turned a b)
 
--- a < hi ≤ k
-pub above_both : (a hi k : Bytes) → is_lt (key_cmp a hi) ≡ true → is_lt (key_cmp k hi) ≡ false → is_lt (key_cmp k a) ≡ false
-above_both a hi k h g = grind (arith, common_steps, lt_trans k a hi)
-
 -- lo ≤ k
 pub from_lo : (lo k : Bytes) → is_le (key_cmp lo k) ≡ not (is_lt (key_cmp k lo))
 from_lo lo k = grind (arith, common_steps, turned k lo)

@@ -4,6 +4,7 @@ pub mod Key
 pub mod KeyBytes
 pub mod Map
 pub mod Entries
+pub mod FirstBytes
 pub mod Operations
 pub mod Grammar
 pub mod CommandTable

@@ -98,7 +98,7 @@ impl Key {
     /// so never for up to 16.
     pub fn from_ref(alloc: Global, key: KeyRef<'_>) -> Result<Key, Memory>
         ensures bytes { IfOk result (λ k. k ≡ key.entry.bytes.now) }
-        ensures short { length key.entry.bytes.now ≤ 16 → IsOk result }
+        ensures short { length key.entry.bytes.now ≤ SHORT_MAX → IsOk result }
     {
         Ok(Key {
             bytes: SmallVec::from_slice(alloc, key.bytes())?,
@@ -109,7 +109,7 @@ impl Key {
     /// so never for up to 16.
     pub fn copy(&self) -> Result<Key, Memory>
         ensures bytes { IfOk result (λ k. k ≡ self.now) }
-        ensures short { length self.now ≤ 16 → IsOk result }
+        ensures short { length self.now ≤ SHORT_MAX → IsOk result }
     {
         Ok(Key {
             bytes: SmallVec::from_slice(*self.bytes.allocator(), self.bytes.as_slice())?,

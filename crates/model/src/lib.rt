@@ -27,5 +27,5 @@ pub use pair::Pair;
 pub use pairs::Pairs;
 pub use ranges::{Range, RangeRef};
 pub use refusals::{Memory, Refusal};
-pub use values::{FRAME_MAX, PART_MAX, RANGE_REPLY_MAX, VALUE_MAX};
+pub use values::{FRAME_MAX, PAIRS_MAX, PART_MAX, RANGE_REPLY_MAX, VALUE_MAX};
 pub use writes::Write;
