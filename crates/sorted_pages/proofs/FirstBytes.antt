@@ -1,47 +1,21 @@
 -- The heads of two keys stand as the keys do, where they differ; and what entries come to has the head of their first key.
 use Rattle.std.proofs.Common.{◌≡◌, ℕ, zero, suc, ◌+◌, ◌*◌, ◌^◌, ◌<◌, ◌≤◌, List, [], ◌∷◌, ◌++◌, length, take, drop}
-use Rattle.std.proofs.Common.{set, insert, replicate, slice_index}
+use Rattle.std.proofs.Common.{set, insert, replicate}
 use Rattle.std.proofs.Common.{get_or, nat_lt, refl, sym, subst, ap, ◌∙◌, arith}
-use Rattle.std.proofs.Math.Nat.{mul-le-mul_left}
 use Rattle.std.proofs.lemmas.Bool.Decides.{nat_tests}
-use Rattle.std.proofs.lemmas.Cmp.{ranked}
 use Rattle.std.proofs.lemmas.Grind.{common_steps}
-use Rattle.std.specs.Cmp.Lexicographic.{slice_cmp, nat_list_cmp_total}
-use Rattle.std.specs.Ordering.{nat_cmp, is_le, ordering_then, ordering_reverse}
+use Rattle.std.specs.Cmp.Lexicographic.{slice_cmp}
+use Rattle.std.specs.Ordering.{nat_cmp, is_le}
 use Rattle.std.specs.declared.cmp.Ordering.{Ordering}
 use Rattle.std.specs.declared.cmp.Ordering.TheVariants.{Less, Greater}
 use Rattle.byteorder.specs.Endian.{big_number}
 use Rattle.byteorder.specs.Numbers.{big_from-cons}
+use Rattle.model.proofs.FirstBytes.{less}
+use Rattle.model.proofs.KeyOrder.{turned_less}
+use Rattle.model.specs.FirstBytes.{AreBytes, first_bytes}
 use Rattle.model.specs.Map.{Bytes}
-use Rattle.sorted_pages.specs.Heads.{head, IsFirstHead, IsHeadOf}
+use Rattle.sorted_pages.specs.Heads.{IsFirstHead, IsHeadOf}
 use Rattle.sorted_pages.specs.Pages.{starts_by}
-
-abbrev AreBytes : List ℕ → Type 0
-AreBytes xs = (i : ℕ) → slice_index xs i < 256
-
-head_fits : (n : ℕ) (xs : List ℕ) → AreBytes xs → head n xs < 256 ^ n
-head_fits zero xs h = omega arith
-head_fits (suc n) [] h = let p : 0 < 256 ^ n = omega (arith, head_fits n [] h) in omega arith
-head_fits (suc n) (x ∷ xs) h = omega (arith, head_fits n xs (λ i. h (suc i)), mul-le-mul_left (256 ^ n) (let b : x ≤ 255 = omega (arith, h 0) in b))
-
--- of two numbers in base P the greater first digit decides
-above : (P x y a b : ℕ) → a < P → y < x → y * P + a < x * P + b
-above P x y a b fits lt = let m : P * (y + 1) ≤ P * x = mul-le-mul_left P (omega arith) in omega (arith, m)
-
-then_less : (o : Ordering) (x y : ℕ) (rest : Ordering) → o ≡ nat_cmp x y → (x < y → Less ≡ Less) → (x ≡ y → rest ≡ Less) → (y < x → ordering_then o rest ≡ Less)
-    → ordering_then o rest ≡ Less
-then_less o x y rest is less same more = grind (arith, common_steps, ranked)
-
--- the first n bytes decide
-less : (n : ℕ) (xs ys : List ℕ) → AreBytes xs → AreBytes ys → head n xs < head n ys → slice_cmp nat_cmp xs ys ≡ Less
-less (suc n) (x ∷ xs) (y ∷ ys) h g lt =
-    then_less (nat_cmp x y) x y (slice_cmp nat_cmp xs ys) refl (λ p. refl)
-    (λ p. less n xs ys (λ i. h (suc i)) (λ i. g (suc i)) (let e : x * 256 ^ n ≡ y * 256 ^ n = ap (λ z. z * 256 ^ n) p in omega (arith, e)))
-    (λ p. absurd (omega (arith, above (256 ^ n) x y (head n ys) (head n xs) (head_fits n ys (λ i. g (suc i))) p)))
-less n xs ys h g lt = grind (arith, common_steps)
-
-turned : (xs ys : List ℕ) → slice_cmp nat_cmp ys xs ≡ Less → slice_cmp nat_cmp xs ys ≡ Greater
-turned xs ys e = nat_list_cmp_total.antisymm xs ys ∙ ap ordering_reverse e
 
 by_order : (h g : ℕ) (o : Ordering) → (h < g → o ≡ Less) → (g < h → o ≡ Greater) → (h ≡ g → ⊥) → nat_lt h g ≡ is_le o
 by_order h g o up down differ = grind (arith, common_steps, nat_tests)
@@ -51,16 +25,16 @@ pub by_head : (x k : Bytes) (h g : ℕ) → IsHeadOf x h → IsHeadOf k g → (h
 by_head x k h g a b differ =
     let up : h < g → slice_cmp nat_cmp x k ≡ Less = λ p. less 16 x k a.bytes b.bytes (let m = a.number in let n = b.number in omega arith) in
     let down : g < h → slice_cmp nat_cmp x k ≡ Greater =
-    λ p. turned x k (less 16 k x b.bytes a.bytes (let m = a.number in let n = b.number in omega arith)) in
+    λ p. turned_less k x (less 16 k x b.bytes a.bytes (let m = a.number in let n = b.number in omega arith)) in
     by_order h g (slice_cmp nat_cmp x k) up down differ
 
 -- where there are so many bytes, their number is theirs
-whole : (n : ℕ) (xs : List ℕ) → n ≤ length xs → big_number n xs ≡ head n xs
+whole : (n : ℕ) (xs : List ℕ) → n ≤ length xs → big_number n xs ≡ first_bytes n xs
 whole zero xs p = refl
 whole (suc n) (x ∷ xs) p = ap (λ (r : ℕ). x * 256 ^ n + r) (big_from-cons 0 n x xs ∙ whole n xs (omega arith))
 whole (suc n) [] p = absurd (omega arith)
 
-zeros : (n m i : ℕ) → head n (drop i (replicate m 0)) ≡ 0
+zeros : (n m i : ℕ) → first_bytes n (drop i (replicate m 0)) ≡ 0
 zeros zero m i = refl
 zeros (suc n) zero zero = refl
 zeros (suc n) zero (suc i) = refl
@@ -68,7 +42,7 @@ zeros (suc n) (suc m) zero = let rest = zeros n m 0 in grind (arith, common_step
 zeros (suc n) (suc m) (suc i) = zeros (suc n) m i
 
 -- zeros behind the last change nothing
-padded : (n m i : ℕ) (xs : List ℕ) → head n (xs ++ drop i (replicate m 0)) ≡ head n xs
+padded : (n m i : ℕ) (xs : List ℕ) → first_bytes n (xs ++ drop i (replicate m 0)) ≡ first_bytes n xs
 padded zero m i xs = refl
 padded (suc n) m i [] = zeros (suc n) m i
 padded (suc n) m i (x ∷ xs) = ap (λ (r : ℕ). x * 256 ^ n + r) (padded n m i xs)

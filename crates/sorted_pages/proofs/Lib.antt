@@ -1,5 +1,7 @@
 pub mod Deals
+pub mod Ends
 pub mod FirstBytes
+pub mod Flags
 pub mod Keys
 pub mod Placings
 pub mod Seen

@@ -43,7 +43,7 @@ module _ {X : Type 0} (hides : X → Bool) where
       elim (hides e.1) as (λ b. AllByRecursion P (cond b (shown hides es) (e ∷ shown hides es)))
       [ true ↦ all-shown P es h.1 | false ↦ (h.0, all-shown P es h.1) ]
 
-  below-shown : (k : Bytes) (es : List (Bytes × X)) → IsBelowAll k es → IsBelowAll k (shown hides es)
+  pub below-shown : (k : Bytes) (es : List (Bytes × X)) → IsBelowAll k es → IsBelowAll k (shown hides es)
   below-shown k [] h = tt
   below-shown k (e ∷ es) h =
       let p = parts _ _ h in

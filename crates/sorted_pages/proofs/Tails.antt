@@ -1,9 +1,8 @@
 -- The entries of a range: the tail of all entries from its lower bound on, up to its upper bound.
 use Rattle.std.proofs.Common.{◌≡◌, ℕ, Bool, true, false, T, not, cond, List, [], ◌∷◌, ◌++◌, take, drop, get_or, ◌+◌}
-use Rattle.std.proofs.Common.{Option, Some, None, refl, sym, ap, subst, ◌∙◌, arith}
+use Rattle.std.proofs.Common.{◌<◌, ◌≤◌, length, Option, Some, None, refl, sym, ap, subst, ◌∙◌, arith}
 use Rattle.std.proofs.Math.Seq.{drop-append-add}
-use Rattle.std.proofs.lemmas.Bool.{and_parts, and_right, not-true}
-use Rattle.std.proofs.lemmas.Cmp.{tied_itself}
+use Rattle.std.proofs.lemmas.Bool.{and_right}
 use Rattle.std.proofs.lemmas.Grind.{common_steps}
 use Rattle.std.proofs.lemmas.List.{take-append-drop, append_assoc}
 use Rattle.std.specs.Cmp.Lexicographic.{nat_list_cmp_total}
@@ -17,12 +16,11 @@ use Rattle.model.proofs.InOrder.{less, sorted_right, parts}
 use Rattle.model.proofs.KeyOrder.{from_lo, turned_less}
 use Rattle.model.specs.Entries.{IsSplit}
 use Rattle.model.specs.Map.{Bytes, key_cmp, is_below, is_in_range}
-use Rattle.sorted_pages.proofs.Keys.{below_trans, above_it}
 use Rattle.sorted_pages.proofs.Placings.{entries_at, page_is}
 use Rattle.sorted_pages.proofs.Seen.{all-shown, shown-append, sorted-shown}
 use Rattle.sorted_pages.specs.Blanks.{shown}
 use Rattle.sorted_pages.specs.Pages.{Page, entries, IsPlace, IsInOrder, AreBelow}
-use Rattle.sorted_pages.specs.Ranges.{up_to, AreFrom, IsTail, first_key}
+use Rattle.sorted_pages.specs.Ranges.{up_to, AreFrom, IsFirstShown, IsTail, entries_from}
 
 -- what is above a key that isn't below hi isn't
 not_below : (q p : Bytes) (hi : Option Bytes) → key_cmp q p ≡ Less → is_below q hi ≡ false → is_below p hi ≡ false
@@ -54,7 +52,7 @@ module _ {X : Type 0} where
   none_below lo hi [] rest h = refl
   none_below lo hi (e ∷ es) rest h = grind (arith, common_steps, turned_less, none_below lo hi es rest h.1)
 
-  none_above : (lo q : Bytes) (hi : Option Bytes) (es : List (Bytes × X)) → IsBelowAll q es → is_below q hi ≡ false → In lo hi es ≡ []
+  pub none_above : (lo q : Bytes) (hi : Option Bytes) (es : List (Bytes × X)) → IsBelowAll q es → is_below q hi ≡ false → In lo hi es ≡ []
   none_above lo q hi [] h e = refl
   none_above lo q hi (d ∷ es) h e =
       let p = parts _ _ h in
@@ -68,7 +66,7 @@ module _ {X : Type 0} where
       let p = parts _ _ h in
       grind (arith, f.0, in_tail lo hi es p.1 f.1, none_above lo e.0 hi es p.0)
 
-  from_above : (k : Bytes) (es : List (Bytes × X)) → IsBelowAll k es → AreFrom k es
+  pub from_above : (k : Bytes) (es : List (Bytes × X)) → IsBelowAll k es → AreFrom k es
   from_above k [] h = tt
   from_above k (e ∷ es) h = let p = parts _ _ h in (ap is_le (less _ p.0), from_above k es p.1)
 
@@ -88,34 +86,34 @@ module _ {X : Type 0} where
       let sorted : IsSorted rest = sorted_right key_cmp pre rest (subst (λ (l : List (Bytes × X)). IsSorted l) e h.sorted) in
       grind (arith, common_steps, in_tail, sorted-shown, all-shown, all-append, from_above, shown-append, none_below)
 
-  -- the pages after a place
-  pub after_is : (ps : List (Page X)) (k : Bytes) (i : ℕ) (w : IsPlace ps k i) → drop (i + 1) ps ≡ w.after
-  after_is ps k i w = grind (arith, common_steps, drop-append-add)
-
-  -- ---- an upper bound that is a key of the map
-
-  not_in : (lo : Bytes) (hi : Option Bytes) (e : Bytes × X) (es : List (Bytes × X)) → IsBelowAll e.0 es → is_below e.0 hi ≡ false → In lo hi (e ∷ es) ≡ []
-  not_in lo hi e es h f = ap (λ b. cond b (e ∷ In lo hi es) (In lo hi es)) (and_right (is_le (key_cmp lo e.0)) (is_below e.0 hi) f)
-      ∙ none_above lo e.0 hi es h f
-
-  below_first : (q hi : Bytes) (fs : List (Bytes × X)) → AllByRecursion (λ (f : Bytes × X). is_in_range hi None f.0 ≡ true) fs → key_cmp q hi ≡ Less
-      → is_below q (first_key fs) ≡ true
-  below_first q hi fs h lt = grind (arith, common_steps, below_trans, and_parts)
-
-  -- the least key that is at least hi bounds as hi does
-  pub same_range : (lo hi : Bytes) (es : List (Bytes × X)) → IsSorted es → In lo (first_key (In hi None es)) es ≡ In lo (Some hi) es
-  same_range lo hi [] h = refl
-  same_range lo hi (e ∷ es) h =
-      let p = parts _ _ h in
-      let lower = λ (lt : key_cmp e.0 hi ≡ Less). below_first e.0 hi (In hi None es) (passing (is_in_range hi None) es) lt in
-      let none = not_in lo (Some e.0) e es p.0 (ap is_lt (tied_itself nat_list_cmp_total e.0)) in
-      let no_more = λ (t : is_le (key_cmp hi e.0) ≡ true). not_in lo (Some hi) e es p.0 (not-true _ (sym (from_lo hi e.0) ∙ t)) in
-      grind (arith, lower, none, no_more, above_it hi e.0, same_range lo hi es p.1)
+  -- the page at a place, and those after it
+  pub from_place : (ps : List (Page X)) (k : Bytes) (i : ℕ) (p : Page X) (w : IsPlace ps k i) → p ≡ get_or ps i p → drop i ps ≡ p ∷ w.after
+  from_place ps k i p w is = grind (arith, common_steps, drop-append-add, page_is)
 
 -- ---- a step
 
--- a page is taken, without some of its entries that are hidden
-pub next_page : {X : Type 0} (hides : X → Bool) (hi : Option Bytes) (front from : List (Bytes × X)) (page : Page X) (ps rest : List (Page X)) → front ≡ []
-    → ps ≡ page ∷ rest → shown hides from ≡ shown hides page.0
-    → up_to hi (shown hides (from ++ entries rest)) ≡ up_to hi (shown hides (front ++ entries ps))
-next_page hides hi front from page ps rest none next same = grind (arith, common_steps, shown-append)
+module _ {X : Type 0} (hides : X → Bool) (hi : Option Bytes) (page : Page X) (ps rest : List (Page X)) (from at : ℕ) where
+  first_of : (es : List (Bytes × X)) (i : ℕ) (e : Bytes × X) → i < length es → e ≡ get_or es i e → drop i es ≡ e ∷ drop (i + 1) es
+  first_of es i e lt is = grind (arith, common_steps)
+
+  -- what is left, where it is known from which place on the number sees something
+  left_from : ps ≡ page ∷ rest → shown hides (drop at page.0) ≡ shown hides (drop from page.0)
+      → shown hides (entries_from from ps) ≡ shown hides (drop at page.0 ++ entries rest)
+  left_from next same = grind (arith, common_steps, shown-append)
+
+  -- the entry at that place is the next
+  pub next_entry : (e : Bytes × X) → ps ≡ page ∷ rest → at < length page.0 → e ≡ get_or page.0 at e → IsFirstShown hides (drop at page.0)
+      → shown hides (drop at page.0) ≡ shown hides (drop from page.0) → is_below e.0 hi ≡ true
+      → up_to hi (shown hides (entries_from from ps)) ≡ e ∷ up_to hi (shown hides (entries_from (at + 1) ps))
+  next_entry e next lt is first same below = grind (arith, common_steps, left_from, first_of)
+
+  -- and the last, where it is behind the range
+  pub no_entry : (e : Bytes × X) → ps ≡ page ∷ rest → at < length page.0 → e ≡ get_or page.0 at e → IsFirstShown hides (drop at page.0)
+      → shown hides (drop at page.0) ≡ shown hides (drop from page.0) → is_below e.0 hi ≡ false → up_to hi (shown hides (entries_from from ps)) ≡ []
+  no_entry e next lt is first same above = grind (arith, common_steps, left_from, first_of)
+
+  -- a page is passed over
+  pub next_page : (begin : ℕ) → ps ≡ page ∷ rest → length page.0 ≤ at → shown hides (drop at page.0) ≡ shown hides (drop from page.0)
+      → shown hides (entries_from begin rest) ≡ shown hides (entries rest)
+      → up_to hi (shown hides (entries_from begin rest)) ≡ up_to hi (shown hides (entries_from from ps))
+  next_page begin next le same later = grind (arith, common_steps, left_from)

@@ -1,5 +1,6 @@
 -- What contracts say of pages.
 pub mod Blanks
+pub mod Flags
 pub mod Gaps
 pub mod Heads
 pub mod Summaries

@@ -8,6 +8,8 @@ use Rattle.std.specs.Prelude.{◌++◌, length, slice_get, slice_index_or, Optio
 use Rattle.std.specs.declared.cmp.Ordering.TheVariants.{Less}
 use Rattle.model.specs.Entries.{IsGap}
 use Rattle.model.specs.Map.{Bytes, key_cmp}
+use Rattle.sorted_pages.specs.declared.changing.TheConstants.{FILL, FILL_PLACES, SPLIT_MIN}
+use Rattle.sorted_pages.specs.declared.page.TheConstants.{PAGE_MAX}
 
 -- the entries of a page, and how many more fit without memory
 abbrev pub Page : Type 0 → Type 0
@@ -66,12 +68,11 @@ pub record IsHalved {X : Type 0} (k : Bytes) (old new : List (Page X)) : Type 0 
   pub low : stands_behind k (page_entries k old) ≡ false → count_at k old ≤ 2 * count_at k new + 1
   pub high : stands_behind k (page_entries k old) ≡ false → 2 * count_at k new ≤ count_at k old + 1
 
--- n more entries don't fit in the page where k stands or would stand, and are too many for it: it has 288, and would
--- get more than 576
+-- n more entries don't fit in the page where k stands or would stand, and are too many for it
 pub record IsCrowded {X : Type 0} (k : Bytes) (n : ℕ) (ps : List (Page X)) : Type 0 where
   pub short : room_at k ps < n
-  pub many : 288 ≤ count_at k ps
-  pub over : 576 < count_at k ps + n
+  pub many : SPLIT_MIN ≤ count_at k ps
+  pub over : PAGE_MAX < count_at k ps + n
 
 -- a page is made where there is none, and else one that is crowded is split
 abbrev pub IsPageWanted : {X : Type 0} → Bytes → ℕ → List (Page X) → Type 0
@@ -89,28 +90,27 @@ pub record StaysTight {X : Type 0} (bound : ℕ) (old new : List (Page X)) : Typ
 abbrev pub places_in : {X : Type 0} → List (Page X) → ℕ
 places_in ps = fold (λ n p. min (n + (length p.0 + p.1)) (2 ^ 64 - 1)) 0 ps
 
--- a page that entries come to by rising key: it has 384 at most, and 512 places at least, so that those that come in
--- between find room
+-- a page that entries come to by rising key: it has places for more, so that those that come in between find room
 pub record IsLoose {X : Type 0} (p : Page X) : Type 0 where
-  pub few : length p.0 ≤ 384
-  pub places : 512 ≤ length p.0 + p.1
+  pub few : length p.0 ≤ FILL
+  pub places : FILL_PLACES ≤ length p.0 + p.1
 
 abbrev pub AreLoose : {X : Type 0} → List (Page X) → Type 0
 AreLoose ps = AllByRecursion IsLoose ps
 
--- a page has 384 entries, or none is behind it
+-- a page is full, or none is behind it
 abbrev pub IsFullBefore : {X : Type 0} → Page X → List (Page X) → Type 0
 IsFullBefore p [] = ⊤
-IsFullBefore p (q ∷ ps) = 384 ≤ length p.0
+IsFullBefore p (q ∷ ps) = FILL ≤ length p.0
 
--- each page but the last has 384 entries
+-- each page but the last is full
 abbrev pub AreFull : {X : Type 0} → List (Page X) → Type 0
 AreFull [] = ⊤
 AreFull (p ∷ ps) = IsFullBefore p ps × AreFull ps
 
--- each page has 384 entries
+-- each page is full
 abbrev pub AreAllFull : {X : Type 0} → List (Page X) → Type 0
-AreAllFull ps = AllByRecursion (λ p. 384 ≤ length p.0) ps
+AreAllFull ps = AllByRecursion (λ p. FILL ≤ length p.0) ps
 
 -- the page has an entry
 abbrev pub HasEntry : {X : Type 0} → Page X → Type 0

@@ -4,7 +4,8 @@ use Rattle.std.specs.Cmp.Lexicographic.{slice_cmp}
 use Rattle.std.specs.FinMap.Entries.{where_key}
 use Rattle.std.specs.List.{AllByRecursion}
 use Rattle.std.specs.Ordering.{nat_cmp, is_le}
-use Rattle.std.specs.Prelude.{◌≡◌, ℕ, Bool, true, false, List, [], ◌∷◌, ◌++◌, Option, if◌then◌else◌, Some, None, ⊤}
+use Rattle.std.specs.Prelude.{◌≡◌, ℕ, Bool, true, false, List, [], ◌∷◌, ◌++◌, drop, if◌then◌else◌}
+use Rattle.std.specs.Prelude.{Option, Some, None, ⊤}
 use Rattle.model.specs.KeyBytes.{key_bytes, end_bytes}
 use Rattle.model.specs.Map.{Bytes, key_cmp, is_below, is_in_range}
 use Rattle.model.specs.declared.keys.KeyRef.{KeyRef}
@@ -17,9 +18,14 @@ abbrev pub up_to : {X : Type 0} → Option Bytes → List (Bytes × X) → List 
 up_to hi [] = []
 up_to hi (e ∷ es) = if is_below e.0 hi then e ∷ up_to hi es else []
 
+-- the entries of pages, from a place of the first page on
+abbrev pub entries_from : {X : Type 0} → ℕ → List (Page X) → List (Bytes × X)
+entries_from at [] = []
+entries_from at (p ∷ ps) = drop at p.0 ++ entries ps
+
 -- the entries that are left
 abbrev pub entries_left : {X : Type 0} → (ℕ → X → Bool) → Entries X → List (Bytes × X)
-entries_left hides r = up_to (end_bytes r.hi) (shown (hides r.number) (r.front.now ++ entries r.pages.now))
+entries_left hides r = up_to (end_bytes r.hi) (shown (hides r.number) (entries_from r.at r.pages.now))
 
 -- the entries that aren't hidden and whose keys are at least lo and below hi
 abbrev pub shown_in : {X : Type 0} → (X → Bool) → List (Page X) → Bytes → Option Bytes → List (Bytes × X)
@@ -49,3 +55,14 @@ pub record IsTail {X : Type 0} (es : List (Bytes × X)) (k : Bytes) (fs : List (
 abbrev pub first_key : {X : Type 0} → List (Bytes × X) → Option Bytes
 first_key [] = None
 first_key (e ∷ es) = Some e.0
+
+-- the least of the keys that are at least k, where there is one
+pub record IsLeastFrom {X : Type 0} (es : List (Bytes × X)) (k : Bytes) (least : Option Bytes) : Type 0 where
+  pub tail : List (Bytes × X)
+  pub from : IsTail es k tail
+  pub is : least ≡ first_key tail
+
+-- a range that goes up to hi has of these pages, up to this bound, what it has of those
+abbrev pub EndsAs : {X : Type 0} → List (Page X) → Bytes → List (Page X) → Option Bytes → Type 0
+EndsAs {X} ps hi qs bound =
+    (hides : X → Bool) (lo : Bytes) → shown_in hides qs lo bound ≡ shown_in hides ps lo (Some hi)

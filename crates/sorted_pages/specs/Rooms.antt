@@ -1,27 +1,28 @@
 -- What making room does to pages.
-use Rattle.std.specs.Prelude.{◌≡◌, ◌≤◌, ◌<◌, ◌+◌, ℕ, List, [], length}
+use Rattle.std.specs.Prelude.{◌≡◌, ◌≤◌, ◌<◌, ◌+◌, ◌-◌, ℕ, List, [], length}
 use Rattle.std.specs.Vec.{vec_capacity}
 use Rattle.std.specs.declared.vec.Vec.{Vec}
 use Rattle.model.specs.Map.{Bytes}
 use Rattle.sorted_pages.specs.Pages.{IsHalved, IsInOrder, IsPageWanted, IsRoomier, Page, StaysTight}
+use Rattle.sorted_pages.specs.declared.page.TheConstants.{STEP}
 
 -- the vector is empty, and has places for n
 pub record IsEmptyFor {X Z : Type 0} (n : ℕ) (v : Vec X Z) : Type 0 where
   pub none : v.items ≡ []
   pub places : n ≤ vec_capacity v
 
--- the page has these entries and room for n more, and for 191 above these at most
+-- the page has these entries and room for n more, and for fewer than a step above these
 pub record HasRoomFor {X : Type 0} (n : ℕ) (es : List (Bytes × X)) (p : Page X) : Type 0 where
   pub entries : p.0 ≡ es
   pub room : n ≤ p.1
-  pub tight : p.1 ≤ n + 191
+  pub tight : p.1 ≤ n + (STEP - 1)
 
--- The pages stand in order and have the same entries. No key has less room, and no page has room for more than n and
--- 191 above these, unless one had.
+-- The pages stand in order and have the same entries. No key has less room, and no page has room for n and a step more,
+-- unless one had.
 pub record MakesRoom {X : Type 0} (n : ℕ) (old new : List (Page X)) : Type 0 where
   pub order : IsInOrder new
   pub roomier : IsRoomier old new
-  pub tight : StaysTight (n + 191) old new
+  pub tight : StaysTight (n + (STEP - 1)) old new
 
 -- there are more pages, and the one where k stands or would stand is half of what it was
 pub record SplitsPage {X : Type 0} (k : Bytes) (old new : List (Page X)) : Type 0 where

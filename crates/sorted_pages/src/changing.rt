@@ -110,9 +110,9 @@ fn divide<V: Aging + Drop>(
 
 // Are `n` entries more too many for a page that has `len`?
 fn is_crowded(len: usize, n: usize) -> bool
-    ensures crowded { 0 < n → 288 ≤ len → 576 < len + n → result ≡ true }
-    ensures many { result ≡ true → 288 ≤ len }
-    ensures over { result ≡ true → 576 < len + n }
+    ensures crowded { 0 < n → SPLIT_MIN ≤ len → PAGE_MAX < len + n → result ≡ true }
+    ensures many { result ≡ true → SPLIT_MIN ≤ len }
+    ensures over { result ≡ true → PAGE_MAX < len + n }
 {
     SPLIT_MIN <= len && PAGE_MAX.saturating_sub(len) < n
 }
@@ -169,7 +169,7 @@ fn push_page<V: Aging + Drop>(
     ensures entries { entries pages.new.items ≡ pushed (is_ok result) (entries pages.old.items) (key, value) }
     ensures loose { AreLoose pages.old.items → AreLoose pages.new.items }
     ensures full { AreAllFull pages.old.items → AreFull pages.old.items → AreFull pages.new.items }
-    ensures tight { StaysTight 512 pages.old.items pages.new.items }
+    ensures tight { StaysTight FILL_PLACES pages.old.items pages.new.items }
 {
     let alloc = *pages.allocator();
     let mut page = Page::with_room(alloc, FILL_PLACES)?;
@@ -190,7 +190,7 @@ pub(crate) fn push<V: Aging + Drop>(
     ensures entries { entries pages.new.items ≡ pushed (is_ok result) (entries pages.old.items) (key, value) }
     ensures loose { AreLoose pages.old.items → AreLoose pages.new.items }
     ensures full { AreFull pages.old.items → AreFull pages.new.items }
-    ensures tight { StaysTight 512 pages.old.items pages.new.items }
+    ensures tight { StaysTight FILL_PLACES pages.old.items pages.new.items }
 {
     let count = pages.len();
     if count == 0 {

@@ -4,6 +4,7 @@
 
 mod aging;
 mod changing;
+mod flagging;
 mod gap;
 mod heads;
 mod insertion_point;
@@ -12,6 +13,7 @@ mod page;
 mod pages;
 mod placing;
 mod range;
+mod ranging;
 mod summary;
 mod trimming;
 

@@ -14,6 +14,7 @@ ghost use Rattle.sorted_pages.specs.Rooms.{HasRoomFor, IsEmptyFor};
 ghost use Rattle.sorted_pages.specs.Trims.{changed_at, passes};
 
 use crate::aging::Aging;
+use crate::flagging::{copied_flags, next_flagged};
 use crate::heads::{SoughtKey, first_head, renewed_head};
 use crate::summary::Summary;
 use model::{Key, KeyRef};
@@ -32,7 +33,7 @@ pub(crate) const PAGE_MAX: usize = 576;
 // How much room to make beside `len` entries for `n` more, so that the places are whole steps.
 fn room_in_steps(len: usize, n: usize) -> usize
     ensures least { n ≤ result }
-    ensures most { result ≤ n + 191 }
+    ensures most { result ≤ n + (STEP - 1) }
 {
     // There is no memory for so many.
     if usize::MAX - STEP < n {
@@ -48,7 +49,7 @@ fn room_in_steps(len: usize, n: usize) -> usize
 fn vector_for<V>(alloc: Global, len: usize, n: usize) -> Result<Vec<(Key, V)>, AllocError>
     ensures none { IfOk result (λ v. v.items ≡ []) }
     ensures least { IfOk result (λ v. len + n ≤ vec_capacity v) }
-    ensures most { IfOk result (λ v. vec_capacity v ≤ len + n + 191) }
+    ensures most { IfOk result (λ v. vec_capacity v ≤ len + n + (STEP - 1)) }
 {
     match len.checked_add(room_in_steps(len, n)) {
         None => Err(AllocError),
@@ -91,10 +92,12 @@ fn new_summary(alloc: Global) -> Result<Box<Summary>, AllocError>
     }
 }
 
-// Entries by rising key. A clause sees them, and how many more fit without memory.
+// Entries by rising key. A clause sees them, and how many more fit without memory. Each place takes a byte beside the entry's own.
 #[derive(Drop)]
 pub(crate) struct Page<V: Aging> {
     entries: Vec<(Key, V)>,
+    // for each entry whether its value may show
+    flags: Vec<bool>,
     // that of the first key
     head: u128,
     // of so many of the first entries no number sees anything
@@ -106,6 +109,7 @@ impl<V: Aging> Model for Page<V> {
     ghost use Rattle.std.specs.Prelude.{ℕ, List, ◌-◌};
     ghost use Rattle.std.specs.Vec.{vec_len, vec_capacity};
     ghost use Rattle.sorted_pages.specs.Blanks.{IsBlankTo};
+    ghost use Rattle.sorted_pages.specs.Flags.{HaveFlags};
     ghost use Rattle.sorted_pages.specs.Heads.{IsFirstHead};
     ghost use Rattle.sorted_pages.specs.Summaries.{IsSummaryBut};
 
@@ -115,7 +119,8 @@ impl<V: Aging> Model for Page<V> {
 
     ghost invariant = { λ p. IsBlankTo V.hides p.entries.items p.blank
         × IsSummaryBut V.hides V.shows p.entries.items p.summary.value
-        × IsFirstHead p.entries.items p.head };
+        × IsFirstHead p.entries.items p.head
+        × HaveFlags V.shows p.entries p.summary.value.left_out p.flags };
 }
 
 // Which of the entry's key and another stands first.
@@ -126,14 +131,15 @@ fn compare<V>(entry: &(Key, V), key: KeyRef<'_>) -> Ordering
 }
 
 impl<V: Aging> Page<V> {
-    ghost use Rattle.sorted_pages.specs.Ranges.{IsTail};
+    ghost use Rattle.model.specs.KeyBytes.{end_bytes};
+    ghost use Rattle.sorted_pages.specs.Ranges.{IsFirstShown, IsLeastFrom};
     ghost use Rattle.sorted_pages.specs.Lent.{lends_in_page};
 
     // An empty page with room for so many entries, in whole steps.
     pub(crate) fn with_room_in_steps(alloc: Global, room: usize) -> Result<Page<V>, AllocError>
         ensures none { IfOk result (λ p. p.0 ≡ []) }
         ensures least { IfOk result (λ p. room ≤ p.1) }
-        ensures most { IfOk result (λ p. p.1 ≤ room + 191) }
+        ensures most { IfOk result (λ p. p.1 ≤ room + (STEP - 1)) }
     {
         Page::with_room(alloc, room_in_steps(0, room))
     }
@@ -143,8 +149,10 @@ impl<V: Aging> Page<V> {
         ensures { IfOk result (λ p. p ≡ ([], room)) }
     {
         let summary = new_summary(alloc)?;
+        let flags = Vec::with_capacity(alloc, room)?;
         Ok(Page {
             entries: Vec::with_capacity(alloc, room)?,
+            flags,
             head: 0,
             blank: 0,
             summary,
@@ -207,7 +215,7 @@ impl<V: Aging> Page<V> {
     }
 
     // How many of the entries have keys below this one.
-    fn split_place(&self, key: KeyRef<'_>) -> usize
+    pub(crate) fn split_place(&self, key: KeyRef<'_>) -> usize
         requires { T (is_sorted (slice_cmp nat_cmp) self.now.0) }
         ensures { IsSplit self.now.0 key.entry.bytes.now result }
     {
@@ -224,24 +232,52 @@ impl<V: Aging> Page<V> {
         &self.entries
     }
 
-    // Lends entries that have all of which the number sees something: none where the page knows that it sees nothing, and otherwise
-    // those behind the ones at the front of which no number sees anything.
-    pub(crate) fn seen_from(&self, number: u64) -> &[(Key, V)]
-        ensures { shown (V.hides number) result.now ≡ shown (V.hides number) self.now.0 }
+    // At which place a range begins that has all of the page's keys: behind the last, where the page knows that the number sees nothing of
+    // its entries, and else behind those at the front of which no number sees anything.
+    pub(crate) fn start_for(&self, number: u64) -> usize
+        ensures { shown (V.hides number) (drop result self.now.0) ≡ shown (V.hides number) self.now.0 }
     {
         if self.summary.as_ref().hides(&self.entries, number) {
-            return &[];
+            return self.entries.len();
         }
-        &self.entries()[self.blank..]
+        self.blank
     }
 
-    // Lends the entries from this key on.
-    pub(crate) fn entries_from(&self, key: KeyRef<'_>) -> &[(Key, V)]
-        requires { T (is_sorted (slice_cmp nat_cmp) self.now.0) }
-        ensures { IsTail self.now.0 key.entry.bytes.now result.now }
+    // The next place from this one on whose value has to be asked: one whose flag is true, where the number isn't below that of the page's
+    // last change.
+    fn next_asked(&self, from: usize, number: u64) -> usize
+        ensures from { from ≤ result }
+        ensures shown { shown (V.hides number) (drop result self.now.0)
+            ≡ shown (V.hides number) (drop from self.now.0) }
     {
-        let start = self.split_place(key);
-        &self.entries()[start..]
+        if number < self.summary.as_ref().last {
+            return from;
+        }
+        next_flagged(&self.flags, from)
+    }
+
+    // The next place from this one on of which the number sees something; where there is none, it is behind the last.
+    pub(crate) fn next_seen(&self, from: usize, number: u64) -> usize
+        ensures first { IsFirstShown (V.hides number) (drop result self.now.0) }
+        ensures shown { shown (V.hides number) (drop result self.now.0)
+            ≡ shown (V.hides number) (drop from self.now.0) }
+    {
+        let mut at = self.next_asked(from, number);
+        while at < self.entries.len() && self.entries[at].1.hides(number) {
+            at = self.next_asked(at + 1, number);
+        }
+        at
+    }
+
+    // Lends the least key that is at least this one.
+    pub(crate) fn first_from(&self, key: KeyRef<'_>) -> Option<KeyRef<'_>>
+        requires { T (is_sorted (slice_cmp nat_cmp) self.now.0) }
+        ensures { IsLeastFrom self.now.0 key.entry.bytes.now (end_bytes result) }
+    {
+        match self.entries.get(self.split_place(key)) {
+            None => None,
+            Some(entry) => Some(entry.0.lend()),
+        }
     }
 
     // Lends the key's value.
@@ -261,8 +297,10 @@ impl<V: Aging> Page<V> {
         ensures* writes_back { sem 𝓛 (lends_in_page V.row V.Aging self.entry key.entry.bytes.now result) }
         ensures value { find (slice_cmp nat_cmp) key.entry.bytes.now self.old.0 ≡ Some result.now }
     {
+        self.look_again();
         self.blank = self.blank.min(i);
         *self.summary.as_mut() = self.summary.as_ref().leave_out(&self.entries, i);
+        self.flags[i] = true;
         let entry = &mut self.entries[i];
         &mut entry.1
     }
@@ -271,7 +309,10 @@ impl<V: Aging> Page<V> {
     pub(crate) fn look_again(&mut self)
         ensures { self.new ≡ self.old }
     {
-        *self.summary.as_mut() = self.summary.as_ref().take_in(&self.entries);
+        if let Some(i) = self.summary.as_ref().left_out {
+            self.flags[i] = self.entries[i].1.shows();
+            *self.summary.as_mut() = self.summary.as_ref().take_in(&self.entries);
+        }
     }
 
     // Makes room for `n` more entries. Where it is missing the places become whole steps.
@@ -279,13 +320,15 @@ impl<V: Aging> Page<V> {
         ensures entries { self.new.0 ≡ self.old.0 }
         ensures room { self.old.1 ≤ self.new.1 }
         ensures made { OnOk result (n ≤ self.new.1) }
-        ensures tight { self.new.1 ≤ max self.old.1 (n + 191) }
+        ensures tight { self.new.1 ≤ max self.old.1 (n + (STEP - 1)) }
     {
         if n <= self.room() {
             return Ok(());
         }
-        self.entries
-            .reserve_exact(room_in_steps(self.entries.len(), n))
+        let more = room_in_steps(self.entries.len(), n);
+        // There is a place for each flag, also where there is no memory for the entries.
+        self.flags.reserve_exact(more)?;
+        self.entries.reserve_exact(more)
     }
 
     // Adds an entry of a new key at `i`, where it would stand, in the room that was made for it.
@@ -295,9 +338,15 @@ impl<V: Aging> Page<V> {
         ensures entries { self.new.0 ≡ put (slice_cmp nat_cmp) key value self.old.0 }
         ensures room { self.old.1 ≡ self.new.1 + 1 }
     {
+        self.look_again();
         self.blank = self.blank.min(i);
         let mut summary = self.summary.as_ref().take_in(&self.entries);
+        let shows = value.shows();
         match self.entries.insert(i, (key, value)) {
+            Ok(()) => {}
+            Err(_) => unreachable!(),
+        }
+        match self.flags.insert(i, shows) {
             Ok(()) => {}
             Err(_) => unreachable!(),
         }
@@ -312,12 +361,15 @@ impl<V: Aging + Drop> Page<V> {
     pub(crate) fn push(&mut self, key: Key, value: V) -> Result<(), AllocError>
         ensures entries { self.new.0 ≡ (if is_ok result then self.old.0 ++ (key, value) ∷ [] else self.old.0) }
         ensures places { length self.old.0 + self.old.1 ≤ length self.new.0 + self.new.1 }
-        ensures tight { self.new.1 ≤ max self.old.1 192 }
+        ensures tight { self.new.1 ≤ max self.old.1 STEP }
     {
         self.reserve(1)?;
+        self.look_again();
         let last = self.entries.len();
         let mut summary = self.summary.as_ref().take_in(&self.entries);
+        let shows = value.shows();
         self.entries.push_reserved((key, value));
+        self.flags.push_reserved(shows);
         self.head = renewed_head(&self.entries, last, self.head);
         summary.left_out = Some(last);
         *self.summary.as_mut() = summary.take_in(&self.entries);
@@ -331,19 +383,25 @@ impl<V: Aging + Drop> Page<V> {
         ensures upper { IfOk result (HasRoomFor n (drop at self.old.0)) }
         ensures failed { OnErr result (self.new ≡ self.old) }
     {
+        self.look_again();
         let alloc = *self.entries.allocator();
         let mut lower = vector_for(alloc, at, n)?;
         let mut upper = vector_for(alloc, self.entries.len() - at, n)?;
+        let lower_flags = copied_flags(alloc, &self.flags[..at], lower.capacity())?;
+        let flags = copied_flags(alloc, &self.flags[at..], upper.capacity())?;
         let mut summary = new_summary(alloc)?;
+        let gaps = self.summary.as_ref().take_in(&self.entries).gaps();
         let entries = mem::replace(&mut self.entries, Vec::new(alloc));
         deal(entries, at, &mut lower, &mut upper);
         self.blank = self.blank.min(at);
-        *self.summary.as_mut() = Summary::of(&lower);
+        *self.summary.as_mut() = Summary::of(&lower, gaps);
         self.entries = lower;
-        *summary.as_mut() = Summary::of(&upper);
+        self.flags = lower_flags;
+        *summary.as_mut() = Summary::of(&upper, gaps);
         let head = first_head(&upper);
         Ok(Page {
             entries: upper,
+            flags,
             head,
             blank: 0,
             summary,
@@ -361,10 +419,12 @@ impl<V: Aging> Page<V> {
     {
         match self.search(key) {
             Ok(i) => {
+                self.look_again();
                 *self.summary.as_mut() = self.summary.as_ref().leave_out(&self.entries, i);
                 let entry = &mut self.entries[i];
                 entry.1.trim(numbers);
                 let left = entry.1.has(number);
+                self.flags[i] = entry.1.shows();
                 self.blank = blank_from(&self.entries, self.blank.min(i));
                 let summary = self.summary.as_ref().take_in(&self.entries);
                 *self.summary.as_mut() = summary.active(&self.entries, numbers);

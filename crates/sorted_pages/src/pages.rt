@@ -7,6 +7,7 @@ ghost use Rattle.std.specs.FinMap.Entries.{find, put, is_sorted};
 ghost use Rattle.model.specs.Map.{Bytes};
 ghost use Rattle.sorted_pages.specs.Pages.{AreFull, AreLoose, IsCrowded, StaysTight, entries, places_in, pushed};
 ghost use Rattle.sorted_pages.specs.Pages.{IsInsertionPoint, room_at};
+ghost use Rattle.sorted_pages.specs.declared.changing.TheConstants.{FILL_PLACES};
 ghost use Rattle.sorted_pages.specs.Rooms.{MakesOnePage, MakesRoom, SplitsPage};
 
 use crate::aging::Aging;
@@ -15,13 +16,14 @@ use crate::insertion_point::InsertionPoint;
 use crate::page::Page;
 use crate::placing::{self, place};
 use crate::range::Entries;
+use crate::ranging::{RangeEnd, up_to, within};
 use crate::trimming;
 use model::{Key, KeyRef, RangeRef};
 use std::alloc::{AllocError, Global};
 use std::marker::Model;
 
 /// A map from keys to values of `V`, in pages. A clause sees the pages, each its entries and its room; `entries` of them is the map's
-/// entries by strictly rising key.
+/// entries by strictly rising key. Each place takes what an entry does and a byte, which says whether its value may show.
 #[derive(Drop)]
 pub struct SortedPages<V: Aging> {
     pub(crate) pages: Vec<Page<V>>,
@@ -106,55 +108,25 @@ impl<V: Aging> SortedPages<V> {
 
 impl<V: Aging> SortedPages<V> {
     ghost use Rattle.model.specs.KeyBytes.{end_bytes};
-    ghost use Rattle.sorted_pages.specs.Ranges.{entries_left, first_key, shown_in};
-
-    // Lends the entries from one key on, up to another, of which the number sees something.
-    fn within<'a>(&'a self, lo: KeyRef<'_>, hi: Option<KeyRef<'a>>, number: u64) -> Entries<'a, V>
-        ensures { entries_left V.hides result
-            ≡ shown_in (V.hides number) self.now lo.entry.bytes.now (end_bytes hi.entry) }
-    {
-        let pages = self.pages.as_slice();
-        if pages.is_empty() {
-            return Entries {
-                front: &[],
-                pages,
-                hi,
-                number,
-            };
-        }
-        let i = place(pages, lo);
-        Entries {
-            front: pages[i].entries_from(lo),
-            pages: &pages[i + 1..],
-            hi,
-            number,
-        }
-    }
-
-    // Lends the least key that is at least this one, of those of which the number sees something.
-    fn first_from(&self, key: KeyRef<'_>, number: u64) -> Option<KeyRef<'_>>
-        ensures { end_bytes result ≡ first_key (shown_in (V.hides number) self.now key.entry.bytes.now None) }
-    {
-        match self.within(key, None, number).next() {
-            None => None,
-            Some((first, _)) => Some(first),
-        }
-    }
+    ghost use Rattle.sorted_pages.specs.Ranges.{entries_left, shown_in};
 
     /// Lends the entries of the range of which the number sees something, by rising key. A page is passed over in one step where all
     /// of its values came after the number, where none of them shows and the last of their changes came before it, or where none showed
     /// at the number, though they were set again: of such times it knows the last, and three from before in which some of the numbers
-    /// lay that the page's values were trimmed for last. Of the others the entries at the front that no number sees are passed over.
+    /// lay that the page's values were trimmed for last. Of the others the entries at the front that no number sees are passed over,
+    /// and, by a number that isn't below the last change of the page's values, each of which the page knows that its value doesn't show.
     /// The first page of the range and that of its end are looked at. Takes no memory.
     pub fn range(&self, range: RangeRef<'_>, number: u64) -> Entries<'_, V>
         ensures { entries_left V.hides result
             ≡ shown_in (V.hides number) self.now range.entry.lo.bytes.now (end_bytes range.entry.hi) }
     {
-        // Shows the invariant: the pages are in order.
-        let _ = &self.pages;
+        let pages = self.pages.as_slice();
         match range.hi {
-            None => self.within(range.lo, None, number),
-            Some(hi) => self.within(range.lo, self.first_from(hi, number), number),
+            None => within(pages, range.lo, None, number),
+            Some(hi) => {
+                let RangeEnd { pages, least } = up_to(pages, hi);
+                within(pages, range.lo, least, number)
+            }
         }
     }
 }
@@ -207,7 +179,7 @@ impl<V: Aging + Drop> SortedPages<V> {
         ensures entries { entries self.new ≡ pushed (is_ok result) (entries self.old) (key, value) }
         ensures loose { AreLoose self.old → AreLoose self.new }
         ensures full { AreFull self.old → AreFull self.new }
-        ensures tight { StaysTight 512 self.old self.new }
+        ensures tight { StaysTight FILL_PLACES self.old self.new }
     {
         changing::push(&mut self.pages, key, value)
     }

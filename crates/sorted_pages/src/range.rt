@@ -1,17 +1,32 @@
 //! The entries of a range of which a begin number sees something, borrowed one by one.
+ghost use Rattle.std.specs.Prelude.{◌≡◌};
+ghost use Rattle.sorted_pages.specs.Blanks.{shown};
+ghost use Rattle.sorted_pages.specs.Pages.{entries};
+ghost use Rattle.sorted_pages.specs.Ranges.{entries_from};
+
 use crate::aging::Aging;
 use crate::page::Page;
-use model::{Key, KeyRef};
+use model::KeyRef;
 use std::alloc::AllocError;
 
 /// The entries of a range of which a number sees something, by rising key, lent one by one. Its calls take no memory.
 pub struct Entries<'a, V: Aging> {
-    // what is left of a page, and the pages after it
-    pub(crate) front: &'a [(Key, V)],
+    // the pages that are left, and a place of the first of them: the entries before it aren't
     pub(crate) pages: &'a [Page<V>],
+    pub(crate) at: usize,
     // the upper end, where there is one
     pub(crate) hi: Option<KeyRef<'a>>,
     pub(crate) number: u64,
+}
+
+// Where a range that has all keys of the pages begins in the first of them, where there is one.
+fn start<V: Aging>(pages: &[Page<V>], number: u64) -> usize
+    ensures { shown (V.hides number) (entries_from result pages.now) ≡ shown (V.hides number) (entries pages.now) }
+{
+    match pages.first() {
+        None => 0,
+        Some(page) => page.start_for(number),
+    }
 }
 
 impl<'a, V: Aging> Clone for Entries<'a, V> {
@@ -32,7 +47,6 @@ impl<'a, V: Aging> Entries<'a, V> {
     ghost use Rattle.std.specs.Prelude.{◌≡◌};
     ghost use Rattle.model.specs.Map.{is_below};
     ghost use Rattle.model.specs.KeyBytes.{end_bytes};
-    ghost use Rattle.sorted_pages.specs.Ranges.{IsFirstShown, entries_left};
 
     // Is the key below the upper end?
     fn is_in(&self, key: KeyRef<'_>) -> bool
@@ -41,20 +55,6 @@ impl<'a, V: Aging> Entries<'a, V> {
         match self.hi {
             None => true,
             Some(hi) => key.order(hi).is_lt(),
-        }
-    }
-
-    // Passes over the entries at the front of which the number sees nothing.
-    fn pass_hidden(&mut self)
-        ensures left { entries_left V.hides self.new ≡ entries_left V.hides self.old }
-        ensures first { IsFirstShown (V.hides self.new.number) self.new.front.now }
-        ensures pages { self.new.pages ≡ self.old.pages }
-    {
-        while let Some((entry, rest)) = self.front.split_first() {
-            if !entry.1.hides(self.number) {
-                return;
-            }
-            self.front = rest;
         }
     }
 }
@@ -70,27 +70,19 @@ impl<'a, V: Aging> Iterator for Entries<'a, V> {
     ghost remaining = { item_count (entries_left V.hides) };
 
     fn next(&mut self) -> Option<(KeyRef<'a>, &'a V)> {
-        self.pass_hidden();
-        while self.front.is_empty() {
-            match self.pages.split_first() {
-                None => return None,
-                Some((page, rest)) => {
-                    self.front = page.seen_from(self.number);
-                    self.pages = rest;
-                }
-            }
-            self.pass_hidden();
-        }
-        match self.front.split_first() {
-            None => None,
-            Some((entry, rest)) => {
+        while let Some((page, rest)) = self.pages.split_first() {
+            self.at = page.next_seen(self.at, self.number);
+            if let Some(entry) = page.entries().get(self.at) {
                 let key = entry.0.lend();
                 if !self.is_in(key) {
                     return None;
                 }
-                self.front = rest;
-                Some((key, &entry.1))
+                self.at += 1;
+                return Some((key, &entry.1));
             }
+            self.pages = rest;
+            self.at = start(rest, self.number);
         }
+        None
     }
 }

@@ -18,9 +18,10 @@ pub(crate) struct Summary {
 }
 
 impl Summary {
-    ghost use Rattle.std.specs.Prelude.{◌≡◌, ◌≢◌, ◌<◌, ◌-◌, ◌^◌, ◌&&◌, ℕ, true, None, Some, length};
+    ghost use Rattle.std.specs.Prelude.{◌≡◌, ◌≢◌, ◌==◌, ◌<◌, ◌-◌, ◌^◌, ◌&&◌, ℕ, true, None, Some, length};
+    ghost use Rattle.std.specs.Prelude.{if◌then◌else◌};
     ghost use Rattle.sorted_pages.specs.Summaries.{AreHidden, IsSummary, IsSummaryBut, KeepsGap, hides_but, is_known};
-    ghost use Rattle.sorted_pages.specs.Gaps.{are_active_or_none, is_within};
+    ghost use Rattle.sorted_pages.specs.Gaps.{are_active_or_none, is_within, with_gap};
 
     // That of no entries.
     pub(crate) fn new() -> Summary
@@ -127,12 +128,26 @@ impl Summary {
         }
     }
 
-    // That of these entries.
-    pub(crate) fn of<V: Aging>(entries: &[(Key, V)]) -> Summary
+    // What it knows of times at which no value showed, as the older gaps of a part of its entries.
+    pub(crate) fn gaps(self) -> Older
+        ensures { result ≡ (if self.live == 0 then self.older else with_gap self.gap self.older) }
+    {
+        if self.live == 0 {
+            self.older
+        } else {
+            self.older.with(self.gap)
+        }
+    }
+
+    // That of these entries, of which the numbers of these gaps see nothing where they saw nothing of more entries.
+    pub(crate) fn of<V: Aging>(entries: &[(Key, V)], older: Older) -> Summary
         ensures summary { IsSummary V.hides V.shows entries.now result }
         ensures whole { result.left_out ≡ None }
     {
-        let mut summary = Summary::new();
+        let mut summary = Summary {
+            older,
+            ..Summary::new()
+        };
         for i in 0..entries.len() {
             summary.left_out = Some(i);
             summary = summary.take_in(&entries[..i + 1]);

@@ -5,8 +5,8 @@ use sorted_pages::{Aging, SortedPages};
 use std::cell::Cell;
 use std::process::Abort;
 
-// A value that the numbers from `first` on and below `last` see, and those from `again` on where it shows again. It counts how often this
-// is asked.
+// A value that the numbers from `first` on and below `last` see, and those from `again` on where it shows again, of which `newest` is the
+// last at which it was set. It counts how often this is asked.
 #[derive(Drop)]
 struct Watched<'a> {
     asked: &'a Cell<u64>,
@@ -14,6 +14,7 @@ struct Watched<'a> {
     last: u64,
     shows: bool,
     again: u64,
+    newest: u64,
 }
 
 impl Aging for Watched<'_> {
@@ -32,7 +33,7 @@ impl Aging for Watched<'_> {
 
     ghost first = { λ value. value.first };
 
-    ghost last = { λ value. if value.shows then value.again else value.last };
+    ghost last = { λ value. if value.shows then value.newest else value.last };
 
     fn trim(&mut self, _numbers: &[u64]) {}
 
@@ -58,7 +59,7 @@ impl Aging for Watched<'_> {
     }
 
     fn last(&self) -> u64 {
-        if self.shows { self.again } else { self.last }
+        if self.shows { self.newest } else { self.last }
     }
 
     fn hidden_from(&self, low: u64, high: u64) -> u64 {
@@ -80,6 +81,19 @@ fn live(asked: &Cell<u64>) -> Watched<'_> {
         last: u64::MAX,
         shows: false,
         again: 0,
+        newest: 0,
+    }
+}
+
+// A value that the numbers from this one on see.
+fn set_at(number: u64, asked: &Cell<u64>) -> Watched<'_> {
+    Watched {
+        asked,
+        first: number,
+        last: number,
+        shows: true,
+        again: number,
+        newest: number,
     }
 }
 
@@ -148,12 +162,22 @@ fn lend(pages: &mut SortedPages<Watched<'_>>, bytes: &[u8]) -> bool {
     }
 }
 
-// How many values are looked at until the number has come to the first that it sees, or to the end.
-fn looks(pages: &SortedPages<Watched<'_>>, number: u64, asked: &Cell<u64>) -> u64 {
+// How many values are looked at until the number has come to the first that it sees, or to the end of the range.
+fn looks_up_to(
+    pages: &SortedPages<Watched<'_>>,
+    hi: Option<KeyRef<'_>>,
+    number: u64,
+    asked: &Cell<u64>,
+) -> u64 {
     asked.set(0);
     let lo = key(b"\0");
-    let _ = pages.range(RangeRef { lo, hi: None }, number).next();
+    let _ = pages.range(RangeRef { lo, hi }, number).next();
     asked.get()
+}
+
+// The same of a range over all keys.
+fn looks(pages: &SortedPages<Watched<'_>>, number: u64, asked: &Cell<u64>) -> u64 {
+    looks_up_to(pages, None, number, asked)
 }
 
 /// Of a page that is passed over no value is looked at, also where one was lent for writing, once another page's was.
@@ -181,18 +205,42 @@ fn deleted_pages_are_passed_over(rt: HostRuntime) {
     assert!(rt; looks(&pages, 5, &asked) < 1_000);
 }
 
-// Sets each of the values again, with this number, in its place.
-fn set_again<R: Abort>(rt: &R, pages: &mut SortedPages<Watched<'_>>, number: u64) {
-    for i in 0..2_000u16 {
-        let bytes = i.to_be_bytes();
-        let at = KeyRef::new(bytes.as_slice()).expect(rt, "a key");
-        match pages.find_mut(at) {
-            Ok(value) => {
-                value.shows = true;
-                value.again = number;
-            }
-            Err(_) => panic!(rt; "a key is missing"),
+/// Nor is one looked at of a page behind that of the range's end, also where the number sees nothing before it.
+#[test]
+fn a_range_ends_at_the_page_of_its_end(rt: HostRuntime) {
+    let asked = Cell::new(0);
+    let mut pages = filled(&rt, 2_000, 5, &asked);
+    let before = looks(&pages, 5, &asked);
+    assert!(rt;
+        lend(&mut pages, b"\x04\0") && looks(&pages, 5, &asked) == before.saturating_add(1)
+    );
+    assert!(rt; looks_up_to(&pages, Some(key(b"\0\x01")), 5, &asked) == before);
+    assert!(rt; looks_up_to(&pages, Some(key(b"\x05\0")), 5, &asked) == before.saturating_add(1));
+}
+
+// Lets the value of the key of these bytes show again from one number on, set last with another.
+fn set_one_again<R: Abort>(
+    rt: &R,
+    pages: &mut SortedPages<Watched<'_>>,
+    bytes: &[u8],
+    again: u64,
+    newest: u64,
+) {
+    let at = KeyRef::new(bytes).expect(rt, "a key");
+    match pages.find_mut(at) {
+        Ok(value) => {
+            value.shows = true;
+            value.again = again;
+            value.newest = newest;
         }
+        Err(_) => panic!(rt; "a key is missing"),
+    }
+}
+
+// The same of each of the values.
+fn set_again<R: Abort>(rt: &R, pages: &mut SortedPages<Watched<'_>>, again: u64, newest: u64) {
+    for i in 0..2_000u16 {
+        set_one_again(rt, pages, i.to_be_bytes().as_slice(), again, newest);
     }
 }
 
@@ -201,11 +249,44 @@ fn set_again<R: Abort>(rt: &R, pages: &mut SortedPages<Watched<'_>>, number: u64
 fn refilled_pages_are_passed_over(rt: HostRuntime) {
     let asked = Cell::new(0);
     let mut pages = filled(&rt, 2_000, 5, &asked);
-    set_again(&rt, &mut pages, 9);
+    set_again(&rt, &mut pages, 9, 9);
     assert!(rt; looks(&pages, 4, &asked) == 1);
     assert!(rt; looks(&pages, 5, &asked) < 1_000);
     assert!(rt; looks(&pages, 8, &asked) < 1_000);
     assert!(rt; looks(&pages, 9, &asked) == 1);
+}
+
+/// Nor where the values of such a page have newer ones, and it was split for new keys.
+#[test]
+fn split_pages_are_passed_over(rt: HostRuntime) {
+    let asked = Cell::new(0);
+    let mut pages = filled(&rt, 2_000, 5, &asked);
+    set_again(&rt, &mut pages, 9, 9);
+    set_again(&rt, &mut pages, 9, 12);
+    let before = pages.pages();
+    for i in 0..2_000u16 {
+        let [high, low] = i.to_be_bytes();
+        add(&rt, &mut pages, &[high, low, 0], set_at(20, &asked));
+    }
+    assert!(rt; pages.pages() > before);
+    assert!(rt; looks(&pages, 5, &asked) < 1_000);
+    assert!(rt; looks(&pages, 8, &asked) < 1_000);
+}
+
+/// Of a page of which one value shows the others aren't looked at by a number from the page's last change on, but for one that was lent for
+/// writing, until another page's is. Numbers before that change look at each.
+#[test]
+fn values_that_do_not_show_are_passed_over(rt: HostRuntime) {
+    let asked = Cell::new(0);
+    let mut pages = filled(&rt, 2_000, 5, &asked);
+    set_one_again(&rt, &mut pages, &[0, 100], 9, 9);
+    assert!(rt; looks(&pages, 9, &asked) == 1);
+    assert!(rt; lend(&mut pages, &[0, 50]) && looks(&pages, 9, &asked) == 2);
+    assert!(rt; lend(&mut pages, &[4, 0]) && looks(&pages, 9, &asked) == 1);
+    assert!(rt; looks(&pages, 8, &asked) > 100);
+    assert!(rt; !pages.trim_at(key(b"\0\x20"), &[], 0) && looks(&pages, 9, &asked) == 1);
+    add(&rt, &mut pages, b"\0\x10\0", set_at(12, &asked));
+    assert!(rt; looks(&pages, 12, &asked) == 1 && looks(&pages, 11, &asked) > 100);
 }
 
 /// Values at the front of a page that no number sees are passed over once one of the page was trimmed.

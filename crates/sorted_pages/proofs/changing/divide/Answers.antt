@@ -1,7 +1,8 @@
 use Rattle.sorted_pages.proofs.changing.divide.Goals as goal
-use Rattle.std.proofs.Common.{◌+◌, ◌∙◌, arith}
+use Rattle.std.proofs.Common.{◌+◌, ◌-◌, ◌∙◌, arith}
 use Rattle.std.proofs.lemmas.Result.{on_ok_weaker}
 use Rattle.sorted_pages.proofs.Placings.{tight-then}
+use Rattle.sorted_pages.specs.declared.page.TheConstants.{STEP}
 
 pub returns-clause-room : goal.returns-clause-room
 returns-clause-room g c =
@@ -13,7 +14,7 @@ returns-clause-room g c =
         entries = two.roomier.entries ∙ one.roomier.entries;
         rooms = λ q. (let a = one.roomier.rooms q in let b = two.roomier.rooms q in omega arith);
       };
-      tight = tight-then (c.args.n + 191) c.args.pages.now.items c.split.new.pages.items c.grow.new.pages.items one.tight two.tight;
+      tight = tight-then (c.args.n + (STEP - 1)) c.args.pages.now.items c.split.new.pages.items c.grow.new.pages.items one.tight two.tight;
     }
 
 pub returns-clause-split : goal.returns-clause-split

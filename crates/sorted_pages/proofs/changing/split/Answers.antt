@@ -1,11 +1,12 @@
 use Rattle.sorted_pages.proofs.changing.split.Goals as goal
-use Rattle.std.proofs.Common.{◌≡◌, ℕ, ◌<◌, ◌≤◌, ◌+◌, List, length, get_or, refl, ap, sym, arith, rules}
+use Rattle.std.proofs.Common.{◌≡◌, ℕ, ◌<◌, ◌≤◌, ◌+◌, ◌-◌, List, length, get_or, refl, ap, sym, arith, rules}
 use Rattle.std.proofs.lemmas.Grind.{common_steps}
 use Rattle.std.proofs.lemmas.List.{length-set}
 use Rattle.model.specs.Map.{Bytes}
 use Rattle.sorted_pages.proofs.Placings.{count_of, grown, halved, halves, one_longer, place_within, room_of, split}
 use Rattle.sorted_pages.proofs.Placings.{tight-same, tight-set, tight-split, tight-then}
 use Rattle.sorted_pages.specs.Pages.{Page, IsPlace, IsCrowded, count_at, room_at}
+use Rattle.sorted_pages.specs.declared.page.TheConstants.{STEP}
 
 pub returns-in_err-upper : goal.returns-in_err-upper
 returns-in_err-upper g c = grind (arith, common_steps, grown, tight-then, tight-same, tight-set, length-set)
@@ -36,7 +37,7 @@ returns g c =
       room = record {
         order = rw (← c.in-Ok.ensures.items) at all.order;
         roomier = rw c.reserve.ensures.items at (rw (← c.in-Ok.ensures.items) at all.roomier);
-        tight = tight-split (c.args.n + 191) c.args.pages.now.items ps c.insert.new.self.items i (i
+        tight = tight-split (c.args.n + (STEP - 1)) c.args.pages.now.items ps c.insert.new.self.items i (i
             + 1) p lo up (sym c.reserve.ensures.items) c.in-Ok.ensures.items was lower.tight upper.tight;
       };
       some = search rules;

@@ -1,6 +1,9 @@
 use Rattle.sorted_pages.proofs.page.Page.push.Goals as goal
-use Rattle.std.proofs.Common.{◌≡◌, length, refl, ◌∙◌, arith}
+use Rattle.std.proofs.Common.{◌≡◌, [], ◌∷◌, length, refl, sym, ◌∙◌, arith}
+use Rattle.std.proofs.lemmas.List.{length-append}
+use Rattle.model.specs.Map.{Bytes}
 use Rattle.sorted_pages.proofs.FirstBytes.{head-push}
+use Rattle.sorted_pages.proofs.Flags.{flagged-push, none_left_out}
 use Rattle.sorted_pages.proofs.Seen.{blank-push, but_none, pushed_but}
 
 pub renewed_head-self-inside-requires : goal.renewed_head-self-inside-requires
@@ -22,9 +25,22 @@ take_in-requires g c =
 
 pub invariant_of-self : goal.invariant_of-self
 invariant_of-self g c =
+    let es = c.self.inside.entries.items in
+    let fs = c.self.inside.flags.items in
+    let e : Bytes × g.row.V.Denot = (c.args.key, c.args.value) in
+    let f = c.shows-shows.result in
+    let flags = c.self.invariant.3 in
     let s = c.take_in.result in (
       rw c.push_reserved.ensures.items (blank-push g.V.Aging.hides c.self.inside.entries.items c.self.inside.blank _ c.self.invariant.0),
       but_none g.V.Aging.hides g.V.Aging.shows c.push_reserved.new.self.items s c.take_in.ensures.whole
           (rw c.deref-3.ensures.value at c.take_in.ensures.summary),
       rw c.deref-2.ensures.value at c.renewed_head-self-inside.ensures,
+      record {
+        count = rw (c.push_reserved-2.ensures.items, c.push_reserved.ensures.items)
+            (omega (arith, flags.count, length-append fs (f ∷ []), length-append es (e ∷ [])));
+        clear = rw (c.push_reserved-2.ensures.items, c.push_reserved.ensures.items)
+            (flagged-push g.V.Aging.shows es fs e f flags.count (λ t. sym c.shows-shows.ensures ∙ t) flags.clear);
+        left_out = none_left_out s.left_out c.push_reserved-2.new.self.items c.take_in.ensures.whole;
+        places = omega (arith, flags.places);
+      },
     )

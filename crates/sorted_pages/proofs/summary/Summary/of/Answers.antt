@@ -4,8 +4,8 @@ use Rattle.sorted_pages.proofs.Seen.{none_seen, next_taken}
 
 pub loop-i-init : goal.loop-i-init
 loop-i-init g c = record {
-  summary = none_seen g.V.Aging.hides g.V.Aging.shows c.new-summary.result c.new-summary.ensures.live;
-  whole = c.new-summary.ensures.whole;
+  summary = none_seen g.V.Aging.hides g.V.Aging.shows _ c.new.ensures.live;
+  whole = c.new.ensures.whole;
 }
 
 pub take_in-summary-requires : goal.take_in-summary-requires
