@@ -200,14 +200,20 @@ def opening_table():
     yield from table(["Keys", "File, MB", "Opening, ms", "sha256sum of the file, ms", "Resident, MB", "Bytes a key"], lines)
 
 
+def longest_pause(figures):
+    """The longest pause of a scene, and that of its longest run, where that is more than twice as long."""
+    least, most = figures.get("cpu_longest_ms"), max(figures.get("cpu_longest_of_runs_ms", [0]))
+    return f"{shown(least)} (to {shown(most)})" if least and most > 2 * least else shown(least)
+
+
 def pauses_table():
     lines = []
     for what, of in pauses().items():
         few, many = (of.get(size, {}) for size in (10_000, 1_000_000))
-        lines.append([what, shown(few.get("cpu_longest_ms")), shown(many.get("cpu_longest_ms")),
-                      *(shown(many.get(name)) for name in ("median_ms", "most_ms", "longest_ms", "client_late_ms"))])
-    yield from table(["While", "Longest pause over 10,000 keys, ms of CPU time", "over 1,000,000", "PING over 1,000,000: p50, ms", "p99.9", "longest",
-                      "the client itself was late by"], lines)
+        lines.append([what, longest_pause(few), longest_pause(many),
+                      *(shown(many.get(name)) for name in ("system_ms", "median_ms", "most_ms", "longest_ms", "client_late_ms"))])
+    yield from table(["While", "Longest pause over 10,000 keys, ms of CPU time", "over 1,000,000", "of it the system's", "PING over 1,000,000: p50, ms",
+                      "p99.9", "longest", "the client itself was late by"], lines)
 
 
 def copies_table():

@@ -91,7 +91,7 @@ class Pinger:
 class Turns(Shared):
     """What the preloaded library shares: the turns of the program between two polls."""
 
-    NUMBERS = 6
+    NUMBERS = 8
 
     def __init__(self, library):
         super().__init__(library, "POLLS_CONTROL", self.NUMBERS)
@@ -104,6 +104,14 @@ class Turns(Shared):
 
     def all_ms(self):
         return round(self.get(2) / 1e6, 3)
+
+    def system_ms(self):
+        """Of the longest turn what was the system's."""
+        return round(self.get(6) / 1e6, 3)
+
+    def pages(self):
+        """How many pages of memory the system provided in it."""
+        return self.get(7)
 
     def most_syncs(self):
         return self.get(4)
@@ -188,7 +196,7 @@ class Scene:
         if not self.turns.count():
             raise Failure("the library that measures the turns isn't called")
         figures = {"cpu_longest_ms": self.turns.longest_ms(), "cpu_all_ms": self.turns.all_ms(), "turns": self.turns.count()}
-        figures |= {"most_syncs": self.turns.most_syncs(), **more}
+        figures |= {"system_ms": self.turns.system_ms(), "new_pages": self.turns.pages(), "most_syncs": self.turns.most_syncs(), **more}
         self.parts.append((name, begun, time.monotonic(), {**figures, "seconds": round(seconds, 2), "load": load}))
 
     def rows(self):

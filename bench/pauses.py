@@ -15,10 +15,11 @@ more are crowds, whose requests all stand ready in one turn: COMMITs of 1 MiB, C
 memory (--folder).
 
 The figures of each: the median of the waits, what all but one in a thousand stay below, the longest; the longest CPU time of the server
-between the return of a poll and the next, and of all together; the most syncs between two polls; with writers also the waits of those that read.
+between the return of a poll and the next, and of all together; of the longest what was the system's, and how many pages of memory it provided; the
+most syncs between two polls; with writers also the waits of those that read.
 The waits are wall-clock, so other work of the machine is in them, and so is by how much the client itself was late, which is printed too. The CPU time
-has nothing of that. It is taken by a library that is preloaded into the server (harness/polls.c). Needs Python 3, make and a C compiler, and at a
-million keys 2 GB of memory.
+has nothing of that, but what a hypervisor takes from a processor can count as CPU time of the thread that ran there. It is measured by a library
+that is preloaded into the server (harness/polls.c). Needs Python 3, make and a C compiler, and at a million keys 2 GB of memory.
 
 `--table` prints the table of CPU times from such files, and `--waits` that of the waits. `measure.py` leaves the files of the documents.
 """

@@ -1,10 +1,11 @@
 /* Measures what a program does between two polls, by the processor time of the thread that polls.
  *
  * Preloaded into a program with one thread. The file named by POLLS_CONTROL is shared with whoever measures, who may read and write it at
- * any moment. It holds six numbers of 64 bits: how many turns there were, which begin where a poll returns and end where the next is
+ * any moment. It holds eight numbers of 64 bits: how many turns there were, which begin where a poll returns and end where the next is
  * called; the longest of them and all of them together, in nanoseconds of the processor; how many such nanoseconds the next turn is
- * to waste, which then sets it to 0; the most syncs of a turn; and how many polls were to wait, which says that the program had nothing
- * left to do. Without that variable all calls are passed on and nothing is measured.
+ * to waste, which then sets it to 0; the most syncs of a turn; how many polls were to wait, which says that the program had nothing
+ * left to do; and of the longest turn how many of its nanoseconds were the system's, and how many pages of memory it provided. Without
+ * that variable all calls are passed on and nothing is measured.
  */
 #define _GNU_SOURCE
 #include "shared.h"
@@ -12,17 +13,20 @@
 #include <stdint.h>
 #include <stdlib.h>
 #include <sys/epoll.h>
+#include <sys/resource.h>
 #include <sys/syscall.h>
 #include <time.h>
 #include <unistd.h>
 
 struct control {
-    uint64_t turns, longest, all, waste, syncs, idle;
+    uint64_t turns, longest, all, waste, syncs, idle, system, pages;
 };
 
 static volatile struct control *control;
 /* When the last poll returned, or 0 before the first. */
 static uint64_t returned;
+/* What the thread had used then. */
+static struct rusage used;
 /* The syncs of this turn. */
 static uint64_t syncs;
 
@@ -36,10 +40,22 @@ static uint64_t processor_ns(void) {
     return (uint64_t)time.tv_sec * 1000000000u + (uint64_t)time.tv_nsec;
 }
 
+static uint64_t system_ns(const struct rusage *of) {
+    return (uint64_t)of->ru_stime.tv_sec * 1000000000u + (uint64_t)of->ru_stime.tv_usec * 1000u;
+}
+
+static void note_longest(uint64_t took) {
+    struct rusage now;
+    getrusage(RUSAGE_THREAD, &now);
+    control->longest = took;
+    control->system = system_ns(&now) - system_ns(&used);
+    control->pages = (uint64_t)(now.ru_minflt - used.ru_minflt);
+}
+
 static void end_turn(void) {
     uint64_t took = processor_ns() - returned;
     if (took > control->longest)
-        control->longest = took;
+        note_longest(took);
     control->all += took;
     if (syncs > control->syncs)
         control->syncs = syncs;
@@ -62,6 +78,7 @@ int epoll_wait(int poll, struct epoll_event *events, int most, int timeout) {
         control->idle++;
     int found = (int)syscall(SYS_epoll_wait, poll, events, most, timeout);
     if (control) {
+        getrusage(RUSAGE_THREAD, &used);
         returned = processor_ns();
         if (control->waste)
             waste();
