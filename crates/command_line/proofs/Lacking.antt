@@ -114,15 +114,6 @@ module _ (rows : List Row) where
   play_lacks lacks (Check file) range means = differ (codes "play") (codes "check") refl refl means.0
   play_lacks lacks (Compact from to n) range means = differ (codes "play") (codes "compact") refl refl means.0
 
-  -- a name that is no command's asks for nothing
-  pub named_otherwise : (name : Text) → (name ≡ codes "create" → ⊥) → (name ≡ codes "serve" → ⊥) → (name ≡ codes "check" → ⊥)
-      → (name ≡ codes "compact" → ⊥) → (name ≡ codes "play" → ⊥) → (asked : Asked) → IsInRange asked → CommandAsks name rows asked → ⊥
-  named_otherwise name create serve check compact play (Create file n) range means = create means.0
-  named_otherwise name create serve check compact play (Serve file listen) range means = serve means.0
-  named_otherwise name create serve check compact play (Check file) range means = check means.0
-  named_otherwise name create serve check compact play (Compact from to n) range means = compact means.0
-  named_otherwise name create serve check compact play (Play n) range means = play means.0
-
 -- ---- a command line
 
 both_same : (a b : Text) (x y : List Row) → ◌≡◌ {A = Option (Text × List Row)} (Some (a, x)) (Some (b, y)) → (a ≡ b) × (x ≡ y)

@@ -1,5 +1,6 @@
 //! How a command line ends: what is printed, each text in one write, and the exit status.
 ghost use Rattle.std.specs.Prelude.{◌≡◌, ◌++◌, ◌≤◌, length};
+ghost use Rattle.commands.specs.declared.lines.TheConstants.{LINE_MAX};
 ghost use Rattle.commands.specs.Faults.{fault_line, exit_status};
 ghost use Rattle.commands.specs.Endings.{ReportsEnding, ReportsFault};
 
@@ -136,7 +137,7 @@ fn fault_line(fault: Fault) -> Line
 
 // A line of a text alone.
 fn text_line(text: &[u8]) -> Line
-    requires { length text.now ≤ 128 }
+    requires { length text.now ≤ LINE_MAX }
     ensures { result.items ≡ text.now }
 {
     let mut line = Line::new();

@@ -4,23 +4,29 @@ ghost use Rattle.std.specs.Prelude.{◌≡◌, ◌≤◌, ◌+◌, ◌++◌, len
 use arrayvec::ArrayVec;
 use itoa::Buffer;
 
-/// The bytes of a line that is printed: the longest has four numbers of twenty digits.
-pub(crate) type Line = ArrayVec<u8, 128>;
+// The longest line that is printed has so many bytes, or fewer: it has four numbers.
+const LINE_MAX: usize = 128;
+
+// A number has so many digits at most.
+const DIGITS_MAX: usize = 20;
+
+/// The bytes of a line that is printed.
+pub(crate) type Line = ArrayVec<u8, LINE_MAX>;
 
 /// Adds a text to a line.
 pub(crate) fn push_text(line: &mut Line, text: &[u8])
-    requires { length line.old.items + length text.now ≤ 128 }
+    requires { length line.old.items + length text.now ≤ LINE_MAX }
     ensures { line.new.items ≡ line.old.items ++ text.now }
 {
     // It can't fail: the contract asks for the room.
     let _fits = line.try_extend_from_slice(text);
 }
 
-/// Adds a number to a line, by at most twenty digits.
+/// Adds a number to a line.
 pub(crate) fn push_number(line: &mut Line, number: u64)
-    requires { length line.old.items + 20 ≤ 128 }
+    requires { length line.old.items + DIGITS_MAX ≤ LINE_MAX }
     ensures number { line.new.items ≡ line.old.items ++ decimal number }
-    ensures short { length line.new.items ≤ length line.old.items + 20 }
+    ensures short { length line.new.items ≤ length line.old.items + DIGITS_MAX }
 {
     let mut digits = Buffer::new();
     push_text(line, digits.format(number).as_bytes());
@@ -28,7 +34,7 @@ pub(crate) fn push_number(line: &mut Line, number: u64)
 
 /// A line of a text, a number, and a text behind it.
 pub(crate) fn numbered_line(before: &[u8], number: u64, behind: &[u8]) -> Line
-    requires { length before.now + 20 + length behind.now ≤ 128 }
+    requires { length before.now + DIGITS_MAX + length behind.now ≤ LINE_MAX }
     ensures { result.items ≡ before.now ++ decimal number ++ behind.now }
 {
     let mut line = Line::new();

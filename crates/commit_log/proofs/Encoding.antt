@@ -65,7 +65,7 @@ number-padded_body f before index writes proper =
     ++ (record_digest before index writes ++ (payload_bytes writes ++ zeros_of before index writes))) fits
 
 pub entry_size : (w : KeyWrite) → length (entry_bytes w) ≡ write_size w.0 w.1
-entry_size a0 = grind (arith, common_steps, length-append)
+entry_size w = grind (arith, common_steps, length-append)
 
 entries_size : (ws : List KeyWrite) → payload_size ws ≡ 4 + length (flat_map entry_bytes ws)
 entries_size [] = refl

@@ -34,10 +34,10 @@ use Rattle.commit_log.specs.RecordFormat.{padded_body, sectors_in, record_body}
 use Rattle.commit_log.specs.declared.formats.LogFormat.{LogFormat}
 
 pub less_if : (o : Ordering) → (ordering_index o == 0) ≡ true → o ≡ Less
-less_if a0 a1 = grind (arith, common_steps)
+less_if o is_zero = grind (arith, common_steps)
 
 pub less_unless : (o : Ordering) → (ordering_index o == 0) ≡ false → o ≡ Less → ⊥
-less_unless a0 a1 a2 = grind (arith, common_steps, less)
+less_unless o not_zero same = grind (arith, common_steps, less)
 
 -- a write above the last is above all
 pub rising_push : (ws : List KeyWrite) (w : KeyWrite) → ((d : KeyWrite) → key_cmp (get_or ws (length ws - 1) d).0 w.0 ≡ Less) → IsRising ws
@@ -55,7 +55,7 @@ rising_push (x ∷ y ∷ rest) w above rising =
 pub adjacent : (ws : List KeyWrite) → IsRising ws → (k : ℕ) (d : KeyWrite) → k + 1 < length ws → key_cmp (get_or ws k d).0 (get_or ws (k + 1) d).0 ≡ Less
 adjacent (x ∷ y ∷ rest) rising zero d lt = grind (arith, common_steps, parts, less)
 adjacent (x ∷ y ∷ rest) rising (suc k) d lt = grind (arith, common_steps, parts, adjacent (y ∷ rest))
-adjacent b0 rising k d lt = absurd (omega arith)
+adjacent ws rising k d lt = absurd (omega arith)
 
 pub same_number : (n x y : ℕ) (r s : List ℕ) → x < 256 ^ n → y < 256 ^ n → big_bytes n x ++ r ≡ big_bytes n y ++ s → (x ≡ y) × (r ≡ s)
 same_number n x y r s x_fits y_fits same = (
@@ -65,7 +65,7 @@ same_number n x y r s x_fits y_fits same = (
 
 pub same_value : (f : LogFormat) (v w : Option (List ℕ)) (r s : List ℕ) → IfSome v (IsValueIn f) → IfSome w (IsValueIn f)
     → value_bytes v ++ r ≡ value_bytes w ++ s → (v ≡ w) × (r ≡ s)
-same_value a0 a1 a2 a3 a4 a5 a6 a7 = grind (arith, common_steps, append_assoc, same_number, value_small, same_front, nat_tests)
+same_value f v w r s v_is w_is same = grind (arith, common_steps, append_assoc, same_number, value_small, same_front, nat_tests)
 
 entry_split : (w : KeyWrite) (r : List ℕ) → entry_bytes w ++ r ≡ big_bytes 2 (length w.0) ++ (w.0 ++ (value_bytes w.1 ++ r))
 entry_split w r = grind (arith, common_steps, append_assoc)

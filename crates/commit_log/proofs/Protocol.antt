@@ -29,7 +29,7 @@ use Rattle.commit_log.specs.declared.read.Found.{Found}
 -- a sector that was set
 set_there : (l : List (List ℕ)) (i : ℕ) (s t : List ℕ) → slice_get (set l i s) i ≡ Some t → s ≡ t
 set_there (x ∷ l) (suc i) s t at = set_there l i s t at
-set_there b0 b1 s t at = cc
+set_there l i s t at = cc
 
 module _ {D : Type 0} (S : Ghosts D) (start : D) where
   -- so far, where a crash leaves what has P

@@ -34,11 +34,11 @@ puts-push (x ∷ m) p = ap (λ (l : List KeyWrite). (x.0, Some x.1) ∷ l) (puts
 
 pub bounds_drop : (i : ℕ) (m : KeyMap) → IsInBounds m → IsInBounds (drop i m)
 bounds_drop (suc i) (p ∷ m) h = bounds_drop i m h.2
-bounds_drop b0 b1 h = h
+bounds_drop i m h = h
 
 bounds_take : (i : ℕ) (m : KeyMap) → IsInBounds m → IsInBounds (take i m)
 bounds_take (suc i) (p ∷ m) h = (h.0, h.1, bounds_take i m h.2)
-bounds_take b0 b1 h = tt
+bounds_take i m h = tt
 
 -- what the next pair makes of a run over pairs
 pub record NextPair (m : KeyMap) (i : ℕ) (next : KeyMap) (p : Bytes × Bytes) : Type 0 where

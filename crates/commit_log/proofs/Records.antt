@@ -29,7 +29,7 @@ open_gate_open = refl
 -- a head and a closed gate make an empty log
 pub formatted : (image : List (List ℕ)) → 2 ≤ length image → ((s : List ℕ) → slice_get image 0 ≡ Some s → s ≡ head_sector current)
     → ((s : List ℕ) → slice_get image 1 ≡ Some s → is_gate_open s ≡ false) → IsLogImage current [] image
-formatted a0 a1 a2 a3 = grind (arith, common_steps)
+formatted image room head gate = grind (arith, common_steps)
 
 pub span-append : (xs ys : List (List KeyWrite)) → span (xs ++ ys) ≡ span xs + span ys
 span-append [] ys = omega arith
@@ -60,11 +60,11 @@ same_records f (writes ∷ lists) index before (x ∷ c) (gate ∷ d) same holds
       drop-take b (suc (span lists)) d,
       same_records f lists (index + 1) (record_digest before index writes) (drop b c) (drop b d),
     )
-same_records f b1 index before c d same holds = grind (arith, common_steps)
+same_records f lists index before c d same holds = grind (arith, common_steps)
 
 pub same_log : (f : LogFormat) (lists : List (List KeyWrite)) (n : ℕ) (c d : List (List ℕ)) → n ≡ suc (suc (span lists)) → take n c ≡ take n d
     → IsLogImage f lists d → IsLogImage f lists c
-same_log a0 a1 a2 a3 a4 a5 a6 a7 = grind (arith, common_steps, same_records)
+same_log f lists n c d n_is same holds = grind (arith, common_steps, same_records)
 
 pub slice_get-drop : {X : Type 0} (n : ℕ) (xs : List X) (i : ℕ) → slice_get (drop n xs) i ≡ slice_get xs (n + i)
 slice_get-drop zero xs i = let e : 0 + i ≡ i = omega arith in ap (λ (k : ℕ). slice_get xs k) (sym e)
@@ -109,7 +109,7 @@ staged-set f lists writes index before [] n s is staged = absurd staged
 staged-set f [] writes index before (gate ∷ rest) zero s is staged = staged
 staged-set f (x ∷ lists) writes index before (gate ∷ rest) (suc n) s is staged =
     grind (arith, common_steps, take-set-le, drop-set-add, staged-set f lists writes (index + 1) (record_digest before index x))
-staged-set f b1 writes index before (gate ∷ rest) b6 s is staged = absurd (omega arith)
+staged-set f lists writes index before (gate ∷ rest) n s is staged = absurd (omega arith)
 
 -- a staged record counts where its gate is open
 pub staged_gate : (f : LogFormat) (lists : List (List KeyWrite)) (writes : List KeyWrite) (index : ℕ) (before : List ℕ) (rest : List (List ℕ))
@@ -136,11 +136,11 @@ staged_open f (x ∷ lists) writes index before (g ∷ rest) gate proper staged 
 
 pub image_staged_gate : (f : LogFormat) (lists : List (List KeyWrite)) (writes : List KeyWrite) (c : List (List ℕ)) → IsWriteSet f writes
     → IsStaged f lists writes c → IsLogImage f lists c ⊎ IsLogImage f (lists ++ writes ∷ []) c
-image_staged_gate a0 a1 a2 a3 a4 a5 = grind (arith, common_steps, ⊎_elim, staged_gate)
+image_staged_gate f lists writes c proper staged = grind (arith, common_steps, ⊎_elim, staged_gate)
 
 pub image_staged_open : (f : LogFormat) (lists : List (List KeyWrite)) (writes : List KeyWrite) (c : List (List ℕ)) (n : ℕ) (gate : List ℕ) → n ≡ 1 + span lists
     → IsWriteSet f writes → IsStaged f lists writes c → slice_get c n ≡ Some gate → is_gate_open gate ≡ true → IsLogImage f (lists ++ writes ∷ []) c
-image_staged_open a0 a1 a2 a3 a4 a5 a6 a7 a8 a9 a10 = grind (arith, common_steps, staged_open, slice_get)
+image_staged_open f lists writes c n gate n_is proper staged at opened = grind (arith, common_steps, staged_open, slice_get)
 
 pub length-sectors_in : (n : ℕ) (bytes : List ℕ) → length (sectors_in n bytes) ≡ n
 length-sectors_in zero bytes = refl
@@ -235,7 +235,7 @@ unfolding zero_sector head_sector
 zeros_are_no_log lists c zeros = grind (arith, common_steps, unwrap_or)
 
 pub same_first : (c d : List (List ℕ)) → take 1 c ≡ take 1 d → slice_get c 0 ≡ slice_get d 0
-same_first a0 a1 a2 = grind (arith, common_steps)
+same_first c d same = grind (arith, common_steps)
 
 -- sectors behind those that were read
 pub reads_more : (old_read new_read : ℕ → List ℕ → Type 0) (at : ℕ) (xs ys : List (List ℕ)) → ReadsFrom old_read at xs → ReadsFrom new_read (at + length xs) ys

@@ -81,7 +81,7 @@ module _ (f : LogFormat) (image : List (List ℕ)) (gate index : ℕ) (digest : 
       }
 
 pub read_fault : (f : LogFormat) (rest : List (List ℕ)) (e : LogFault) → IsDeviceOrMemory e → IsReadFault f rest e
-read_fault a0 a1 a2 a3 = grind (arith, common_steps)
+read_fault f rest e is = grind (arith, common_steps)
 
 payload_unique : (f : LogFormat) (w x : List KeyWrite) → IsWriteSet f w → IsWriteSet f x → payload_bytes w ≡ payload_bytes x → w ≡ x
 unfolding payload_bytes
@@ -156,10 +156,10 @@ pub damaged_unique : (f : LogFormat) (lists others : List (List KeyWrite)) (imag
 damaged_unique f lists others image one two = grind (arith, common_steps, damage_unique)
 
 pub log_is_log : (f : LogFormat) (lists : List (List KeyWrite)) (image : List (List ℕ)) → IsLogImage f lists image → IsNoLog f image → ⊥
-log_is_log a0 a1 a2 a3 a4 = grind (arith, common_steps)
+log_is_log f lists image one two = grind (arith, common_steps)
 
 pub damaged_is_log : (f : LogFormat) (lists : List (List KeyWrite)) (image : List (List ℕ)) → IsDamaged f lists image → IsNoLog f image → ⊥
-damaged_is_log a0 a1 a2 a3 a4 = grind (arith, common_steps)
+damaged_is_log f lists image one two = grind (arith, common_steps)
 
 -- a device that reads as an image settles as it
 pub settles_as : (size : ℕ) (may_read : ℕ → List ℕ → Type 0) (may_leave : List (List ℕ) → Type 0) (image disk : List (List ℕ))
@@ -172,13 +172,13 @@ settles_as size may_read may_leave image disk settles len reads =
 -- the heads differ
 pub heads_apart : (f g : LogFormat) → head_sector f ≡ head_sector g → f ≡ g
 unfolding head_sector
-heads_apart a0 a1 a2 = grind (arith, common_steps)
+heads_apart f g same = grind (arith, common_steps)
 
 pub one_head : (f g : LogFormat) (image : List (List ℕ)) → HasHead f image → HasHead g image → f ≡ g
 one_head f g image one two = let same : Some (head_sector f) ≡ Some (head_sector g) = sym one.1 ∙ two.1 in heads_apart f g (cc same)
 
 damage_has_head : (f : LogFormat) (lists : List (List KeyWrite)) (image : List (List ℕ)) → IsDamaged f lists image → HasHead f image
-damage_has_head a0 a1 a2 a3 = grind (arith, common_steps)
+damage_has_head f lists image damaged = grind (arith, common_steps)
 
 -- what has the head of a format is no image without it
 head_is_log : (f : LogFormat) (image : List (List ℕ)) → HasHead f image → IsNoLog f image → ⊥
@@ -196,17 +196,17 @@ IsRefused image e = IsDeviceOrMemory e ⊎ IsRefusal image e
 
 pub refused_log : (lists : List (List KeyWrite)) (image : List (List ℕ)) (e : LogFault) → IsLogImage current lists image → IsRefused image e
     → IsDeviceOrMemory e
-refused_log a0 a1 a2 a3 a4 = grind (arith, common_steps, log_is_log, log_not_damaged, log_not_old)
+refused_log lists image e holds refused = grind (arith, common_steps, log_is_log, log_not_damaged, log_not_old)
 
 pub refused_damaged : (lists : List (List KeyWrite)) (image : List (List ℕ)) (e : LogFault) → IsDamaged current lists image → IsRefused image e
     → (e ≡ Damaged (length lists)) ⊎ IsDeviceOrMemory e
-refused_damaged a0 a1 a2 a3 a4 = grind (arith, common_steps, damaged_is_log, damaged_unique, not_old, damage_has_head)
+refused_damaged lists image e damaged refused = grind (arith, common_steps, damaged_is_log, damaged_unique, not_old, damage_has_head)
 
 pub refused_no_log : (image : List (List ℕ)) (e : LogFault) → ((f : LogFormat) → IsNoLog f image) → IsRefused image e → (e ≡ NotALog) ⊎ IsDeviceOrMemory e
-refused_no_log a0 a1 a2 a3 = grind (arith, common_steps, damaged_is_log, head_is_log)
+refused_no_log image e none refused = grind (arith, common_steps, damaged_is_log, head_is_log)
 
 pub refused_old : (image : List (List ℕ)) (e : LogFault) → HasHead One image → IsRefused image e → (e ≡ OldFormat) ⊎ IsDeviceOrMemory e
-refused_old a0 a1 a2 a3 = grind (arith, common_steps, head_is_log, not_old, damage_has_head)
+refused_old image e has refused = grind (arith, common_steps, head_is_log, not_old, damage_has_head)
 
 -- the same, where a device was settled
 abbrev pub Refused : (ℕ → List ℕ → Type 0) → (List (List ℕ) → Type 0) → ℕ → LogFault → Type 0

@@ -54,7 +54,8 @@ fn write_open_record<D: Sectors>(device: &mut D, gate: u64, body: &[u8]) -> Resu
     ensures size { D.size device.new ≡ D.size device.old }
     ensures failures { IsCounted result (D.failures device.old) (D.failures device.new) }
     ensures written { D.keeps_model → OnOk result (ReadsFrom (D.may_read device.new) gate (open_record body.now)) }
-    ensures alone { D.keeps_model → OnlyWrites D.Sectors gate (1 + length body.now / 512) device.old device.new }
+    ensures alone { D.keeps_model
+        → OnlyWrites D.Sectors gate (1 + length body.now / SECTOR_SIZE) device.old device.new }
 {
     device.write(gate, &open_gate())?;
     device.write_sectors(gate + 1, body)

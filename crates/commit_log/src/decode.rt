@@ -5,6 +5,7 @@ ghost use Rattle.std.specs.Option.{option_map};
 ghost use Rattle.std.specs.declared.cmp.Ordering.TheVariants.{Less};
 ghost use Rattle.byteorder.specs.Endian.{big_bytes, big_number};
 ghost use Rattle.model.specs.Key.{IsKey};
+ghost use Rattle.sector.specs.declared.device.TheConstants.{SECTOR_SIZE};
 ghost use Rattle.commit_log.specs.RecordFormat.{IsValueIn, FitsFormat, IsRising, IsWriteSet, BeginsWithNoValue};
 ghost use Rattle.commit_log.specs.RecordFormat.{BeginsWithNoEntry, FallsBehind, IsNoPayload, IsNoBody, value_bytes};
 ghost use Rattle.commit_log.specs.RecordFormat.{entry_bytes, payload_bytes, padded_body, record_digest, sectors_for};
@@ -177,7 +178,7 @@ pub fn decode_body(
     before: &[u8; 32],
     index: u64,
 ) -> Result<Option<(Vec<Write>, Digest)>, Memory>
-    requires { length body.now ≡ 512 * sectors_for (big_number 4 body.now) }
+    requires { length body.now ≡ SECTOR_SIZE * sectors_for (big_number 4 body.now) }
     ensures some { IfOk result (λ o. IfSome o (λ r. padded_body before.now index r.0.items ≡ body.now)) }
     ensures proper { IfOk result (λ o. IfSome o (λ r. IsWriteSet format r.0.items)) }
     ensures digest { IfOk result (λ o. IfSome o (λ r. r.1.bytes ≡ record_digest before.now index r.0.items)) }

@@ -18,11 +18,17 @@ use sector::SECTOR_SIZE;
 use sha2::{Digest, Sha256};
 use std::alloc::{AllocError, Global};
 
-/// How many sectors hold the body of a payload of this many bytes, behind the 44 bytes of its length, index and digest.
+/// Where the digest stands in a record's body: behind the payload's length, in 4 bytes, and the record's index, in 8.
+const DIGEST_AT: usize = 12;
+
+/// Where the payload stands: behind the digest's 32 bytes. It begins with the count of its entries, in 4.
+const PAYLOAD_AT: usize = 44;
+
+/// How many sectors hold the body of a payload of this many bytes, behind its length, its index and its digest.
 pub fn sectors_for(len: u32) -> u64
     ensures { result ≡ sectors_for len }
 {
-    (44 + len as u64 + 511) / 512
+    (PAYLOAD_AT as u64 + len as u64 + 511) / SECTOR_SIZE as u64
 }
 
 /// How many bytes the entry of a key has, with a value or with none.
@@ -94,7 +100,7 @@ fn add_u64(out: &mut Vec<u8>, n: u64)
 
 /// Makes a buffer the front of a body: the length of its payload, its index, a place for its digest, and how many entries it has.
 pub fn begin(body: &mut Vec<u8>, len: u32, index: u64, count: u32)
-    requires { 48 ≤ vec_capacity body.old }
+    requires { PAYLOAD_AT + 4 ≤ vec_capacity body.old }
     ensures items { body.new.items ≡ begun len index count }
     ensures capacity { vec_capacity body.old ≤ vec_capacity body.new }
 {
@@ -140,13 +146,13 @@ pub fn digest_of(before: &[u8; 32], index: u64, payload: &[u8]) -> [u8; 32]
 
 /// Puts the digest of the payload that the body ends with into its place, and answers it.
 fn seal(body: &mut Vec<u8>, before: &[u8; 32], index: u64) -> [u8; 32]
-    requires { 44 ≤ length body.old.items }
-    ensures digest { result ≡ sha256 ((before.now ++ big_bytes 8 index) ++ drop 44 body.old.items) }
-    ensures body { body.new.items ≡ (take 12 body.old.items ++ result) ++ drop 44 body.old.items }
+    requires { PAYLOAD_AT ≤ length body.old.items }
+    ensures digest { result ≡ sha256 ((before.now ++ big_bytes 8 index) ++ drop PAYLOAD_AT body.old.items) }
+    ensures body { body.new.items ≡ (take DIGEST_AT body.old.items ++ result) ++ drop PAYLOAD_AT body.old.items }
     ensures capacity { vec_capacity body.new ≡ vec_capacity body.old }
 {
-    let digest = digest_of(before, index, &body[44..]);
-    body[12..44].copy_from_slice(&digest);
+    let digest = digest_of(before, index, &body[PAYLOAD_AT..]);
+    body[DIGEST_AT..PAYLOAD_AT].copy_from_slice(&digest);
     digest
 }
 
@@ -165,13 +171,13 @@ fn pad(body: &mut Vec<u8>, n: usize)
 /// Ends a body that has all its entries: its digest, which is the answer, comes into its place, and zeros behind the payload up to the
 /// end of the last sector.
 pub fn end(body: &mut Vec<u8>, before: &[u8; 32], index: u64, len: u32) -> [u8; 32]
-    requires begun { 44 ≤ length body.old.items }
+    requires begun { PAYLOAD_AT ≤ length body.old.items }
     requires bound { len ≤ payload_bound value_max }
-    requires room { 512 * sectors_for len ≤ vec_capacity body.old }
+    requires room { SECTOR_SIZE * sectors_for len ≤ vec_capacity body.old }
     ensures body { OfUnsealed body.old.items index len
         (λ writes. body.new.items ≡ padded_body before.now index writes) }
     ensures sectors { OfUnsealed body.old.items index len
-        (λ writes. length body.new.items ≡ 512 * body_sectors writes) }
+        (λ writes. length body.new.items ≡ SECTOR_SIZE * body_sectors writes) }
     ensures digest { OfUnsealed body.old.items index len (λ writes. result ≡ record_digest before.now index writes) }
     ensures capacity { vec_capacity body.old ≤ vec_capacity body.new }
 {
@@ -203,7 +209,7 @@ pub fn encode(
     requires len { len ≡ payload_size writes.now }
     requires bound { len ≤ payload_bound value_max }
     ensures body { IfOk result (λ r. r.0.items ≡ padded_body before.now index writes.now) }
-    ensures sectors { IfOk result (λ r. length r.0.items ≡ 512 * body_sectors writes.now) }
+    ensures sectors { IfOk result (λ r. length r.0.items ≡ SECTOR_SIZE * body_sectors writes.now) }
     ensures digest { IfOk result (λ r. r.1 ≡ record_digest before.now index writes.now) }
 {
     let mut body = Vec::with_capacity(alloc, sectors_for(len) as usize * SECTOR_SIZE)?;

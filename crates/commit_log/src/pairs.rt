@@ -3,6 +3,8 @@ ghost use Rattle.std.specs.Prelude.{◌≡◌, ◌≤◌, ◌+◌, ◌*◌, ◌+
 ghost use Rattle.std.specs.List.{flat_map};
 ghost use Rattle.model.specs.Bounds.{value_max, payload_bound, body_bound};
 ghost use Rattle.model.specs.Machine.{payload_size};
+ghost use Rattle.sector.specs.declared.device.TheConstants.{SECTOR_SIZE};
+ghost use Rattle.commit_log.specs.declared.copying.TheConstants.{PUTS_MAX};
 ghost use Rattle.commit_log.specs.RecordFormat.{entry_bytes};
 ghost use Rattle.commit_log.specs.Copying.{HasNext, IsBodyOf, puts};
 
@@ -11,7 +13,7 @@ use model::Pairs;
 
 /// How many bytes the payload of a record has that puts the next `count` pairs, which it passes over.
 pub fn next_payload_len(pairs: &mut Pairs<'_>, count: u32) -> u32
-    requires count { count ≤ 64 }
+    requires count { count ≤ PUTS_MAX }
     requires next { HasNext count pairs.old }
     ensures len { result ≡ payload_size (puts (take count pairs.old)) }
     ensures rest { pairs.new ≡ drop count pairs.old }
@@ -56,7 +58,7 @@ pub fn encode_pairs(
     requires next { HasNext count pairs.old }
     requires len { len ≡ payload_size (puts (take count pairs.old)) }
     requires bound { len ≤ payload_bound value_max }
-    requires room { 512 * body_bound value_max ≤ vec_capacity body.old }
+    requires room { SECTOR_SIZE * body_bound value_max ≤ vec_capacity body.old }
     ensures encoded { IsBodyOf before.now index (puts (take count pairs.old)) body.new.items result }
     ensures rest { pairs.new ≡ drop count pairs.old }
     ensures capacity { vec_capacity body.old ≤ vec_capacity body.new }

@@ -32,7 +32,7 @@ fn read_sectors<D: Sectors>(
     ensures errors { IfErr result IsDeviceOrMemory }
     ensures size { D.size device.new ≡ D.size device.old }
     ensures only_reads { D.keeps_model → OnlyReads D.Sectors device.old device.new }
-    ensures grown { OnOk result (IsGrown (512 * n) bytes.old.items bytes.new.items) }
+    ensures grown { OnOk result (IsGrown (SECTOR_SIZE * n) bytes.old.items bytes.new.items) }
     ensures bytes { D.keeps_model → HasRead result (D.may_read device.old) at n bytes.old.items bytes.new.items }
 {
     let start = bytes.len();

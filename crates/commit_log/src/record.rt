@@ -36,7 +36,8 @@ fn stage<D: Sectors>(device: &mut D, gate: u64, body: &[u8]) -> Result<(), Devic
         → OfNextRecord D.Sectors device.old gate body.now (LeavesEither D.Sectors device.old device.new) }
 
     // No sector is written but the body's and the one behind it.
-    ensures alone { D.keeps_model → OnlyWrites D.Sectors (gate + 1) (length body.now / 512 + 1) device.old device.new }
+    ensures alone { D.keeps_model
+        → OnlyWrites D.Sectors (gate + 1) (length body.now / SECTOR_SIZE + 1) device.old device.new }
 {
     let next = gate + 1 + (body.len() / SECTOR_SIZE) as u64;
     device.write_sectors(gate + 1, body)?;
@@ -78,7 +79,8 @@ pub fn write_record<D: Sectors>(device: &mut D, gate: u64, body: &[u8]) -> Resul
         → OfNextRecord D.Sectors device.old gate body.now (LeavesEither D.Sectors device.old device.new) }
 
     // No sector is written but the record's and the closed gate behind it.
-    ensures alone { D.keeps_model → OnlyWrites D.Sectors gate (length body.now / 512 + 2) device.old device.new }
+    ensures alone { D.keeps_model
+        → OnlyWrites D.Sectors gate (length body.now / SECTOR_SIZE + 2) device.old device.new }
 {
     stage(device, gate, body)?;
     open_staged(device, gate)?;

@@ -38,7 +38,7 @@ module _ (facts : Facts) (active : ℕ → Bool) (base : KeyMap) (history : List
       let asks = ap (λ reach. may_ask reach e.1.begin) a ∙ or_right (nat_le facts.last e.1.begin) (is_among bs e.1.begin) own in
       let rest = still_running facts' bs oldest l o a es rs low.1 (λ n t. among n (or_right (e.1.begin == n) (is_among (begins_of es) n) t)) h.1 in
       grind (arith, common_steps, and_from)
-  still_running facts' bs oldest l o a b5 b6 low among h = absurd h
+  still_running facts' bs oldest l o a es rs low among h = absurd h
 
   -- each may ask
   begins_ask : (es : List (ℕ × View)) (rs : List (ℕ × Running)) → AreRunning facts active base history es rs
@@ -51,7 +51,7 @@ module _ (facts : Facts) (active : ℕ → Bool) (base : KeyMap) (history : List
   begins_same : (es : List (ℕ × View)) (rs : List (ℕ × Running)) → AreRunning facts active base history es rs → begins_of es ≡ map (λ r. r.1.begin) rs
   begins_same [] [] h = refl
   begins_same (e ∷ es) (r ∷ rs) h = λ i. h.0.1.begin i ∷ begins_same es rs h.1 i
-  begins_same b0 b1 h = absurd h
+  begins_same es rs h = absurd h
 
   begins_active : (es : List (ℕ × View)) (rs : List (ℕ × Running)) → AreRunning facts active base history es rs → (n : ℕ) → is_among (begins_of es) n ≡ true
       → active n ≡ true
@@ -63,7 +63,7 @@ module _ (facts : Facts) (active : ℕ → Bool) (base : KeyMap) (history : List
       → AllByRecursion (λ t. n ≤ t.begin) (values_of es)
   begins_low n [] [] h low = tt
   begins_low n (e ∷ es) (r ∷ rs) h low = (subst (λ k. n ≤ k) (sym h.0.1.begin) low.0, begins_low n es rs h.1 low.1)
-  begins_low n b1 b2 h low = absurd h
+  begins_low n es rs h low = absurd h
 
 module _ {D : Type 0} {g : Ghosts D} (e : Engine D g) (new : HistoryValue) (oldest : ℕ) (bs : List ℕ)
     (least : IsLeast (λ t. t.begin) e.history.committed.facts.last (values e.running) oldest)

@@ -41,10 +41,10 @@ begin-after_range t t' n r limit e = grind (arith, common_steps)
 
 -- a read is not refused for its writes
 pub never_get : (k : Bytes) (c : PrivateCopy) → (respond c (Get k)).0 ≡ Refused refusals.FullWrites → ⊥
-never_get a0 a1 = grind (arith, common_steps)
+never_get k c = grind (arith, common_steps)
 
 pub never_range : (r : RangeRef) (limit : ℕ) (c : PrivateCopy) → (respond c (range_read r limit)).0 ≡ Refused refusals.FullWrites → ⊥
-never_range a0 a1 a2 = grind (arith, common_steps)
+never_range r limit c = grind (arith, common_steps)
 
 module _ {D : Type 0} {g : Ghosts D} (e : Engine D g) (t t' : View) where
   -- what the transaction says of the versions that were lent

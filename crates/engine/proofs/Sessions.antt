@@ -23,7 +23,7 @@ module _ {A B : Type 0} (R : A → B → Type 0) where
   pub beside_none : (s : ℕ) (es : List (ℕ × A)) (rs : List (ℕ × B)) → Beside es rs → lookup (is_at (nat_cmp s)) es ≡ None → find nat_cmp s rs ≡ None
   beside_none s [] [] h e = refl
   beside_none s (x ∷ xs) (r ∷ rs) h e = grind (arith, common_steps, beside_none s xs rs h.1)
-  beside_none s b1 b2 h e = absurd h
+  beside_none s es rs h e = absurd h
 
   pub record IsFound (s : ℕ) (t : A) (rs : List (ℕ × B)) : Type 0 where
     pub run : B
@@ -43,7 +43,7 @@ module _ {A B : Type 0} (R : A → B → Type 0) where
       → Beside (insert_entry nat_cmp es s t) (put nat_cmp s run rs)
   beside_insert s t run [] [] h same = ((refl, same), tt)
   beside_insert s t run (x ∷ xs) (r ∷ rs) h same = grind (arith, common_steps, nat_tests, beside_insert s t run xs rs h.1 same)
-  beside_insert s t run b3 b4 h same = absurd h
+  beside_insert s t run es rs h same = absurd h
 
   pub beside_remove : (s : ℕ) (es : List (ℕ × A)) (rs : List (ℕ × B)) → T (is_sorted nat_cmp rs) → Beside es rs
       → Beside (remove_entry (is_at (nat_cmp s)) es) (where_key nat_cmp (λ x. not (x == s)) rs)
@@ -51,7 +51,7 @@ module _ {A B : Type 0} (R : A → B → Type 0) where
   beside_remove s (x ∷ xs) (r ∷ rs) sorted h =
       let p = parts (below_all nat_cmp r.0 rs) (is_sorted nat_cmp rs) sorted in
       grind (arith, common_steps, nat_tests, beside_remove s xs rs p.1 h.1, all_above s rs, below_equal nat_cmp_total s r.0 rs)
-  beside_remove s b1 b2 sorted h = absurd h
+  beside_remove s es rs sorted h = absurd h
 
   -- a transaction written back where it was found
   pub beside_set : (s : ℕ) (t t' : A) (run : B) (es : List (ℕ × A)) (rs : List (ℕ × B)) → T (is_sorted nat_cmp rs) → Beside es rs
@@ -69,4 +69,4 @@ pub beside_weaker : {A B : Type 0} (R S : A → B → Type 0) → ((a : A) (b : 
     → Beside S es rs
 beside_weaker R S f [] [] h = tt
 beside_weaker R S f (x ∷ xs) (r ∷ rs) h = ((h.0.0, f x.1 r.1 h.0.1), beside_weaker R S f xs rs h.1)
-beside_weaker R S f b3 b4 h = absurd h
+beside_weaker R S f es rs h = absurd h

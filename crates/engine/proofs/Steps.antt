@@ -47,21 +47,21 @@ reached_map m n h = maps-history m.base m.history n ((machine_law m h).1.faithfu
 
 -- a request that is refused inside a transaction changes nothing
 pub refused_same : (c : PrivateCopy) (q : Operation) → is_refused (respond c q).0 ≡ true → (respond c q).1 ≡ c
-refused_same a0 a1 a2 = grind (arith, common_steps)
+refused_same c q refused = grind (arith, common_steps)
 
 -- ---- what is stored by a commit without conflict
 
 module _ (m : State) (s : ℕ) (r : Record) where
   pub store_full : (ws : List KeyWrite) (failed : Bool) → (ws ≡ [] → ⊥) → m.count ≤ m.used + body_sectors ws → store m s r ws failed ≡ refuse m s FullLog
-  store_full a0 a1 a2 a3 = grind (arith, common_steps, le-leb)
+  store_full ws failed some full = grind (arith, common_steps, le-leb)
 
   pub store_fault : (ws : List KeyWrite) (failed : Bool) → (ws ≡ [] → ⊥) → m.used + body_sectors ws < m.count → failed ≡ true →
       store m s r ws failed ≡ (record (leave m s) { stopped = true }, Refused StoreFault)
-  store_fault a0 a1 a2 a3 a4 = grind (arith, common_steps, lt-leb)
+  store_fault ws failed some room fails = grind (arith, common_steps, lt-leb)
 
   pub store_joined : (ws : List KeyWrite) (failed : Bool) → HasLogRoom m.used m.count ws → ((ws ≡ [] → ⊥) → failed ≡ false)
       → store m s r ws failed ≡ join_history m s r (sectors_taken ws)
-  store_joined a0 a1 a2 a3 = grind (arith, common_steps, lt-leb)
+  store_joined ws failed room stored = grind (arith, common_steps, lt-leb)
 
 -- ---- maps under one more record
 

@@ -1,9 +1,11 @@
 //! What has committed: the versions of each key, and what later commits are checked against.
-ghost use Rattle.std.specs.Prelude.{◌≡◌, ◌+◌, ◌-◌, ◌^◌, ◌<◌, ◌≤◌, false, true, [], length, IfOk, OnOk};
+ghost use Rattle.std.specs.Prelude.{◌≡◌, ◌+◌, ◌<◌, ◌≤◌, false, true, [], length, IfOk, OnOk};
 ghost use Rattle.model.specs.Map.{IsInBounds};
 ghost use Rattle.versions.specs.Meaning.{IsReclaimed, IsReclaimedInPart};
 ghost use Rattle.pivot_check.specs.Kept.{IsEmpty, FreesRuns, KeepsNoneUpto, KeepsReach};
 ghost use Rattle.pivot_check.specs.StandsFor.{IsCleared};
+ghost use Rattle.engine.specs.declared.engine.TheConstants.{OPEN_MAX};
+ghost use Rattle.engine.specs.declared.judging.TheConstants.{LAST_MAX};
 ghost use Rattle.engine.specs.HistoryValue.{HistoryStandsFor, IsSameHistory, IsReady, Joins, Reclaims, is_garbage};
 
 use model::{Map, Memory};
@@ -70,7 +72,7 @@ impl History {
     pub(crate) fn join(&mut self, transaction: Transaction, cleared: Cleared) -> u64
         requires ready { IsReady self.old transaction }
         requires cleared { IsCleared self.old.committed.facts transaction cleared }
-        requires few { self.old.committed.facts.last < 2 ^ 63 - 1 }
+        requires few { self.old.committed.facts.last < LAST_MAX }
         ensures number { result ≡ self.old.committed.facts.last + 1 }
         ensures last { self.new.committed.facts.last ≡ self.old.committed.facts.last + 1 }
         ensures reach { KeepsReach self.old.committed.facts self.new.committed.facts }
@@ -90,7 +92,7 @@ impl History {
     /// has to be called again until all is done.
     pub(crate) fn reclaim_step(&mut self, begins: &[u64], oldest: u64) -> bool
         requires oldest { oldest ≤ self.old.committed.facts.last }
-        requires few { length begins.now ≤ 64 }
+        requires few { length begins.now ≤ OPEN_MAX }
         ensures reclaims { Reclaims begins.now oldest self.old self.new }
         ensures reclaimed { IsReclaimedInPart self.old.versions self.new.versions begins.now }
         ensures frees_runs { FreesRuns self.old.committed self.new.committed }
@@ -108,7 +110,7 @@ impl History {
     /// began at one of the numbers.
     pub(crate) fn reclaim(&mut self, begins: &[u64], oldest: u64)
         requires oldest { oldest ≤ self.old.committed.facts.last }
-        requires few { length begins.now ≤ 64 }
+        requires few { length begins.now ≤ OPEN_MAX }
         ensures reclaims { Reclaims begins.now oldest self.old self.new }
         ensures reclaimed { IsReclaimed self.old.versions self.new.versions begins.now }
         ensures kept { KeepsNoneUpto self.new.committed.facts.oldest self.new.committed.facts }

@@ -7,6 +7,7 @@ use snapshot::Rows;
 
 impl<D: Sectors> Engine<D> {
     ghost use Rattle.std.specs.Prelude.{◌≤◌, length, IfOk, IfSome, IsOk};
+    ghost use Rattle.model.specs.declared.values.TheConstants.{PAIRS_MAX};
     ghost use Rattle.model.specs.Key.{IsValue};
     ghost use Rattle.model.specs.Map.{IsInBounds};
     ghost use Rattle.std.specs.Borrow.{sem};
@@ -44,7 +45,7 @@ impl<D: Sectors> Engine<D> {
     /// Refusals: `NotOpen`; `FullMarks` for a 257th mark. It may take copies of two keys and room for a mark; `Memory` where that is
     /// refused, never for a range that is empty or whose reply asks for a mark that is there.
     pub fn range(&mut self, s: u64, range: RangeRef<'_>, limit: u8) -> Result<Rows<'_>, ReadFault>
-        requires { (1 ≤ limit) × (limit ≤ 128) }
+        requires { (1 ≤ limit) × (limit ≤ PAIRS_MAX) }
         ensures known { WhereOpen self.old s (λ m t. IsKnownRange (copy_in m t) range.entry limit → IsOk result) }
         ensures few { IfOk result (λ rows. length (row_pairs rows) ≤ limit) }
         ensures in_bounds { IfOk result (λ rows. IsInBounds (row_pairs rows)) }

@@ -19,9 +19,9 @@ pub(crate) fn gather_begins(
     last: u64,
     numbers: &mut [u64; OPEN_MAX],
 ) -> Gathered
-    ensures count { result.count ≤ 64 }
+    ensures count { result.count ≤ OPEN_MAX }
     ensures oldest { IsLeast (λ t. t.begin) last (values running.now) result.oldest }
-    ensures numbers { length running.now.entries ≤ 64
+    ensures numbers { length running.now.entries ≤ OPEN_MAX
         → take result.count numbers.new ≡ map (λ t. t.begin) (values running.now) }
 {
     let mut count = 0;

@@ -1,5 +1,6 @@
 -- What a listener has answered so far, and what a turn's accepts come to.
 use Rattle.std.specs.Prelude.{◌≡◌, ℕ, ◌+◌, ◌<◌, ◌-◌, ◌^◌, min, max, List, [], ◌∷◌, ◌++◌, length}
+use Rattle.sessions.specs.declared.events.TheConstants.{SESSIONS_MAX}
 use Rattle.socket_calls.specs.HappenedCalls.{WasAccepted}
 use Rattle.socket_calls.specs.OpenFacts.{asked_once}
 use Rattle.socket_calls.specs.declared.counted.AcceptedSocket.{AcceptedSocket}
@@ -35,9 +36,9 @@ after_accepted n a = record a { asked = more n a.asked; accepted = more n a.acce
 -- why a turn's accepts ended after so many connections: as many were accepted as a turn accepts, or none waits, or a
 -- call failed
 abbrev pub WhyStopped : ℕ → Accepts → Accepts → Backlog → Type 0
-WhyStopped n old new More = (n ≡ 128) × (new ≡ after_accepted n old)
-WhyStopped n old new Empty = (n < 128) × (new ≡ after_accept Blocked (after_accepted n old))
-WhyStopped n old new BacklogFailed = (n < 128) × (new ≡ after_accept Failed (after_accepted n old))
+WhyStopped n old new More = (n ≡ SESSIONS_MAX) × (new ≡ after_accepted n old)
+WhyStopped n old new Empty = (n < SESSIONS_MAX) × (new ≡ after_accept Blocked (after_accepted n old))
+WhyStopped n old new BacklogFailed = (n < SESSIONS_MAX) × (new ≡ after_accept Failed (after_accepted n old))
 
 -- the answer gives no connection but the one that the system gave
 abbrev pub IsGiven : ListeningSocket → AcceptAnswer → Type 0

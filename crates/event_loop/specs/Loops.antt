@@ -3,11 +3,13 @@ use Rattle.std.specs.Prelude.{◌≡◌, ◌+◌, ◌≤◌, []}
 use Rattle.std.specs.declared.net.SocketAddr.{SocketAddr}
 use Rattle.mio.specs.Events.{capacity as events_capacity}
 use Rattle.sector.specs.declared.device.Sectors.{Ghosts}
+use Rattle.sessions.specs.declared.events.TheConstants.{SESSIONS_MAX}
 use Rattle.sessions.specs.declared.hub.Hub.{Hub}
 use Rattle.socket_calls.specs.HappenedCalls.{IsAddressOf, ListensAt, ReportsAccepts}
 use Rattle.stream_driver.specs.Entries.{HaveSessions}
 use Rattle.event_loop.specs.Sockets.{read_interests}
 use Rattle.event_loop.specs.Tables.{HaveEntries}
+use Rattle.event_loop.specs.declared.lingering.TheConstants.{LINGERING_MAX}
 use Rattle.event_loop.specs.declared.listening.Listening.{Listening}
 use Rattle.event_loop.specs.declared.server.EventLoop.{EventLoop}
 use Rattle.event_loop.specs.declared.server.TheConstants.{LISTENER}
@@ -31,7 +33,7 @@ pub record ListensFor {D : Type 0} {g : Ghosts D} (events : EventLoop D g) (addr
 pub record HearsAt (address : SocketAddr) (listening : Listening) : Type 0 where
   pub listens : ListensAt listening.port.listener address
   pub reported : ReportsAccepts listening.port.listener LISTENER read_interests
-  pub room : 128 + 64 + 1 ≤ events_capacity listening.poller.events
+  pub room : SESSIONS_MAX + LINGERING_MAX + 1 ≤ events_capacity listening.poller.events
   pub nobody : listening.lingering.queue.items ≡ []
 
 -- the system said that its listener has this address

@@ -1,5 +1,6 @@
 -- The numbers of the sessions in a table.
 use Rattle.std.specs.Prelude.{◌≡◌, ◌<◌, ℕ, List, Option, Some, None, slice_index_or}
+use Rattle.sessions.specs.declared.events.TheConstants.{SESSIONS_MAX}
 use Rattle.socket_calls.specs.declared.counted.CountedSocket.{CountedSocket}
 use Rattle.stream_driver.specs.declared.entries.Entry.{Entry}
 use Rattle.event_loop.specs.Sockets.{HasItsPlace}
@@ -15,7 +16,7 @@ WasRegisteredAs key session = (first : CountedSocket) × (first.connection ≡ s
 
 -- it stands at one of the 128 places of the table, under whose key the poll reports its connection
 pub record HasTablePlace (key session : ℕ) : Type 0 where
-  pub place : key < 128
+  pub place : key < SESSIONS_MAX
   pub registered : ∥ WasRegisteredAs key session ∥₁
 
 -- so it is of each

@@ -4,9 +4,11 @@ use Rattle.std.specs.Prelude.{◌≡◌, ◌⊎◌, ℕ, ◌+◌, ◌-◌, ◌<�
 use Rattle.std.specs.Prelude.{Option, Some, None}
 use Rattle.sector.specs.declared.device.Sectors.{Ghosts}
 use Rattle.sessions.specs.StandsFor.{has_written}
+use Rattle.sessions.specs.declared.events.TheConstants.{SESSIONS_MAX}
 use Rattle.sessions.specs.declared.hub.Hub.{Hub}
 use Rattle.stream_driver.specs.Buffers.{in_turn_of}
 use Rattle.stream_driver.specs.declared.buffered.BufferedStream.{BufferedStream}
+use Rattle.stream_driver.specs.declared.buffered.TheConstants.{LIGHT_MAX, SHARE_MAX}
 use Rattle.stream_driver.specs.declared.entries.Entry.{Entry}
 use Rattle.stream_driver.specs.declared.entries.EntryState.{EntryState}
 use Rattle.stream_driver.specs.declared.entries.EntryState.TheVariants.{Idle, Ready, Gone}
@@ -17,22 +19,23 @@ use Rattle.event_loop.specs.declared.order.Turns.{Turns}
 
 -- how many places a key stands behind another, round the 128 places of the table: from 1, and 128 behind itself
 abbrev pub behind : ℕ → ℕ → ℕ
-behind last key = cond (nat_lt last key) (key - last) (128 + key - last)
+behind last key = cond (nat_lt last key) (key - last) (SESSIONS_MAX + key - last)
 
 -- of the keys that wait, the first behind this one
 pub record IsFirst (waits : ℕ → Bool) (last next : ℕ) : Type 0 where
-  pub place : next < 128
+  pub place : next < SESSIONS_MAX
   pub waiting : waits next ≡ true
-  pub first : (key : ℕ) → key < 128 → waits key ≡ true → behind last next ≤ behind last key
+  pub first : (key : ℕ) → key < SESSIONS_MAX → waits key ≡ true → behind last next ≤ behind last key
 
 -- and where none waits, this one still
 abbrev pub HasNextTurn : (ℕ → Bool) → ℕ → ℕ → Type 0
-HasNextTurn waits last next = IsFirst waits last next ⊎ ((next ≡ last) × ((key : ℕ) → key < 128 → waits key ≡ false))
+HasNextTurn waits last next = IsFirst waits last next
+    ⊎ ((next ≡ last) × ((key : ℕ) → key < SESSIONS_MAX → waits key ≡ false))
 
 -- a key that waits is the next, or that one is nearer to it
 abbrev pub ComesNearer : (ℕ → Bool) → ℕ → ℕ → ℕ → Type 0
-ComesNearer waits last next key = HasNextTurn waits last next → last < 128 → key < 128 → waits key ≡ true
-    → (key ≡ next) ⊎ (behind next key < behind last key)
+ComesNearer waits last next key = HasNextTurn waits last next → last < SESSIONS_MAX → key < SESSIONS_MAX
+    → waits key ≡ true → (key ≡ next) ⊎ (behind next key < behind last key)
 
 module _ {T D : Type 0} {g : Ghosts D} (hub : Hub D g) where
   -- has the session's open transaction written, or did the last drive that answered it append a record?
@@ -62,7 +65,7 @@ module _ {T D : Type 0} {g : Ghosts D} (hub : Hub D g) where
   -- and none where this is another's
   abbrev pub share_in_turn : Turns → ℕ → Entry (BufferedStream T) → Option ℕ
   share_in_turn turns key entry =
-      cond (is_of_kind Any entry) (cond (has_turn turns key entry) (Some 262144) None) (Some 32768)
+      cond (is_of_kind Any entry) (cond (has_turn turns key entry) (Some SHARE_MAX) None) (Some LIGHT_MAX)
 
   abbrev pub share_at : Turns → ℕ → Option (Entry (BufferedStream T)) → Option ℕ
   share_at turns key None = None

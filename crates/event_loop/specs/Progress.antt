@@ -11,6 +11,8 @@ use Rattle.stream_driver.specs.Waits.{EndsOn}
 use Rattle.stream_driver.specs.declared.answers.Call.TheVariants.{Write}
 use Rattle.stream_driver.specs.declared.answers.WriteAnswer.TheVariants.{Blocked as WriteBlocked}
 use Rattle.stream_driver.specs.declared.buffered.BufferedStream.{BufferedStream}
+use Rattle.stream_driver.specs.declared.buffered.TheConstants.{LIGHT_MAX}
+use Rattle.stream_driver.specs.declared.driving.TheConstants.{REQUESTS_MAX}
 use Rattle.stream_driver.specs.declared.entries.Entry.{Entry}
 use Rattle.stream_driver.specs.declared.entries.EntryState.{EntryState}
 use Rattle.stream_driver.specs.declared.entries.EntryState.TheVariants.{Idle, Ready, Gone}
@@ -20,7 +22,7 @@ module _ {T : Type 0} (reports : Type 0) (traffic : T → Traffic) (was entry : 
   -- An entry that was ready had a share of the turn, a light one at least, and what is gone of it was sent, or it was
   -- ended. Where its last write blocked, nothing is left of the share, or its peer takes no more.
   pub record UsesTurn : Type 0 where
-    pub some : was.state ≡ Ready → 32768 ≤ was.stream.share
+    pub some : was.state ≡ Ready → LIGHT_MAX ≤ was.stream.share
     pub uses : UsesShare reports (traffic_through traffic) share_of was entry
     pub blocked : was.state ≡ Ready → entry.state ≡ Idle
         → (traffic_through traffic entry.stream).last ≡ Some (Write WriteBlocked)
@@ -28,7 +30,7 @@ module _ {T : Type 0} (reports : Type 0) (traffic : T → Traffic) (was entry : 
 
   -- all bytes of its share of the turn were sent, 32,768 at least
   pub record WasSentItsShare : Type 0 where
-    pub some : 32768 ≤ was.stream.share
+    pub some : LIGHT_MAX ≤ was.stream.share
     pub sent : reports → length (traffic_through traffic entry.stream).sent
         ≡ length (traffic_through traffic was.stream).sent + was.stream.share
 
@@ -40,7 +42,7 @@ module _ {T : Type 0} (reports : Type 0) (traffic : T → Traffic) (was entry : 
   -- idle was served each request that had come in whole, and is owed nothing; or its peer takes no more; or it has had
   -- its share, and is ready again at the end of the turn. One that is gone has left.
   abbrev pub CameFar : HubState → ℕ → EntryState → Type 0
-  CameFar h served Ready = served ≡ 64
+  CameFar h served Ready = served ≡ REQUESTS_MAX
   CameFar h served Idle =
       AwaitsMore h entry.session
       ⊎ (EndsOn traffic (Write WriteBlocked) entry.stream ⊎ ((entry.stream.share ≡ 0) × HadItsShare))

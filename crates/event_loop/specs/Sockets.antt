@@ -14,6 +14,7 @@ use Rattle.stream_driver.specs.Counts.{counted_with}
 use Rattle.stream_driver.specs.Traffic.{Departure, Traffic, IsUncalled}
 use Rattle.stream_driver.specs.declared.buffered.BufferedStream.{BufferedStream}
 use Rattle.event_loop.specs.declared.socket.Socket.{Socket}
+use Rattle.event_loop.specs.declared.socket.TheConstants.{PROBES, SECONDS_BETWEEN_PROBES, SILENT_SECONDS}
 
 -- Nothing has moved over a connection of which no call was made, and each call that the run really made of one moved
 -- the bytes that it read or wrote, and no others; those of a write left at the moment of the device that it was shown.
@@ -48,7 +49,7 @@ CameShort s = s.came_short ≡ true
 -- where it answers none of four probes the connection ends.
 pub record HasItsOptions (s : CountedSocket) : Type 0 where
   pub sends_at_once : SendsAtOnce s
-  pub asks : AsksWhetherThere s 120 30 4
+  pub asks : AsksWhetherThere s SILENT_SECONDS SECONDS_BETWEEN_PROBES PROBES
 
 -- what comes in, urgent bytes among it, and room for what goes
 abbrev pub all_interests : Interest

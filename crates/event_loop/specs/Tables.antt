@@ -14,6 +14,7 @@ use Rattle.sessions.specs.StandsFor.{HubLeads, status_of}
 use Rattle.sessions.specs.declared.events.Outcome.{Outcome}
 use Rattle.sessions.specs.declared.events.Outcome.TheVariants.{Done}
 use Rattle.sessions.specs.declared.events.Status.TheVariants.{Absent}
+use Rattle.sessions.specs.declared.events.TheConstants.{SESSIONS_MAX}
 use Rattle.sessions.specs.declared.hub.Hub.{Hub}
 use Rattle.stream_driver.specs.Entries.{EndsDrive, HaveSessions, is_over}
 use Rattle.stream_driver.specs.Sessions.{Adds, Leads, Stands}
@@ -104,7 +105,7 @@ module _ {T : Type 0} where
     -- the system answered an error; or the hub refused its session.
     abbrev pub IsCause : Hub D g → ℕ → List (Option (Entry T)) → Hub D g → Refusal → Type 0
     IsCause hub next slots later Numbers = next ≡ 2 ^ 64 - 1
-    IsCause hub next slots later Full = 128 ≤ count_by is_some slots
+    IsCause hub next slots later Full = SESSIONS_MAX ≤ count_by is_some slots
     IsCause hub next slots later Room = IsOutsideCause Room
     IsCause hub next slots later System = IsOutsideCause System
     IsCause hub next slots later Session = JoinIsRefused hub later next
@@ -125,7 +126,7 @@ module _ {T : Type 0} where
           (new : List (Option (Entry T))) : Type 0 where
         pub key : ℕ
         pub entry : Entry T
-        pub key_is : key < 128
+        pub key_is : key < SESSIONS_MAX
         pub vacant : slot_at slots key ≡ None
         pub changed : slot_at new key ≡ Some entry
         pub others : (other : ℕ) → other ≢ key → slot_at new other ≡ slot_at slots other

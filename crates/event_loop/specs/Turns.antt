@@ -12,6 +12,7 @@ use Rattle.sector.specs.declared.device.Sectors.{Ghosts}
 use Rattle.sessions.specs.Laws.{CollectsStep, HasRun, Ran}
 use Rattle.sessions.specs.SessionStreams.{HubEvent, HubState, Choice}
 use Rattle.sessions.specs.StandsFor.{StandsFor, device}
+use Rattle.sessions.specs.declared.events.TheConstants.{SESSIONS_MAX}
 use Rattle.sessions.specs.declared.hub.Hub.{Hub}
 use Rattle.socket_calls.specs.HappenedCalls.{WasRegistered, WasReported}
 use Rattle.socket_calls.specs.OpenFacts.{BecameReady}
@@ -39,6 +40,7 @@ use Rattle.event_loop.specs.Waits.{nanos_of, own_limit, shorter}
 use Rattle.event_loop.specs.declared.connections.Backlog.{Backlog}
 use Rattle.event_loop.specs.declared.connections.Backlog.TheVariants.{Empty, More, Failed}
 use Rattle.event_loop.specs.declared.connections.TheConstants.{LINGERER}
+use Rattle.event_loop.specs.declared.lingering.TheConstants.{LINGERING_MAX}
 use Rattle.event_loop.specs.declared.listener.Port.{Port}
 use Rattle.event_loop.specs.declared.order.Turns.{Turns}
 use Rattle.event_loop.specs.declared.server.EventLoop.{EventLoop}
@@ -171,7 +173,7 @@ pub record IsDrivenSoon {D : Type 0} {g : Ghosts D} (reports : Type 0) (traffic 
     → Traffic) (old new : EventLoop D g) (turn : IsTurn reports traffic old new) (key : ℕ) : Type 0 where
   pub soon : (is_ready_slot (slot_at turn.drives.ready key) ≡ true)
       ⊎ ((behind new.turns.next key < behind old.turns.next key) × (is_ready_slot (slot_at new.table.slots key) ≡ true))
-  pub bound : behind old.turns.next key ≤ 128
+  pub bound : behind old.turns.next key ≤ SESSIONS_MAX
 
 -- so it is of each session, in each turn: so each is driven within 128 turns
 abbrev pub EachHasItsTurn : {D : Type 0} {g : Ghosts D} → Type 0 → (Socket → Traffic) → EventLoop D g → Type 0
@@ -221,4 +223,4 @@ pub record Waits {D A : Type 0} {g : Ghosts D} (timeout : Option Duration) (old 
   pub polled : polls_of new.poller ≡ after_wait result (polls_of old.poller)
   pub waited : nanos_of new.poller.waited ≡ turn_waits old timeout
   pub asked : WasAskedOnce old.poller.poll new.poller.waited new.poller.poll
-  pub room : 128 + 64 + 1 ≤ events_capacity new.poller.events
+  pub room : SESSIONS_MAX + LINGERING_MAX + 1 ≤ events_capacity new.poller.events

@@ -216,7 +216,7 @@ fn make_place(
     table: &mut Slab<Entry<BufferedStream<Socket>>>,
 ) -> Result<BufferedStream<Socket>, Refusal>
     ensures fresh { MatchResult result (IsNewSocket accepted table.new.vacant_key number) IsOutsideCause }
-    ensures place { OnOk result (HasRoomFor table.new 1 × (table.new.vacant_key < 128)) }
+    ensures place { OnOk result (HasRoomFor table.new 1 × (table.new.vacant_key < SESSIONS_MAX)) }
     ensures slots { table.new.slots ≡ table.old.slots }
 {
     let key = table.vacant_key();

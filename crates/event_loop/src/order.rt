@@ -41,7 +41,7 @@ pub struct Turns {
 impl Turns {
     /// Before the first turn. Takes no memory.
     pub(crate) fn new() -> Turns
-        ensures { (result.next < 128) × (result.beside < 128) }
+        ensures { (result.next < SESSIONS_MAX) × (result.beside < SESSIONS_MAX) }
     {
         Turns {
             next: 0,
@@ -101,10 +101,10 @@ fn writes_at<D: Sectors>(
 
 // The key so many places behind another, round the table.
 fn key_behind(last: usize, places: usize) -> usize
-    requires last { last < 128 }
+    requires last { last < SESSIONS_MAX }
     requires some { 1 ≤ places }
-    requires few { places ≤ 128 }
-    ensures place { result < 128 }
+    requires few { places ≤ SESSIONS_MAX }
+    ensures place { result < SESSIONS_MAX }
     ensures places { behind last result ≡ places }
 {
     let key = last + places;
@@ -122,9 +122,9 @@ fn first_behind<D: Sectors>(
     kind: Kind,
     last: usize,
 ) -> usize
-    requires { last < 128 }
+    requires { last < SESSIONS_MAX }
     ensures next { HasNextTurn (λ key. waits_as hub.now kind (slot_at table.now.slots key)) last result }
-    ensures place { result < 128 }
+    ensures place { result < SESSIONS_MAX }
 {
     for places in 0..SESSIONS_MAX {
         let key = key_behind(last, places + 1);
@@ -141,10 +141,10 @@ pub(crate) fn next_turns<D: Sectors>(
     table: &Slab<Entry<BufferedStream<Socket>>>,
     last: Turns,
 ) -> Turns
-    requires next { last.next < 128 }
-    requires beside { last.beside < 128 }
+    requires next { last.next < SESSIONS_MAX }
+    requires beside { last.beside < SESSIONS_MAX }
     ensures next { AreNext hub.now (slot_at table.now.slots) last result }
-    ensures places { (result.next < 128) × (result.beside < 128) }
+    ensures places { (result.next < SESSIONS_MAX) × (result.beside < SESSIONS_MAX) }
 {
     let next = first_behind(hub, table, Kind::Any, last.next);
     let kind = if writes_at(hub, table, next) {

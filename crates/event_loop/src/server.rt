@@ -1,8 +1,10 @@
 //! The event loop, and one turn of it.
 ghost use Rattle.std.specs.Prelude.{◌+◌, ◌<◌, ◌≤◌};
 ghost use Rattle.mio.specs.Events.{capacity as events_capacity};
+ghost use Rattle.sessions.specs.declared.events.TheConstants.{SESSIONS_MAX};
 ghost use Rattle.stream_driver.specs.Sessions.{Stands};
 ghost use Rattle.stream_driver.specs.Entries.{HaveSessions};
+ghost use Rattle.event_loop.specs.declared.lingering.TheConstants.{LINGERING_MAX};
 ghost use Rattle.event_loop.specs.Departures.{IsServing};
 ghost use Rattle.event_loop.specs.Numbers.{SessionsAreBelow, HavePlaces};
 ghost use Rattle.event_loop.specs.Peers.{AreRested, LackNothing};
@@ -55,7 +57,7 @@ pub struct EventLoop<D: Sectors> {
     /// where it is asked for 1,024 bytes or more: so each turn has it join what its own step freed, and no request pays for many.
     spare: Option<Vec<u8>>,
     table: Slab<Entry<BufferedStream<Socket>>>,
-    ghost room: { 128 + 64 + 1 ≤ events_capacity poller.events },
+    ghost room: { SESSIONS_MAX + LINGERING_MAX + 1 ≤ events_capacity poller.events },
     ghost stands: { Stands hub },
     ghost serving: { IsServing hub table.slots lingering.queue.items },
     ghost sessions: { HaveSessions hub table.slots },
@@ -64,8 +66,8 @@ pub struct EventLoop<D: Sectors> {
     ghost places: { HavePlaces table.slots },
     ghost peers: { LackNothing hub table.slots },
     ghost rested: { AreRested table.slots },
-    ghost next_place: { turns.next < 128 },
-    ghost beside_place: { turns.beside < 128 },
+    ghost next_place: { turns.next < SESSIONS_MAX },
+    ghost beside_place: { turns.beside < SESSIONS_MAX },
 }
 
 impl<D: Sectors> EventLoop<D> {

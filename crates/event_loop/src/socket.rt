@@ -74,7 +74,7 @@ impl Socket {
     /// Has the system ask the peer whether it is still there once it was silent for two minutes, and again each half minute: a peer that
     /// vanished is gone for good at the fourth probe without an answer, four minutes after its last byte. Answers the system's error.
     pub(crate) fn ask_whether_there(&self) -> io::Result<()>
-        ensures asks { OnOk result (AsksWhetherThere self.now.socket 120 30 4) }
+        ensures asks { OnOk result (AsksWhetherThere self.now.socket SILENT_SECONDS SECONDS_BETWEEN_PROBES PROBES) }
         ensures error { IfErr result (λ e. SocketAnswered e) }
     {
         self.socket

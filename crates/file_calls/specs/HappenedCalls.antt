@@ -2,7 +2,7 @@
 -- are left open, as the facts of a file are. The lemmas are to be cited only of the call that a proof is about, by the
 -- answers in `proofs/` of this crate.
 use Rattle.std.specs.Path.{path_parent}
-use Rattle.std.specs.Prelude.{◌⊎◌, ℕ, ℤ, pos, Bool, true, false, List, [], ◌∷◌, codes, Option, Some, None}
+use Rattle.std.specs.Prelude.{◌⊎◌, ℕ, ℤ, pos, Bool, false, List, [], ◌∷◌, codes, Option, Some, None}
 use Rattle.std.specs.Prelude.{Result, Ok, Err, IfErr}
 use Rattle.std.specs.declared.io.Error.{Error}
 use Rattle.file_calls.specs.declared.counted.CountedFile.{CountedFile}

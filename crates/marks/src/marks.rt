@@ -24,13 +24,14 @@ pub struct Marks {
 impl Model for Marks {
     ghost use Rattle.std.specs.Prelude.{List, length, ◌≤◌};
     ghost use Rattle.model.specs.PrivateCopy.{Mark};
+    ghost use Rattle.marks.specs.declared.marks.TheConstants.{MARKS_MAX};
     ghost use Rattle.marks.specs.Marked.{marks_of};
 
     ghost Value = { List Mark };
 
     ghost view = { λ m. marks_of m.held.items };
 
-    ghost invariant = { λ m. length m.held.items ≤ 256 };
+    ghost invariant = { λ m. length m.held.items ≤ MARKS_MAX };
 }
 
 impl Marks {
@@ -46,7 +47,7 @@ impl Marks {
     /// Lends the marks, in the order in which they were made. Takes no memory.
     pub fn held(&self) -> &[OwnedMark]
         ensures marks { marks_of result.now ≡ self.now }
-        ensures few { length result.now ≤ 256 }
+        ensures few { length result.now ≤ MARKS_MAX }
     {
         &self.held
     }

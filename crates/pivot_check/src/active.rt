@@ -29,7 +29,7 @@ impl ActiveBegins {
 
     // One may ask who began at one of these numbers, or at `since` or later.
     pub(crate) fn of(numbers: &[u64], since: u64) -> ActiveBegins
-        requires { length numbers.now ≤ 64 }
+        requires { length numbers.now ≤ BEGINS_MAX }
         ensures { reach_of result ≡ record { begins = numbers.now; since = since } }
     {
         let mut begins = ArrayVec::new();

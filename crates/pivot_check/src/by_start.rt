@@ -26,7 +26,7 @@ fn order_at(marks: &[OwnedMark], first: u8, second: u8) -> Ordering {
 
 // The places of so many marks.
 fn places_of(count: usize) -> ArrayVec<u8, MARKS_MAX>
-    requires { count ≤ 256 }
+    requires { count ≤ MARKS_MAX }
     ensures { result.items ≡ places_upto count }
 {
     let mut places = ArrayVec::new();
@@ -39,7 +39,7 @@ fn places_of(count: usize) -> ArrayVec<u8, MARKS_MAX>
 impl<'a> ByStart<'a> {
     // Takes no memory.
     pub(crate) fn of(marks: &'a [OwnedMark]) -> ByStart<'a>
-        requires { length marks.now ≤ 256 }
+        requires { length marks.now ≤ MARKS_MAX }
         ensures { result.marks.now ≡ marks.now }
     {
         let mut places = places_of(marks.len());

@@ -4,6 +4,7 @@ ghost use Rattle.std.specs.List.{AllByRecursion};
 ghost use Rattle.model.specs.History.{Record};
 ghost use Rattle.merging_runs.specs.Held.{size_in};
 ghost use Rattle.merging_runs.specs.Next.{IsNext};
+ghost use Rattle.pivot_check.specs.declared.active.TheConstants.{BEGINS_MAX};
 ghost use Rattle.pivot_check.specs.Merged.{AddsWrittenRun, AreMoved, AreMovedWith, IsTriedIn};
 ghost use Rattle.pivot_check.specs.Kept.{Forgets, HasForgotten, HasRoom, IsEmpty, IsStep};
 ghost use Rattle.pivot_check.specs.Kept.{IsInReach, KeepsNoneUpto, KeepsReach, LeavesMergesOf, asked_from, is_kept};
@@ -272,7 +273,7 @@ impl Committed {
     /// same histories, where each of them may ask already. Nothing is dropped at once: the merges that go on drop what none of these asks
     /// for. So it has to be called again and again, as transactions end and others commit. Takes no memory.
     pub fn keep_active(&mut self, begins: &[u64])
-        requires few { length begins.now ≤ 64 }
+        requires few { length begins.now ≤ BEGINS_MAX }
         ensures stands_for { AllByRecursion (λ b. may_ask self.old.facts.reach b ≡ true) begins.now
             → (h : List Record) → StandsFor self.old.facts h → StandsFor self.new.facts h }
         ensures asked { self.new ≡ record self.old { facts = asked_from begins.now self.old.facts } }

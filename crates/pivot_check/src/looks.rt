@@ -41,7 +41,8 @@ impl Part {
 
     // The same for a block of it.
     fn may_lower_in(&self, block: usize, found: Option<u64>, begin: u64, flagged: bool) -> bool
-        ensures { result ≡ false → KeepsFound found begin flagged (take 64 (drop (64 * block) self.now.written.items)) }
+        ensures { result ≡ false
+            → KeepsFound found begin flagged (take BLOCK (drop (BLOCK * block) self.now.written.items)) }
     {
         match self.bounds.get(block) {
             None => true,
@@ -58,9 +59,9 @@ impl Part {
         begin: u64,
         flagged: bool,
     ) -> Option<u64>
-        requires block { 64 * block ≤ span.first }
+        requires block { BLOCK * block ≤ span.first }
         requires order { span.first ≤ span.end }
-        requires block_end { span.end ≤ 64 * block + 64 }
+        requires block_end { span.end ≤ BLOCK * block + BLOCK }
         requires within { span.end ≤ length self.now.written.items }
         ensures { result ≡ lesser found (least (is_asked begin flagged) (in_span span self.now.written.items)) }
     {

@@ -4,6 +4,7 @@ ghost use Rattle.std.specs.Prelude.{length, drop, min, [], ◌∷◌};
 ghost use Rattle.std.specs.List.{list_any};
 ghost use Rattle.std.specs.Vec.{vec_capacity};
 ghost use Rattle.merging_runs.specs.Next.{IsNext};
+ghost use Rattle.pivot_check.specs.declared.bound.TheConstants.{BLOCK};
 ghost use Rattle.pivot_check.specs.Postings.{keys_rise, later_than};
 ghost use Rattle.pivot_check.specs.Bounds.{are_from_bound, AreBounds, bound_count};
 ghost use Rattle.pivot_check.specs.Active.{reach_of};
@@ -25,7 +26,7 @@ pub(crate) struct Part {
     ghost rising: { IsTrue (keys_rise (drop start written.items)) },
     ghost bounded: { IsTrue (are_from_bound bound written.items) },
     ghost blocks: { AreBounds bounds.items written.items },
-    ghost whole: { 64 * length bounds.items ≤ length written.items },
+    ghost whole: { BLOCK * length bounds.items ≤ length written.items },
 }
 
 impl Part {
@@ -133,7 +134,7 @@ impl Part {
         ensures start { self.new.start ≡ self.old.start }
         ensures bound { self.new.bound ≡ self.old.bound }
         ensures bounds { length self.new.bounds.items
-            ≡ min (length self.old.written.items / 64) (vec_capacity self.old.bounds) }
+            ≡ min (length self.old.written.items / BLOCK) (vec_capacity self.old.bounds) }
     {
         for _block in 0..self.written.len() / BLOCK {
             self.add_bound();
@@ -149,7 +150,7 @@ impl Part {
         ensures number { oldest < self.new.bound.number }
         ensures capacity { vec_capacity self.new.written ≡ vec_capacity self.old.written }
         ensures bounds { length self.new.bounds.items
-            ≡ min (length self.new.written.items / 64) (vec_capacity self.old.bounds) }
+            ≡ min (length self.new.written.items / BLOCK) (vec_capacity self.old.bounds) }
     {
         let start = count_later(&self.written[..self.start], oldest);
         self.bounds.clear();

@@ -35,7 +35,7 @@ nothing_of_count [] none = (decimal 1 ++ crlf, 1, rw (decimal_digit 1 (omega ari
 nothing_of_count (x ∷ bytes) none = absurd (omega arith)
 
 pub no_count : (bytes : List ℕ) → 1 ≤ length bytes → (49 ≤ get_or bytes 0 0 → get_or bytes 0 0 ≤ 52 → ⊥) → Stops CountLine bytes Bad
-no_count a0 a1 a2 = grind (arith, common_steps, decimal_digit)
+no_count bytes some no_digit = grind (arith, common_steps, decimal_digit)
 
 pub count_behind : (bytes rest : List ℕ) (d : ℕ) (e : Stop) → bytes ≡ d ∷ rest → 49 ≤ d → d ≤ 52 → Stops (Only crlf) rest e → Stops CountLine bytes e
 count_behind bytes rest d e is low high stopped =
@@ -90,7 +90,7 @@ length_behind bytes digits rest len e is number fits last stopped =
   where
     must : (rest : List ℕ) → 1 ≤ length rest → NoDigitFirst rest → (text more others : List ℕ) (n : ℕ) → LengthLine text n
         → digits ++ (rest ++ more) ≡ text ++ others → rest ++ more ≡ crlf ++ others
-    must a0 a1 a2 a3 a4 a5 a6 a7 a8 = grind (arith, common_steps, same_digits, decimal_digits, not_return, line_text)
+    must rest some last text more others n h joined = grind (arith, common_steps, same_digits, decimal_digits, not_return, line_text)
 
 pub length_text : (bytes digits rest after : List ℕ) (len : ℕ) → bytes ≡ digits ++ rest → digits ≡ decimal len → len ≤ value_max → rest ≡ crlf ++ after
     → (text : List ℕ) × LengthLine text len × (bytes ≡ text ++ after)

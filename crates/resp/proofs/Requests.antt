@@ -134,7 +134,7 @@ parts_one_form (p ∷ ps) (q ∷ qs) a b len ips iqs e =
     ++ b) (All-head IsPart p ps ips) (All-head IsPart q qs iqs) (sym (append_assoc (bulk p) (flat_map bulk ps) a) ∙ e
     ∙ append_assoc (bulk q) (flat_map bulk qs) b) in
     grind (arith, one, parts_one_form ps qs a b (omega arith) (All-tail IsPart p ps ips) (All-tail IsPart q qs iqs) one.1)
-parts_one_form b0 b1 a b len ips iqs e = absurd (omega arith)
+parts_one_form ps qs a b len ips iqs e = absurd (omega arith)
 
 -- one request's text doesn't begin another's
 pub array_one_form : (ps qs : List (List ℕ)) (a b : List ℕ) → IsRequest ps → IsRequest qs → array_of_bulks ps ++ a ≡ array_of_bulks qs ++ b

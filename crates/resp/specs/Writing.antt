@@ -27,6 +27,14 @@ pub record AppendsText (old new : Vec ℕ) (text : List ℕ) (result : Result (U
 abbrev pub joined_pieces : List (Bor (List ℕ)) → List ℕ
 joined_pieces pieces = flat_map (λ piece. piece.now) pieces
 
+-- the most digits of a u64
+abbrev pub digits_max : ℕ
+digits_max = 20
+
+-- the most bytes of a refusal's words
+abbrev pub words_max : ℕ
+words_max = 24
+
 -- what follows a refusal's words
 abbrev pub detail : Refusal → List ℕ
 detail (Overwritten key) = hex_text key

@@ -9,7 +9,7 @@ ghost use Rattle.model.specs.CommandTable.{range_in, command_in};
 
 use crate::decoding::read_decimal;
 use crate::parts::Request;
-use model::{Command, KeyRef, RangeRef, Refusal};
+use model::{Command, KeyRef, PAIRS_MAX, RangeRef, Refusal};
 
 // Is this the name, in any case of its letters?
 fn is_named(part: &[u8], name: &[u8]) -> bool
@@ -51,9 +51,9 @@ fn end_of(bytes: &[u8]) -> Result<Option<KeyRef<'_>>, Refusal>
 #[tactic(auto, using(crate::proofs::Limits::limit_found, crate::proofs::Limits::limit_absent, crate::proofs::Limits::zero_alone))]
 fn limit_of(digits: &[u8]) -> Result<u8, Refusal>
     ensures meant { Means (λ n. n) result (limit_in digits.now) }
-    ensures range { IfOk result (λ n. (1 ≤ n) × (n ≤ 128)) }
+    ensures range { IfOk result (λ n. (1 ≤ n) × (n ≤ PAIRS_MAX)) }
 {
-    let Some(limit) = read_decimal(digits, 128) else {
+    let Some(limit) = read_decimal(digits, PAIRS_MAX) else {
         return Err(Refusal::BadLimit);
     };
     if limit == 0 {

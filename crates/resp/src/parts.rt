@@ -2,13 +2,17 @@
 ghost use Rattle.std.specs.Prelude.{◌≡◌, ◌+◌, ◌<◌, ◌≤◌, [], ◌∷◌, ◌++◌, List, ℕ, length, take, map, Some, slice_get};
 ghost use Rattle.std.specs.Prelude.{slice_index_or};
 ghost use Rattle.model.specs.Grammar.{IsPart, IsRequest};
+ghost use Rattle.resp.specs.declared.parts.TheConstants.{PARTS_MAX};
 
 use std::marker::Model;
+
+// The most parts of a request.
+const PARTS_MAX: usize = 4;
 
 /// The parts of a request, which are slices of the input. A clause sees the list of their bytes.
 #[derive(Drop)]
 pub struct Request<'a> {
-    parts: [&'a [u8]; 4],
+    parts: [&'a [u8]; PARTS_MAX],
     len: usize,
 }
 
@@ -17,7 +21,7 @@ impl<'a> Model for Request<'a> {
 
     ghost view = { λ r. take r.len (map (λ part. part.now) r.parts) };
 
-    ghost invariant = { λ r. (r.len ≤ 4) × IsRequest (take r.len (map (λ part. part.now) r.parts)) };
+    ghost invariant = { λ r. (r.len ≤ PARTS_MAX) × IsRequest (take r.len (map (λ part. part.now) r.parts)) };
 }
 
 impl<'a> Request<'a> {
@@ -27,14 +31,14 @@ impl<'a> Request<'a> {
         ensures { result ≡ part.now ∷ [] }
     {
         Request {
-            parts: [part; 4],
+            parts: [part; PARTS_MAX],
             len: 1,
         }
     }
 
     // Adds a part at the end.
     pub(crate) fn push(&mut self, part: &'a [u8])
-        requires room { length self.old < 4 }
+        requires room { length self.old < PARTS_MAX }
         requires part { IsPart part.now }
         ensures { self.new ≡ self.old ++ part.now ∷ [] }
     {

@@ -10,7 +10,8 @@ ghost use Rattle.model.specs.Operations.{response_of};
 ghost use Rattle.model.specs.Operations.Response.{Refused};
 ghost use Rattle.model.specs.ReplyText.{reply_text, refusal_text, hex_text};
 ghost use Rattle.resp.specs.Replies.{FirstReplies, OneReading};
-ghost use Rattle.resp.specs.Writing.{AppendsText, GivesPairs, IsBrief, OfText, joined_pieces, detail};
+ghost use Rattle.resp.specs.Writing.{AppendsText, GivesPairs, IsBrief, OfText, joined_pieces, detail, digits_max};
+ghost use Rattle.resp.specs.Writing.{words_max};
 
 use model::{KeyRef, Memory, Refusal, Reply};
 
@@ -34,7 +35,7 @@ fn append(out: &mut Vec<u8>, pieces: &[&[u8]]) -> Result<(), Memory>
 // A number's text between two others.
 fn append_number(out: &mut Vec<u8>, before: &[u8], n: u64, after: &[u8]) -> Result<(), Memory>
     ensures text { AppendsText out.old out.new (before.now ++ decimal n ++ after.now) result }
-    ensures brief { length (before.now ++ decimal n ++ after.now) ≤ length before.now + length after.now + 20 }
+    ensures brief { length (before.now ++ decimal n ++ after.now) ≤ length before.now + length after.now + digits_max }
 {
     let mut buffer = itoa::Buffer::new();
     let digits = buffer.format(n).as_bytes();
@@ -135,7 +136,7 @@ fn append_overwritten(out: &mut Vec<u8>, key: &[u8]) -> Result<(), Memory>
 // What a refusal's text begins with, and what it is where no detail follows.
 fn words(refusal: &Refusal) -> &'static [u8]
     ensures text { refusal_text refusal.now ≡ result.now ++ detail refusal.now }
-    ensures short { length result.now ≤ 24 }
+    ensures short { length result.now ≤ words_max }
 {
     match refusal {
         Refusal::BadFrame => b"ERR frame",

@@ -51,11 +51,12 @@ module _ {F : Type 0} (g : Mut F (Bor ℕ × Unit {0}) Bool) (f : F) (text : Lis
       given_front (split_steps g) lent s (slice_split (λ byte. byte == 32) text) xs t
       (YieldsList-from_slice_split g (λ byte. byte == 32) text rest done callee tests).runs so_far
 
-  pub words_more : (xs : List (Bor (List ℕ))) (t : Split ℕ F) (x : Bor (List ℕ)) (u : Split ℕ F) → Yields (split_steps g) s xs t → split_steps g t (Some x) u
-      → is_word x.now ≡ true → length (words_among (map lent xs)) ≡ 5 → 5 < length (words_of text)
-  words_more xs t x u so_far next word full =
+  -- a word more than so many
+  pub words_more : {most : ℕ} (xs : List (Bor (List ℕ))) (t : Split ℕ F) (x : Bor (List ℕ)) (u : Split ℕ F) → Yields (split_steps g) s xs t
+      → split_steps g t (Some x) u → is_word x.now ≡ true → length (words_among (map lent xs)) ≡ most → most < length (words_of text)
+  words_more {most} xs t x u so_far next word full =
       let front = pieces_front (xs ++ x ∷ []) u (Yields-more (split_steps g) s xs t x u so_far next) in
-      words_over (map lent xs) x.now front.0 (slice_split (λ byte. byte == 32) text) 5
+      words_over (map lent xs) x.now front.0 (slice_split (λ byte. byte == 32) text) most
       (ap (λ (ys : List (List ℕ)). ys ++ front.0) (sym (map-append lent xs (x ∷ []))) ∙ front.1) word full
 
   -- where no more come

@@ -1,7 +1,6 @@
 -- What a writer took so far.
-use Rattle.std.proofs.Common.{◌≡◌, ℕ, [], ◌∷◌, ◌++◌, length, take, drop, Option, refl, sym, ap, subst, ◌∙◌}
-use Rattle.std.proofs.Common.{append_assoc, arith}
-use Rattle.std.proofs.lemmas.List.{append-nil, take-append-drop}
+use Rattle.std.proofs.Common.{◌≡◌, ℕ, [], ◌++◌, take, drop, Option, refl, sym, ap, ◌∙◌, append_assoc}
+use Rattle.std.proofs.lemmas.List.{take-append-drop}
 use Rattle.std.specs.Io.KnownBytes.{Appends, Keeps}
 use Rattle.model.specs.Map.{Bytes}
 use Rattle.scripts.proofs.Runs.{appends_nothing, appends_then, keeps_on}
@@ -25,8 +24,3 @@ written_more a b c bytes rest left n is more w = (
 -- it took none
 pub written_kept : (a b c : Option Bytes) (bytes rest : Bytes) → Keeps b c → Written a b bytes rest → Written a c bytes rest
 written_kept a b c bytes rest kept w = (w.0, w.1, keeps_on a b c w.0 w.2 kept)
-
--- none is left
-pub written_all : (a b : Option Bytes) (bytes rest : Bytes) → length rest ≡ 0 → Written a b bytes rest → Appends a b bytes
-written_all a b bytes [] none w = subst (Appends a b) (sym (append-nil w.0) ∙ sym w.1) w.2
-written_all a b bytes (x ∷ rest) none w = absurd (omega arith)

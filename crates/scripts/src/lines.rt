@@ -2,6 +2,7 @@
 ghost use Rattle.std.specs.Prelude.{◌≡◌, ◌≤◌, ◌<◌, ◌++◌, ◌∷◌, [], List, ℕ, length, take, drop, map, slice_index_or};
 ghost use Rattle.std.specs.Prelude.{MatchOption, OnOk, IsTrue, false};
 ghost use Rattle.resp.specs.Writing.{AppendsText};
+ghost use Rattle.scripts.specs.declared.lines.TheConstants.{WORDS_MAX};
 ghost use Rattle.scripts.specs.Lines.{IsLine, IsNoLine, words_of, part_of, frame_of, on_one_line, printed_line};
 
 use model::Memory;
@@ -26,13 +27,13 @@ impl<'a> Model for Words<'a> {
 
     ghost view = { λ w. take w.count (map (λ part. part.now) w.parts) };
 
-    ghost invariant = { λ w. w.count ≤ 5 };
+    ghost invariant = { λ w. w.count ≤ WORDS_MAX };
 }
 
 impl<'a> Words<'a> {
     /// The words of a text. None where there are more than five. Takes no memory.
     fn of(text: &'a [u8]) -> Option<Words<'a>>
-        ensures { MatchOption result (5 < length (words_of text.now)) (λ words. words ≡ words_of text.now) }
+        ensures { MatchOption result (WORDS_MAX < length (words_of text.now)) (λ words. words ≡ words_of text.now) }
     {
         let mut words = Words::none();
         for word in text.split(|byte| *byte == b' ') {
@@ -57,7 +58,7 @@ impl<'a> Words<'a> {
     // Adds a word at the end, if there is a place for one more.
     fn add(&mut self, word: &'a [u8]) -> bool
         ensures added { IsTrue result → self.new ≡ self.old ++ word.now ∷ [] }
-        ensures full { result ≡ false → length self.old ≡ 5 }
+        ensures full { result ≡ false → length self.old ≡ WORDS_MAX }
     {
         if self.count == WORDS_MAX {
             return false;
@@ -70,7 +71,7 @@ impl<'a> Words<'a> {
     // How many words there are.
     fn len(&self) -> usize
         ensures len { result ≡ length self.now }
-        ensures few { length self.now ≤ 5 }
+        ensures few { length self.now ≤ WORDS_MAX }
     {
         self.count
     }

@@ -9,9 +9,10 @@ use borrow.Rule.Slice.PartMut.{put_mid}
 use Rattle.sector.specs.SectorModel.{Elapses, FollowsWrite, FollowsWrites, sector_in}
 
 -- time goes on, and after the second run a crash leaves nothing that one after the first might not
-pub elapses_on : (m0 m1 m2 : ℕ) (s0 s1 s2 : ℕ → List (List ℕ) → Type 0) (P Q : List (List ℕ) → Type 0) → Elapses m0 m1 s0 s1 P → Elapses m1 m2 s1 s2 Q
-    → ((c : List (List ℕ)) → Q c → P c) → Elapses m0 m2 s0 s2 P
-elapses_on m0 m1 m2 s0 s1 s2 P Q first second within = grind (arith, common_steps)
+pub elapses_on : (begun middle now : ℕ) (since_begun since_middle since_now : ℕ → List (List ℕ) → Type 0) (P Q : List (List ℕ) → Type 0)
+    → Elapses begun middle since_begun since_middle P → Elapses middle now since_middle since_now Q → ((c : List (List ℕ)) → Q c → P c)
+    → Elapses begun now since_begun since_now P
+elapses_on begun middle now since_begun since_middle since_now P Q first second within = grind (arith, common_steps)
 
 -- one write more within these n sectors
 pub writes_on : (at n i : ℕ) (base old new : List (List ℕ) → Type 0) → at ≤ i → i < at + n → ((c : List (List ℕ)) → old c → FollowsWrites at n base c)

@@ -80,8 +80,9 @@ pub trait Sectors: Drop {
     fn read_sectors(&mut self, at: u64, into: &mut [u8]) -> Result<(), DeviceFault>
         requires { AreWithin (size self.old) at into.old }
         ensures counts { KeepsCounts size syncs self.old self.new }
-        ensures failures { AreCounted (length into.old / 512) result (failures self.old) (failures self.new) }
-        ensures gives { keeps_model → OnOk result (MightRead (may_read self.old) at (length into.old / 512) into.new) }
+        ensures failures { AreCounted (length into.old / SECTOR_SIZE) result (failures self.old) (failures self.new) }
+        ensures gives { keeps_model
+            → OnOk result (MightRead (may_read self.old) at (length into.old / SECTOR_SIZE) into.new) }
         ensures reads { keeps_model → ReadsNoMore (may_read self.old) (may_read self.new) }
         ensures crash { keeps_model → LeavesNoMore (may_leave self.old) (may_leave self.new) }
         ensures time { keeps_model → TimeGoesOn moment left_since self.old self.new (may_leave self.old) }
@@ -99,10 +100,10 @@ pub trait Sectors: Drop {
     fn write_sectors(&mut self, at: u64, from: &[u8]) -> Result<(), DeviceFault>
         requires { AreWithin (size self.old) at from.now }
         ensures counts { KeepsCounts size syncs self.old self.new }
-        ensures failures { AreCounted (length from.now / 512) result (failures self.old) (failures self.new) }
+        ensures failures { AreCounted (length from.now / SECTOR_SIZE) result (failures self.old) (failures self.new) }
         ensures written { keeps_model → OnOk result (ReadsBytes (may_read self.new) at from.now) }
         ensures others { keeps_model
-            → ReadsNoMoreOutside at (length from.now / 512) (may_read self.old) (may_read self.new) }
+            → ReadsNoMoreOutside at (length from.now / SECTOR_SIZE) (may_read self.old) (may_read self.new) }
         ensures crash { keeps_model
             → LeavesNoMore (FollowsBytes at from.now (may_leave self.old)) (may_leave self.new) }
         ensures time { keeps_model

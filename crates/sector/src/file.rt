@@ -163,7 +163,7 @@ fn with_whole_sectors(file: OpenedFile, drops_copies: bool) -> io::Result<FileSe
 
 /// How many sectors have so many bytes, where these are whole sectors.
 fn whole_sectors(len: u64) -> Option<u64>
-    ensures count { MatchOption result (len % 512 ≢ 0) (λ count. len ≡ count * 512) }
+    ensures count { MatchOption result (len % SECTOR_SIZE ≢ 0) (λ count. len ≡ count * SECTOR_SIZE) }
     ensures fits { IfSome result (λ count. count < 2 ^ 55) }
 {
     let rest = len % SECTOR_SIZE as u64;
@@ -227,9 +227,9 @@ impl Sectors for FileSectors {
         requires { at ≤ self.old.file.sectors }
         ensures syncs { self.new.syncs ≡ self.old.syncs }
         ensures failures { IsCounted result self.old.failures self.new.failures }
-        ensures long { length into.new ≡ 512 }
+        ensures long { length into.new ≡ SECTOR_SIZE }
         ensures one_call { self.new.file ≡ file_after_call self.old.file }
-        ensures happened { ReportsOutcome result self.old.failures (WasRead self.old.file (at * 512) into.new) }
+        ensures happened { ReportsOutcome result self.old.failures (WasRead self.old.file (at * SECTOR_SIZE) into.new) }
     {
         self.read_sectors(at, into)
     }
@@ -239,9 +239,10 @@ impl Sectors for FileSectors {
         requires { at ≤ self.old.file.sectors }
         ensures syncs { self.new.syncs ≡ self.old.syncs }
         ensures failures { IsCounted result self.old.failures self.new.failures }
-        ensures long { length from.now ≡ 512 }
+        ensures long { length from.now ≡ SECTOR_SIZE }
         ensures one_call { self.new.file ≡ file_after_call self.old.file }
-        ensures happened { ReportsOutcome result self.old.failures (WasWritten self.old.file (at * 512) from.now) }
+        ensures happened { ReportsOutcome result self.old.failures
+            (WasWritten self.old.file (at * SECTOR_SIZE) from.now) }
     {
         self.write_sectors(at, from)
     }
@@ -253,7 +254,7 @@ impl Sectors for FileSectors {
         ensures failures { IsCounted result self.old.failures self.new.failures }
         ensures long { length into.new ≡ length into.old }
         ensures one_call { self.new.file ≡ file_after_call self.old.file }
-        ensures happened { ReportsOutcome result self.old.failures (WasRead self.old.file (at * 512) into.new) }
+        ensures happened { ReportsOutcome result self.old.failures (WasRead self.old.file (at * SECTOR_SIZE) into.new) }
     {
         let outcome = self.file.read(at * SECTOR_SIZE as u64, into);
         self.reported(outcome)
@@ -265,7 +266,8 @@ impl Sectors for FileSectors {
         ensures syncs { self.new.syncs ≡ self.old.syncs }
         ensures failures { IsCounted result self.old.failures self.new.failures }
         ensures one_call { self.new.file ≡ file_after_call self.old.file }
-        ensures happened { ReportsOutcome result self.old.failures (WasWritten self.old.file (at * 512) from.now) }
+        ensures happened { ReportsOutcome result self.old.failures
+            (WasWritten self.old.file (at * SECTOR_SIZE) from.now) }
     {
         let outcome = self.file.write(at * SECTOR_SIZE as u64, from);
         self.reported(outcome)

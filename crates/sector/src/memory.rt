@@ -79,7 +79,7 @@ impl MemSectors {
 
     /// A device of `count` sectors of zeros, all settled. It takes about 1 KiB for each sector; `Memory` where they are refused.
     pub fn new(alloc: Global, count: u64) -> Result<Self, Memory>
-        ensures image { IfOk result (λ m. image m ≡ replicate count (replicate 512 0)) }
+        ensures image { IfOk result (λ m. image m ≡ replicate count (replicate SECTOR_SIZE 0)) }
         ensures settled { IfOk result IsAllSettled }
         ensures failures { IfOk result (λ m. m.failures ≡ 0) }
         ensures failing { IfOk result (λ m. calls_to_failure m ≡ 0) }
@@ -103,7 +103,7 @@ impl MemSectors {
     /// A device of these bytes, all settled, whose number is one of whole sectors. It takes about 1 KiB for each sector; `Memory` where
     /// they are refused.
     pub fn from_image(alloc: Global, bytes: &[u8]) -> Result<Self, Memory>
-        requires { length bytes.now % 512 ≡ 0 }
+        requires { length bytes.now % SECTOR_SIZE ≡ 0 }
         ensures image { IfOk result (λ m. concat (image m) ≡ bytes.now) }
         ensures settled { IfOk result IsAllSettled }
         ensures failures { IfOk result (λ m. m.failures ≡ 0) }

@@ -273,13 +273,13 @@ module _ (h : HubState) (invariant : Invariant h) (s : ℕ) (st : SessionStream)
           → Invariant (record (with_stream h s v) { machine = (step h.machine s (asks parts) f).0 })
       by (Kept none e) = changed v _ (λ q t apart k. sym (ap (find nat_cmp q) e)
           ∙ k) (λ t k. (let bad : None ≡ Some t = sym none ∙ sym (ap (find nat_cmp s) e) ∙ k in absurd (cc)))
-      by (Opened t0 begins answered no_requests no_replies e) =
-          changed v _ (λ q t apart k. sym (put-apart h.machine s q t0 apart) ∙ sym (ap (find nat_cmp q) e) ∙ k) (λ t k.
-          let same : t0 ≡ t = some_same (sym (put-same h.machine s t0) ∙ sym (ap (find nat_cmp s) e) ∙ k) in grind (arith, common_steps, asked_all))
-      by (Owned t0 t1 was requests_are replies_are e) =
-          changed v _ (λ q t apart k. sym (put-apart h.machine s q t1 apart) ∙ sym (ap (find nat_cmp q) e) ∙ k) (λ t k.
-          let same : t1 ≡ t = some_same (sym (put-same h.machine s t1) ∙ sym (ap (find nat_cmp s) e) ∙ k) in
-          let o = had t0 was in grind (arith, common_steps, asked_all))
+      by (Opened begun begins answered no_requests no_replies e) =
+          changed v _ (λ q t apart k. sym (put-apart h.machine s q begun apart) ∙ sym (ap (find nat_cmp q) e) ∙ k) (λ t k.
+          let same : begun ≡ t = some_same (sym (put-same h.machine s begun) ∙ sym (ap (find nat_cmp s) e) ∙ k) in grind (arith, common_steps, asked_all))
+      by (Owned before after was requests_are replies_are e) =
+          changed v _ (λ q t apart k. sym (put-apart h.machine s q after apart) ∙ sym (ap (find nat_cmp q) e) ∙ k) (λ t k.
+          let same : after ≡ t = some_same (sym (put-same h.machine s after) ∙ sym (ap (find nat_cmp s) e) ∙ k) in
+          let o = had before was in grind (arith, common_steps, asked_all))
       by (Ended e) = changed v _ (λ q t apart k. (left-some h.machine s q t (sym (ap (find nat_cmp q) e) ∙ k)).1)
           (λ t k. absurd ((left-some h.machine s s t (sym (ap (find nat_cmp s) e) ∙ k)).0 refl))
 

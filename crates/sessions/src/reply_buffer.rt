@@ -1,6 +1,7 @@
 //! The buffer of one reply, until it was sent. A long reply has a buffer of its own.
 ghost use Rattle.std.specs.Prelude.{◌≡◌, ◌≤◌, ◌<◌, ◌+◌, ◌++◌, [], length, vec_len, vec_capacity, IfOk, OnOk, OnErr};
 ghost use Rattle.std.specs.Fmt.{decimal};
+ghost use Rattle.model.specs.declared.values.TheConstants.{PAIRS_MAX};
 ghost use Rattle.model.specs.Grammar.{bulk};
 
 use crate::events::{OUTPUT_KEPT, OUTPUT_ROOM};
@@ -56,7 +57,7 @@ fn move_text(brief: &mut Vec<u8>, large: &mut Vec<u8>, more: usize) -> Result<()
 /// Room for a brief text: it asked for `OUTPUT_ROOM` bytes and no more.
 fn brief_room(alloc: Global) -> Result<Vec<u8>, Memory>
     ensures empty { IfOk result (λ v. v.items ≡ []) }
-    ensures exact { IfOk result (λ v. vec_capacity v ≡ 536) }
+    ensures exact { IfOk result (λ v. vec_capacity v ≡ OUTPUT_ROOM) }
 {
     match Vec::with_capacity(alloc, OUTPUT_ROOM) {
         Ok(room) => Ok(room),
@@ -74,13 +75,14 @@ struct ReplyText {
 
 impl Model for ReplyText {
     ghost use Rattle.std.specs.Prelude.{ℕ, List, ◌≡◌, ◌≤◌, ◌<◌, ◌++◌, vec_len, vec_capacity};
+    ghost use Rattle.sessions.specs.declared.events.TheConstants.{OUTPUT_ROOM};
     ghost use Rattle.sessions.specs.Calls.{output_kept};
 
     ghost Value = { List ℕ };
 
     ghost view = { λ t. t.brief.items ++ t.large.items };
 
-    ghost invariant = { λ t. (536 ≤ vec_capacity t.brief) × (0 < vec_len t.large → vec_len t.brief ≡ 0)
+    ghost invariant = { λ t. (OUTPUT_ROOM ≤ vec_capacity t.brief) × (0 < vec_len t.large → vec_len t.brief ≡ 0)
         × (vec_len t.large ≡ 0 → vec_capacity t.large ≤ output_kept) };
 }
 
@@ -133,7 +135,7 @@ impl ReplyText {
         requires brief { IsBrief reply.now }
         requires empty { self.old ≡ [] }
         ensures written { Writes (Some (response_of reply.now)) self.new result }
-        ensures short { length (reply_text (response_of reply.now)) ≤ 536 }
+        ensures short { length (reply_text (response_of reply.now)) ≤ OUTPUT_ROOM }
     {
         write_reply(&mut self.brief, reply)
     }
@@ -179,7 +181,7 @@ impl ReplyText {
     /// Writes the pairs of a range, in `large` where their text is longer than `OUTPUT_ROOM` bytes; `Memory` where room for it is refused
     /// there.
     fn write_pairs(&mut self, rows: Rows<'_>) -> Result<(), Memory>
-        requires few { length (row_pairs rows) ≤ 128 }
+        requires few { length (row_pairs rows) ≤ PAIRS_MAX }
         requires in_bounds { IsInBounds (row_pairs rows) }
         requires empty { self.old ≡ [] }
         ensures ok { OnOk result (self.new ≡ reply_text (Pairs (row_pairs rows.entry))) }
@@ -282,7 +284,7 @@ impl ReplyBuffer {
     /// Writes the pairs of a range. It takes memory where their text is longer than `OUTPUT_ROOM` bytes; `Memory` where that is refused,
     /// and nothing is left then.
     pub(crate) fn write_pairs(&mut self, rows: Rows<'_>) -> Result<(), Memory>
-        requires few { length (row_pairs rows) ≤ 128 }
+        requires few { length (row_pairs rows) ≤ PAIRS_MAX }
         requires in_bounds { IsInBounds (row_pairs rows) }
         ensures ok { OnOk result (self.new ≡ reply_text (Pairs (row_pairs rows.entry))) }
         ensures err { OnErr result (self.new ≡ []) }

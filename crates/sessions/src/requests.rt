@@ -1,5 +1,6 @@
 //! Executes one request of a session, and writes its reply to the session's output.
 ghost use Rattle.std.specs.Prelude.{◌≡◌, ◌≤◌, [], true, false};
+ghost use Rattle.model.specs.declared.values.TheConstants.{PAIRS_MAX};
 ghost use Rattle.model.specs.KeyBytes.{key_bytes, end_bytes};
 ghost use Rattle.model.specs.Operations.{operation_of, IsFit};
 ghost use Rattle.model.specs.Operations.Operation.{Get, Range, Abort as ToAbort, Commit as ToCommit};
@@ -66,7 +67,7 @@ fn range<D: Sectors>(
     out: &mut ReplyBuffer,
 ) -> Result<(), Memory>
     requires empty { out.old ≡ [] }
-    requires limit { (1 ≤ limit) × (limit ≤ 128) }
+    requires limit { (1 ≤ limit) × (limit ≤ PAIRS_MAX) }
     ensures step { Executes engine.old engine.new s (range_of range.entry limit) false out.new result }
     ensures log { log_of engine.new ≡ log_of engine.old }
 {

@@ -120,7 +120,7 @@ answer_held t m qs q h = ap (λ c. (respond c q).0) (sym h.copy)
 -- the fault of a read is the response, or memory was refused
 pub read_fault : (e : SnapshotFault) (full : Bool) (response : Response) → e ≢ FullWrites → (◌≡◌ {A = SnapshotFault} e FullMarks ↔ IsTrue full)
     → (full ≡ true → response ≡ Refused refusal.FullMarks) → (full ≡ false → is_refused response ≡ false) → IsFault e response
-read_fault a0 a1 a2 a3 a4 a5 a6 = grind (arith, common_steps, cases_Bool)
+read_fault e full response never iff refused kept = grind (arith, common_steps, cases_Bool)
 
 pub get-made : (t : View) (m : KeyMap) (qs : List Operation) (k : Bytes) → is_full_get t k ≡ false → HasMade t m qs
     → HasMade (after_get t k) m (qs ++ Get k ∷ [])
@@ -185,15 +185,15 @@ room_after r b iff other = elim (cases_Bool b) [ inl t ↦ absurd (other (iff.1 
 
 pub write-reply : (r : Result (Unit {0}) faults.WritesFault) (t : View) (new : List KeyWrite) (m : KeyMap) (qs : List Operation) (k : Bytes) (v : Option Bytes)
     → Answered r t.writes new k v → HasMade t m qs → IsDoneReply (as_fault r) (answer m qs (write_of k v))
-write-reply a0 a1 a2 a3 a4 a5 a6 a7 a8 = grind (arith, common_steps, put-done, room_after, put-refused, put-granted)
+write-reply r t new m qs k v answered made = grind (arith, common_steps, put-done, room_after, put-refused, put-granted)
 
 pub write-made : (r : Result (Unit {0}) faults.WritesFault) (t : View) (new : List KeyWrite) (k : Bytes) (v : Option Bytes) → Answered r t.writes new k v
     → OnOk (as_fault r) (MakesOneMore t (record t { writes = new }) (write_of k v))
-write-made a0 a1 a2 a3 a4 a5 = grind (arith, common_steps, put-made, room_after)
+write-made r t new k v answered = grind (arith, common_steps, put-made, room_after)
 
 pub write-full : (r : Result (Unit {0}) faults.WritesFault) (old new : List KeyWrite) (k : Bytes) (v : Option Bytes) → Answered r old new k v
     → (as_fault r ≡ Err FullWrites) ↔ IsTrue (buffer.is_full_for_key old k)
-write-full a0 a1 a2 a3 a4 a5 = grind (arith, common_steps)
+write-full r old new k v answered = grind (arith, common_steps)
 
 -- the mark of a read changes no answer
 pub read-after_get : (t u : View) (v : ChainsValue) (k : Bytes) → u ≡ after_get t k → value_read u (map_seen v u.begin) k ≡ value_read t (map_seen v t.begin) k

@@ -54,15 +54,15 @@ none_left (x ∷ xs) (suc n) h = let inner = none_left xs n h in omega (arith, i
 
 pub taken_length : (n : ℕ) (xs : KeyMap) → take (length (take n xs)) xs ≡ take n xs
 taken_length (suc n) (x ∷ xs) = ap (λ l. x ∷ l) (taken_length n xs)
-taken_length b0 b1 = refl
+taken_length n xs = refl
 
 pub taken_within : (n : ℕ) (xs : KeyMap) → length (take n xs) ≤ length xs
 taken_within (suc n) (x ∷ xs) = let inner = taken_within n xs in omega (arith, inner)
-taken_within b0 b1 = omega arith
+taken_within n xs = omega arith
 
 pub taken_few : (n : ℕ) (xs : KeyMap) → length (take n xs) ≤ n
 taken_few (suc n) (x ∷ xs) = let inner = taken_few n xs in omega (arith, inner)
-taken_few b0 b1 = omega arith
+taken_few n xs = omega arith
 
 -- where none is left behind the first n, no more are taken
 pub taken_same : (n limit : ℕ) (xs : KeyMap) → drop n xs ≡ [] → n ≤ limit → take limit xs ≡ take n xs
@@ -98,7 +98,7 @@ module _ (p : Bytes → Bool) where
 
   keys-taken : (n : ℕ) (es : KeyMap) → HaveKeys p es → HaveKeys p (take n es)
   keys-taken (suc n) (e ∷ es) h = (h.0, keys-taken n es h.1)
-  keys-taken b0 b1 h = tt
+  keys-taken n es h = tt
 
   last_has : (es : KeyMap) (k : Bytes) → HaveKeys p es → last_key es ≡ Some k → p k ≡ true
   last_has [] k h e = cc

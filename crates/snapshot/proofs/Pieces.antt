@@ -26,7 +26,7 @@ pub rest_all : {X : Type 0} (l : List X) (a : ℕ) → take (length l - a) (drop
 rest_all l a = ap (λ n. take n (drop a l)) (sym (length-drop a l)) ∙ take-length (drop a l)
 
 turned_le : (o : Ordering) → is_le o ≡ not (is_lt (ordering_reverse o))
-turned_le a0 = grind (arith, common_steps)
+turned_le o = grind (arith, common_steps)
 
 pub all-below : {X : Type 0} (es : List (Bytes × X)) → where_key (slice_cmp nat_cmp) (λ q. is_below q None) es ≡ es
 all-below [] = refl
@@ -120,7 +120,7 @@ found_one q w ws f r (p ∷ ps) h =
   where
     hidden : (a b : Bool) (x : Option Bytes) (o : Option (Option Bytes)) (v : Bytes) (z : Option Bytes) → a ≡ b
         → or_else (cond a (Some x) o) z ≡ or_else (cond a (Some x) o) (cond b (Some v) z)
-    hidden a0 a1 a2 a3 a4 a5 a6 = grind (arith, common_steps)
+    hidden a b x o v z same = grind (arith, common_steps)
 
 -- both at once: the pairs stay in order, and each key has its write's value or its pair's
 record Merging (ws : List KeyWrite) : Type 0 where

@@ -1,5 +1,5 @@
 -- Calls of a stream follow one another.
-use Rattle.std.proofs.Common.{◌≡◌, refl, ◌∙◌, arith}
+use Rattle.std.proofs.Common.{refl, ◌∙◌, arith}
 use Rattle.stream_driver.specs.Traffic.{Traffic, SameCounts, after_call, AllMoved, CountsLast}
 use Rattle.stream_driver.specs.Types.{Call}
 
@@ -15,7 +15,3 @@ same_after call a b s = grind arith
 
 pub ends_then : (call : Call) (a b c : Traffic) → AllMoved a b → CountsLast call b c → CountsLast call a c
 ends_then call a b c p (counts, last) = (moved_then (after_call call a) (after_call call b) c (same_after call a b p) counts, last)
-
--- a call is of the connection of which those before it were
-pub ends_same : (call : Call) (a b : Traffic) → CountsLast call a b → b.connection ≡ a.connection
-ends_same call a b ends = grind arith

@@ -1,5 +1,5 @@
 -- A stream that buffers nothing has room.
-use Rattle.std.proofs.Common.{◌≡◌, ◌≢◌, inl, inr, ℕ, ◌-◌, ◌<◌, ◌≤◌, ◌⊎◌, ◌↔◌, not, true, false, List, [], ◌∷◌, ◌++◌}
+use Rattle.std.proofs.Common.{◌≡◌, ◌≢◌, inl, inr, ℕ, ◌-◌, ◌<◌, ◌≤◌, ◌⊎◌, ◌↔◌, not, true, false, List, [], ◌++◌}
 use Rattle.std.proofs.Common.{append_assoc, Bool, length, take, drop, vec_len, refl, sym, ap, subst, ◌∙◌, arith}
 use Rattle.std.proofs.Common.{length-drop}
 use Rattle.std.proofs.lemmas.Grind.{common_steps}
@@ -11,13 +11,13 @@ use Rattle.stream_driver.proofs.Carry.{grown}
 use Rattle.stream_driver.specs.Buffers.{buffered_in, BehindEnds, BehindMoved, FlushFails, GivesSome, KeepsBytes}
 use Rattle.stream_driver.specs.Buffers.{ShortAfter, TakesSome, InnerWasRead, WhyGave, WhyGaveSome, WhyTook}
 use Rattle.stream_driver.specs.Buffers.{WhyTookSome, traffic_through, ReadFails, RoomFails, StaysFailed, WhyRoom}
-use Rattle.stream_driver.specs.Buffers.{WriteFails, HasFailed, KeepsTurn, WritesBuffered, buffer_room, Flushes}
+use Rattle.stream_driver.specs.Buffers.{WriteFails, KeepsTurn, WritesBuffered, buffer_room, Flushes}
 use Rattle.stream_driver.specs.Buffers.{WhyBufferFlushed}
 use Rattle.stream_driver.specs.Traffic.{AllMoved, Departure, DepartAt, CountsLast, IsBeginning, ReadsWithin, Traffic}
 use Rattle.stream_driver.specs.Traffic.{WritesWithin, bytes_read, bytes_written}
 use Rattle.stream_driver.specs.Types.{ReadAnswer, Moved, WriteAnswer, Wrote, WriteBlocked, WriteFailed, Read, Write}
 use Rattle.stream_driver.specs.Types.{BufferedBytes, Flushed, All, FlushedBlocked as Blocked, FlushedFailed as Failed}
-use Rattle.stream_driver.specs.Types.{BufferedStream, Blocked as ReadBlocked, Failed as ReadFailed}
+use Rattle.stream_driver.specs.Types.{BufferedStream}
 
 empty_room : (h : BufferedBytes) → buffered_in h ≡ [] → 0 < buffer_room h
 empty_room h e =
@@ -101,15 +101,6 @@ module _ {T : Type 0} where
     writer = q.writer ∙ p.writer;
     heavy = q.heavy ∙ p.heavy;
   }
-
-  -- what has failed to leave, if there is any
-  fails_with : (b : BufferedStream T) → b.has_failed ≡ true → (buffered : List ℕ) → buffered_in b.buffered ≡ buffered
-      → HasFailed b ⊎ ((buffered_in b.buffered ≡ []) × StaysFailed b b)
-  fails_with b failed [] is = inr (is, inl (refl, refl))
-  fails_with b failed (x ∷ xs) is = inl (grind (arith, common_steps), failed)
-
-  stays_failed : (b : BufferedStream T) → b.has_failed ≡ true → HasFailed b ⊎ ((buffered_in b.buffered ≡ []) × StaysFailed b b)
-  stays_failed b failed = fails_with b failed (buffered_in b.buffered) refl
 
   read_fails : (old new : BufferedStream T) (answer : ReadAnswer) → buffered_in new.buffered ≡ [] → StaysFailed old new → ReadFails old answer new
   read_fails old new answer none stays = grind arith
@@ -278,17 +269,6 @@ module _ {T : Type 0} where
         )
 
     -- a share that is used up
-    pub gave_none : (b : BufferedStream T) (bytes : List ℕ) → GivesSome reports traffic moment b bytes ReadBlocked b bytes
-    gave_none b bytes = record {
-      within = tt;
-      received = λ t. sym (append-nil (traffic b.inner).received);
-      sent = λ t. refl;
-      departed = λ t. none_departed refl;
-      counts = refl;
-      failed = inl (refl, refl);
-      short = record { short = refl; drained = refl; reads_on = refl; turn = same_turn };
-    }
-
     pub took_none : (b : BufferedStream T) (from : List ℕ) → TakesSome reports traffic moment b from WriteBlocked b
     took_none b from = record {
       within = tt;
@@ -297,32 +277,6 @@ module _ {T : Type 0} where
       departed = λ t. none_departed refl;
       counts = refl;
       failed = inl (refl, refl);
-      short = refl;
-      drained = refl;
-      reads_on = refl;
-      turn = same_turn;
-    }
-
-    -- what is buffered has failed to leave
-    pub gave_failed : (b : BufferedStream T) (bytes : List ℕ) → b.has_failed ≡ true → GivesSome reports traffic moment b bytes ReadFailed b bytes
-    gave_failed b bytes failed = record {
-      within = tt;
-      received = λ t. sym (append-nil (traffic b.inner).received);
-      sent = λ t. refl;
-      departed = λ t. none_departed refl;
-      counts = refl;
-      failed = stays_failed b failed;
-      short = record { short = refl; drained = refl; reads_on = refl; turn = same_turn };
-    }
-
-    pub took_failed : (b : BufferedStream T) (from : List ℕ) → b.has_failed ≡ true → TakesSome reports traffic moment b from WriteFailed b
-    took_failed b from failed = record {
-      within = tt;
-      received = λ t. refl;
-      sent = λ t. sym (append-nil ((traffic b.inner).sent ++ buffered_in b.buffered));
-      departed = λ t. none_departed refl;
-      counts = refl;
-      failed = stays_failed b failed;
       short = refl;
       drained = refl;
       reads_on = refl;

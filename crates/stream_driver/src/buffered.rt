@@ -70,7 +70,7 @@ pub struct BufferedStream<S: Stream> {
 }
 
 impl<S: Stream> BufferedStream<S> {
-    ghost use Rattle.std.specs.Prelude.{◌≡◌, ◌≢◌, ◌≤◌, ◌↔◌, ◌||◌, [], IfOk, length, true, false};
+    ghost use Rattle.std.specs.Prelude.{◌≡◌, ◌≢◌, ◌≤◌, ◌↔◌, [], IfOk, length, true};
     ghost use Rattle.stream_driver.specs.Buffers.{IsNew, fresh, has_had_share, in_turn_of, buffered_in};
     ghost use Rattle.stream_driver.specs.Buffers.{is_flushed_or_failed};
     ghost use Rattle.stream_driver.specs.Buffers.{Finishes, Flushes, KeepsBytes, RoomFails, WhyRoom, WritesBuffered};

@@ -1,5 +1,6 @@
 //! The buffer of a buffered stream: bytes that wait to be sent.
 ghost use Rattle.std.specs.Prelude.{◌≡◌, ◌≤◌, vec_len, vec_capacity};
+ghost use Rattle.stream_driver.specs.declared.buffered_bytes.TheConstants.{BUFFERED_MAX};
 
 use std::alloc::{AllocError, Global};
 
@@ -13,12 +14,12 @@ pub(crate) struct BufferedBytes {
     left: usize,
     ghost some_left: { left ≤ vec_len bytes },
     ghost empty: { left ≡ vec_len bytes → left ≡ 0 },
-    ghost few: { vec_len bytes ≤ 16384 },
-    ghost room: { 16384 ≤ vec_capacity bytes },
+    ghost few: { vec_len bytes ≤ BUFFERED_MAX },
+    ghost room: { BUFFERED_MAX ≤ vec_capacity bytes },
 }
 
 impl BufferedBytes {
-    ghost use Rattle.std.specs.Prelude.{◌<◌, ◌++◌, [], length, take, drop, min, true, IfOk, ◌↔◌};
+    ghost use Rattle.std.specs.Prelude.{◌++◌, [], length, take, drop, min, true, IfOk, ◌↔◌};
     ghost use Rattle.stream_driver.specs.Buffers.{buffered_in, buffer_room};
 
     /// An empty buffer. Takes the memory for `BUFFERED_MAX` bytes.

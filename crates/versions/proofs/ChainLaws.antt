@@ -50,22 +50,6 @@ pub record IsWalked (c : ChainValue) (high until : ℕ) (rest : List Stamped) : 
   pub left : (n : ℕ) → n < until → last_at n None rest ≡ version_at n c
   pub over : (n : ℕ) → until ≤ n → n < high → hides n c ≡ true
 
--- the newest is too new
-pub walked_new : (c : ChainValue) (high : ℕ) → high ≤ c.newest.number → IsWalked c high high c.older
-walked_new c high le = record {
-  below = omega arith;
-  left = λ n lt. grind (arith, nat_tests);
-  over = λ n low lt. absurd (omega arith);
-}
-
--- the newest is a deletion
-pub walked_newest : (c : ChainValue) (high : ℕ) → c.newest.number < high → is_some c.newest.value ≡ false → IsWalked c high c.newest.number c.older
-walked_newest c high lt none = record {
-  below = omega arith;
-  left = λ n lt. grind (arith, nat_tests);
-  over = λ n low lt. grind (arith, nat_tests, none_is c.newest.value none);
-}
-
 -- a version is too new
 pub walked_past : (c : ChainValue) (high until : ℕ) (vs us : List Stamped) (v : Stamped) (number : ℕ) → vs ≡ us ++ v ∷ [] → number ≡ v.number → until ≤ number
     → IsWalked c high until vs → IsWalked c high until us
@@ -106,19 +90,6 @@ pub walked_value : (c : ChainValue) (high until : ℕ) (vs us : List Stamped) (v
     → low ≤ m → ((n : ℕ) → m ≤ n → n < high → hides n c ≡ true) → max low until ≤ m
 walked_value c high until vs us v number low m is same lt some w from hidden =
     ends c v number low until high m lt w.below some (λ n le top. met n vs us v number _ is same le (w.left n top)) from hidden
-
--- the newest is what the numbers from its own on see
-pub newest_value : (c : ChainValue) (low high m : ℕ) → c.newest.number < high → is_some c.newest.value ≡ true → low ≤ m
-    → ((n : ℕ) → m ≤ n → n < high → hides n c ≡ true) → max low high ≤ m
-newest_value c low high m lt some from hidden =
-    ends c c.newest c.newest.number low high high m lt (omega arith) some (λ n le top. grind (arith, nat_tests)) from hidden
-
--- no version is left
-pub walked_all : (c : ChainValue) (high until : ℕ) → IsWalked c high until [] → (n : ℕ) → n < high → hides n c ≡ true
-walked_all c high until w n lt = elim (nat_lt n until) as (λ b. nat_lt n until ≡ b → hides n c ≡ true) [
-  | true ↦ λ t. (let same = w.left n (grind (arith, nat_tests)) in ap (λ v. is_none (value_of v)) (sym same))
-  | false ↦ λ f. w.over n (grind (arith, nat_tests)) lt
-] refl
 
 -- ---- a version more
 

@@ -1,18 +1,16 @@
 -- A buffer with one more write.
 use Rattle.std.proofs.Common.{◌≡◌, ℕ, ◌+◌, ◌<◌, ◌≤◌, Bool, true, false, not, cond, ◌&&◌, List, [], ◌∷◌, length}
-use Rattle.std.proofs.Common.{get_or, set, Option, Some, Result, Err, refl, sym, ap, subst, ◌∙◌, arith}
+use Rattle.std.proofs.Common.{get_or, set, Option, Some, refl, sym, ap, subst, ◌∙◌, arith}
 use Rattle.std.proofs.lemmas.Bool.{both_ways, ltb-true}
 use Rattle.std.specs.Cmp.Lexicographic.{slice_cmp, nat_list_cmp_total}
 use Rattle.std.specs.FinMap.Entries.{put, by_order, is_sorted-put, length-put}
 use Rattle.std.specs.List.{AllByRecursion, insert}
 use Rattle.std.specs.Ordering.{nat_cmp}
-use Rattle.std.specs.Prelude.{nat_lt, is_some, IsTrue, ◌↔◌}
+use Rattle.std.specs.Prelude.{nat_lt, is_some}
 use Rattle.std.specs.declared.cmp.Ordering.TheVariants.{Less, Equal, Greater}
 use Rattle.model.specs.Entries.{IsAt, IsGap}
 use Rattle.model.specs.Map.{Bytes, KeyWrite, key_cmp}
 use Rattle.write_buffer.specs.Buffered.{AreEntries, IsWithinLimits, is_full_for_key, last_write}
-use Rattle.write_buffer.specs.declared.faults.WritesFault.{WritesFault}
-use Rattle.write_buffer.specs.declared.faults.WritesFault.TheVariants.{FullWrites}
 
 within-put : (k : Bytes) (v : Option Bytes) (ws : List KeyWrite) → IsWithinLimits (k, v) → AllByRecursion IsWithinLimits ws
     → AllByRecursion IsWithinLimits (put (slice_cmp nat_cmp) k v ws)
@@ -41,9 +39,6 @@ entries-put k v ws h p room = record {
 -- the write is there
 pub not_full : (ws : List KeyWrite) (k : Bytes) (o : Option Bytes) → last_write ws k ≡ Some o → is_full_for_key ws k ≡ false
 not_full ws k o e = ap (λ w. not (is_some w) && not (nat_lt (length ws) 64)) e
-
-pub only_full : (r : Result (Unit {0}) WritesFault) (b : Bool) → (r ≡ Err FullWrites → ⊥) → b ≡ false → (r ≡ Err FullWrites) ↔ IsTrue b
-only_full r b other fails = (λ e. absurd (other e), λ t. absurd (both_ways b fails t))
 
 pub set_there : (ws us : List KeyWrite) (k j : Bytes) (i : ℕ) (e f : KeyWrite) (v : Option Bytes) → us ≡ ws → IsAt ws k i → k ≡ j → e ≡ get_or us i e
     → f ≡ (e.0, v) → set us i f ≡ put (slice_cmp nat_cmp) j v ws

@@ -1,7 +1,6 @@
 use Rattle.write_buffer.proofs.buffer.WriteBuffer.is_full_for.Goals as goal
 use Rattle.std.proofs.Common.{sym, ap, ◌∙◌, [], None}
 use Rattle.write_buffer.proofs.BufferLaws.{not_full}
-use Rattle.write_buffer.specs.Buffered.{is_full_for_key}
 
 pub returns-in-Ok-clause-full : goal.returns-in-Ok-clause-full
 returns-in-Ok-clause-full c =
