@@ -8,6 +8,7 @@
 #![tactic(auto)]
 
 mod connections;
+mod laws;
 mod lingering;
 mod listener;
 mod listening;
@@ -18,6 +19,7 @@ mod socket;
 mod waiting;
 
 pub use connections::{Backlog, Refusal, accept_some};
+pub use laws::law_limits;
 pub use lingering::{Dropped, LINGERING_BYTES, LINGERING_BYTES_A_TURN, LINGERING_MAX, drop_input};
 pub use listener::{AcceptAnswer, Listener, Port};
 pub use listening::Unbound;

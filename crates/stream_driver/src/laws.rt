@@ -1,4 +1,6 @@
-//! The law that what drives do to a hub is a run of its events: the contract of a function that does nothing.
+//! Laws, each the contract of a function that does nothing: what drives do to a hub is a run of its events, and how large shares are.
+ghost use Rattle.std.specs.Prelude.{◌≡◌};
+ghost use Rattle.stream_driver.specs.declared.buffered.TheConstants.{LIGHT_MAX, SHARE_MAX};
 ghost use Rattle.stream_driver.specs.Sessions.{LeadsAreRuns};
 
 use sector::Sectors;
@@ -12,3 +14,9 @@ pub fn law_leads_are_runs<D: Sectors>(hub: &Hub<D>)
     // The law speaks of any hub: this one is named for its types alone.
     let _ = hub;
 }
+
+/// Does nothing, and takes no memory. Its contract says how many bytes a share of a turn is, and a light one: other clauses have the names.
+pub fn law_shares()
+    ensures whole { SHARE_MAX ≡ 262144 }
+    ensures light { LIGHT_MAX ≡ 32768 }
+{}

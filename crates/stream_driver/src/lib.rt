@@ -17,5 +17,5 @@ pub use buffered_bytes::BUFFERED_MAX;
 pub use counts::CallCounts;
 pub use driving::{READ_MAX, REQUESTS_MAX, drive};
 pub use entries::{Entry, EntryState, drive_ready, end_drive};
-pub use laws::law_leads_are_runs;
+pub use laws::{law_leads_are_runs, law_shares};
 pub use stream::Stream;
