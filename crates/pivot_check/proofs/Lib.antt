@@ -13,3 +13,4 @@ pub mod SameHistories
 pub mod Joined
 pub mod Sweeps
 pub mod Redundancy
+pub mod FewPostings

@@ -1,6 +1,7 @@
 -- Postings that none who may ask is answered by.
 use Rattle.std.specs.List.{AllByRecursion, list_all}
-use Rattle.std.specs.Prelude.{◌≡◌, ◌≤◌, ℕ, Bool, true, false, not, ◌&&◌, ◌||◌, nat_le, nat_lt, List, [], ◌∷◌}
+use Rattle.std.specs.Prelude.{◌≡◌, ◌≤◌, ◌+◌, ◌*◌, ℕ, Bool, true, false, not, ◌&&◌, ◌||◌, nat_le, nat_lt}
+use Rattle.std.specs.Prelude.{List, [], ◌∷◌, length}
 use Rattle.model.specs.Map.{is_same_key}
 use Rattle.pivot_check.specs.Kept.{Reach, may_ask}
 use Rattle.pivot_check.specs.Postings.{AnswerForAll, Posting}
@@ -42,3 +43,16 @@ abbrev pub is_redundant_behind : Reach → List Posting → Posting → Bool
 is_redundant_behind reach [] q = false
 is_redundant_behind reach (p ∷ []) q = is_redundant reach p q
 is_redundant_behind reach (p ∷ o ∷ ps) q = is_redundant_behind reach (o ∷ ps) q
+
+-- whether the postings are of one key, with numbers that don't fall
+abbrev pub are_of_one_key : List Posting → Bool
+are_of_one_key [] = true
+are_of_one_key (p ∷ []) = true
+are_of_one_key (p ∷ q ∷ ps) = is_same_key p.key q.key && (nat_le p.number q.number && are_of_one_key (q ∷ ps))
+
+-- Postings of one key by rising number, up to the number from which on all may ask, none of which makes the next
+-- redundant, are two for each number at which someone began at most, and two more.
+abbrev pub FewPostingsLaw : Type 0
+FewPostingsLaw = (reach : Reach) (ps : List Posting) → are_of_one_key ps ≡ true
+    → AllByRecursion (λ p. p.number ≤ reach.since) ps → are_spaced reach ps ≡ true
+    → length ps ≤ 2 * length reach.begins + 2

@@ -10,6 +10,7 @@ mod active;
 mod bound;
 mod by_start;
 mod committed;
+mod laws;
 mod looks;
 mod merges;
 mod merging;
@@ -22,4 +23,5 @@ mod verdict;
 mod written;
 
 pub use committed::Committed;
+pub use laws::law_few_postings;
 pub use verdict::{Cleared, Verdict};
