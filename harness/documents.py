@@ -1,18 +1,18 @@
 """The documents: their commands run from a fresh copy, and how they are written.
 
-Commands stand in blocks of ```console, each behind `$ `, with what it prints on the lines below it. Those of a document are typed into one
-shell, which begins at the top of a copy of the repository's files; those of CLIENTS.md, COOKBOOK.md and OPERATIONS.md first start its server. A server that keeps a
-terminal of its own runs in the background, and `^C` ends it. Port 7777 is another, free one. `...` stands for anything. What isn't run is listed with
-the reason. `long` runs also what needs `rt` for a minute.
+Commands stand in blocks of ```console, each behind `$ `, with what it prints on the lines below it. Those of a document are typed into one shell,
+which begins at the top of a copy of the repository's files; those of CLIENTS.md, COOKBOOK.md and OPERATIONS.md first start its server. A server that
+keeps a terminal of its own runs in the background, and `^C` ends it. Port 7777 is another, free one. `...` stands for anything. What isn't run is
+listed with the reason. `long` runs also what needs `rt` for a minute.
 
-Then: no line of docs/ and README.md over 150 columns, tables apart, no table cell over 120 characters and no sentence over 40 words, no link that leads nowhere, pictures as docs/pictures/draw.py draws
-them, docs/PERFORMANCE.md and the figures that other documents have from it as bench/page.py writes them from bench/results, the table of sizes of
-docs/OPERATIONS.md as bench/sizing.py computes it, and the crates of docs/ARCHITECTURE.md as crates.txt has them. Each crate has a short README, and
-what that names is a file, or stands in the code and the definitions of the crate or of those that it stands on. The commands and refusals of
-docs/PROTOCOL.md, docs/CLIENTS.md and man/ssikvd.7 are those of the definitions, and the tables of docs/LOG_FORMAT.md those of the model's logs.
-docs/TESTING.md has each harness of runner.py. Numbers of the code are its constants. A commit has each version that CHANGELOG.md names. Documents that are
-installed link to none that isn't.
-Of each block of ```ini and ```python: a unit that `systemd-analyze verify` takes, Python that is Python.
+Then: no line over 150 columns, tables and code apart, no table cell over 120 characters and no sentence over 40 words, no link that leads nowhere,
+pictures as docs/pictures/draw.py draws them, docs/PERFORMANCE.md and the figures that other documents have from it as bench/page.py writes them from
+bench/results, the table of sizes of docs/OPERATIONS.md as bench/sizing.py computes it, and the crates of docs/ARCHITECTURE.md as crates.txt has them.
+Each crate has a short README, and what that names is a file, or stands in the code and the definitions of the crate or of those that it stands on.
+What docs/MAINTAINING.md names is there. The commands and refusals of docs/PROTOCOL.md, docs/CLIENTS.md and man/ssikvd.7 are those of the definitions,
+and the tables of docs/LOG_FORMAT.md those of the model's logs. docs/TESTING.md has each harness of runner.py. Numbers of the code are its constants.
+A commit has each version that CHANGELOG.md names. Documents that are installed link to none that isn't. Of each block of ```ini and ```python: a unit
+that `systemd-analyze verify` takes, Python that is Python.
 """
 import glob
 import os
@@ -307,9 +307,8 @@ def style(tally):
             found = paragraphs(text_of(name))
             wide = [cell for cell, is_cell in found if is_cell and len(cell) > CELL_MAX]
             long = [it for text, _ in found for it in sentences(text) if len(it.split()) > WORDS_MAX]
-            if name.startswith("docs/") or name == "README.md":
-                far = [line for line in text_of(name).splitlines() if len(line) > LINE_MAX and not re.match(r"\||!\[|The same in \[", line)]
-                expect(not far, f"{name}: {len(far)} lines over {LINE_MAX} columns, first {far[:1]}")
+            far = [line for line in text_of(name).splitlines() if len(line) > LINE_MAX and not re.match(r"\||!\[|The same in \[| {4}", line)]
+            expect(not far, f"{name}: {len(far)} lines over {LINE_MAX} columns, first {far[:1]}")
             expect(not wide, f"{name}: {len(wide)} cells over {CELL_MAX} characters, first {wide[:1]}")
             expect(not long, f"{name}: {len(long)} sentences over {WORDS_MAX} words, first {long[:1]}")
 
@@ -500,6 +499,26 @@ def readmes(tally):
                 expect(is_file or not unknown, f"there is no {', '.join(unknown)}")
 
 
+def sources():
+    """The files of the crates, each with its name and with that without its ending."""
+    for kind in ("src/**/*.rt", "specs/*.antt", "proofs/**/*.antt"):
+        for path in glob.glob(f"crates/*/{kind}", root_dir=TOP, recursive=True):
+            yield from (path, os.path.splitext(path)[0])
+
+
+def recipes(tally):
+    """What docs/MAINTAINING.md has between backticks is a file, or words of the crates or of the harnesses."""
+    crates, paths = stands_on(), set(sources())
+    known = set(crates).union(*(words_of(crate) for crate in crates), *(path.split("/") for path in paths))
+    known |= {word for path in glob.glob("harness/**/*.py", root_dir=TOP, recursive=True) for word in (*re.findall(r"\w+", text_of(path)), *path.split("/"))}
+    text = re.sub(r"^```.*?^```$", "", text_of("docs/MAINTAINING.md"), flags=re.M | re.S)
+    for name in dict.fromkeys(re.findall(r"`((?!\S*NAME/)[\w./]+)`", text)):
+        with tally.run(f"{name} in docs/MAINTAINING.md"):
+            is_there = os.path.exists(os.path.join(TOP, name)) or os.path.basename(name) in WRITTEN
+            is_there = is_there or any(f"/{name.rstrip('/')}/" in f"{path}/" for path in paths)
+            expect(is_there or "/" not in name and set(re.findall(r"\w+", name)) <= known, f"there is no {name}")
+
+
 def sealed(tally):
     """The lemmas that would refute the premises on files and sockets are cited where a call is made of one, and nowhere else."""
     for crate, user, lemmas, calls in (
@@ -603,7 +622,7 @@ def log_format(tally):
 class Documents(Harness):
     NAME = "documents"
     NEEDS = (PROGRAM,)
-    PARTS = (run_commands, worked, other_blocks, style, links, pictures, constants, limits, versions, installed, layers, readmes, sealed, tests, names, log_format)
+    PARTS = (run_commands, worked, other_blocks, style, links, pictures, constants, limits, versions, installed, layers, readmes, recipes, sealed, tests, names, log_format)
 
 
 if __name__ == "__main__":
