@@ -227,7 +227,7 @@ impl<'a> CommandLine<'a> {
     ghost use Rattle.std.specs.Prelude.{◌≡◌, map};
     ghost use Rattle.commands.specs.Words.{argument_words};
 
-    /// Of these words. Takes no memory.
+    /// A command line of these words. Takes no memory.
     pub fn new(words: &'a [&'a str]) -> Self
         ensures { argument_words result ≡ map (λ word. word.now) words.now }
     {

@@ -116,7 +116,7 @@ impl Lingering {
     ghost use Rattle.event_loop.specs.Lingerings.{AreTurned, FirstTurned, LingersOrCloses, closed, lingers_in};
     ghost use Rattle.event_loop.specs.Lingerings.{with_one_more};
 
-    /// None lingers. Takes the memory for all.
+    /// A queue in which none lingers. It takes the memory for all that may.
     pub(crate) fn new(alloc: Global) -> Result<Lingering, AllocError>
         ensures { IfOk result (λ l. l.queue.items ≡ []) }
     {

@@ -74,7 +74,7 @@ fn steps_of_mark(alloc: Global, mark: MarkRef<'_>) -> Result<VecDeque<Step>, Mem
     }
 }
 
-// The same for the first mark, if there is one, and no other.
+// 1 at the keys that the first mark covers, if there is one, 0 at the others.
 fn steps_of_first(alloc: Global, marks: &[OwnedMark]) -> Result<VecDeque<Step>, Memory>
     requires { length marks.now ≤ 1 }
     ensures rising { IfOk result (λ v. IsTrue (steps_rise v.items)) }

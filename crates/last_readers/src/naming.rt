@@ -15,7 +15,7 @@ fn next_in(step: &Step, found: Option<u64>, n: u64) -> Option<u64>
     next_of(next_of(found, n, step.at()), n, step.number_above())
 }
 
-// The same for several steps.
+// The number above `n` that was found, or the least that one of the steps names, where that is less.
 pub(crate) fn next_named(steps: &VecDeque<Step>, found: Option<u64>, n: u64) -> Option<u64>
     ensures { (p : ℕ → Bool) → IsNext p n found
         → IsNext (λ k. p k || list_any (λ s. names s k) steps.now.items) n result }

@@ -24,7 +24,7 @@ impl<'a> Model for Pairs<'a> {
 }
 
 impl<'a> Pairs<'a> {
-    // These pairs of a map.
+    // An iterator over these pairs of a map.
     pub(crate) fn new(rest: &'a [Pair]) -> Pairs<'a>
         requires { IsInBounds rest.now }
         ensures { result ≡ rest.entry.now }

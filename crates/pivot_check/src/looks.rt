@@ -39,7 +39,7 @@ impl Part {
             .allows(most_below(found, self.bound.last), begin, flagged)
     }
 
-    // The same for a block of it.
+    // May some posting of this block that is asked for have a number below the one that was found?
     fn may_lower_in(&self, block: usize, found: Option<u64>, begin: u64, flagged: bool) -> bool
         ensures { result ≡ false
             → KeepsFound found begin flagged (take BLOCK (drop (BLOCK * block) self.now.written.items)) }
@@ -71,7 +71,8 @@ impl Part {
         least_number(&self.written[span.first..span.end], found, begin, flagged)
     }
 
-    // The same for postings that stand in several blocks. One that has no number for it is passed over.
+    // The number that was found, or the least that is asked for of these postings, where that is lesser. A block whose bound rules
+    // out a lesser number is passed over.
     fn least_between(
         &self,
         span: Span,
@@ -109,7 +110,7 @@ impl Part {
 
     // The number that was found, or the least commit number above `begin` that has written a key that the mark covers, of those with
     // the flag where these alone are asked for, where that is lesser. Two binary searches, and a look at a bound for each 64 postings
-    // under the mark, where the bound of the part doesn't tell.
+    // under the mark, unless the bound of the part rules out a lesser number.
     pub(crate) fn least(
         &self,
         mark: MarkRef<'_>,
@@ -187,7 +188,7 @@ impl Part {
         }
     }
 
-    // The same for several marks. Each posting is looked at once, whatever the number of marks that cover it.
+    // As `least`, for several marks. Each posting is looked at once, whatever the number of marks that cover it.
     pub(crate) fn least_covered(
         &self,
         order: &ByStart<'_>,

@@ -30,7 +30,7 @@ pub(crate) struct Part {
 }
 
 impl Part {
-    // These postings, with room for bounds.
+    // A part of these postings, with room for bounds.
     pub(crate) fn of(written: Vec<Written>, bounds: Vec<Bound>) -> Part
         requires rising { IsTrue (keys_rise written.items) }
         requires none { length bounds.items ≡ 0 }

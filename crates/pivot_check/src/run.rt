@@ -41,7 +41,7 @@ pub(crate) fn nothing(alloc: Global) -> Part
 }
 
 impl WrittenRun {
-    // These postings, none of which has a number above `last`.
+    // A run of these postings, at rest. None of them has a number above `last`.
     pub(crate) fn of(written: Vec<Written>, last: u64) -> WrittenRun
         requires rising { IsTrue (keys_rise written.items) }
         requires upto { IsTrue (are_upto last written.items) }

@@ -33,7 +33,7 @@ impl WrittenRun {
         self.second.least(mark, in_first, begin, flagged)
     }
 
-    // The same for several marks.
+    // As `least`, for several marks.
     pub(crate) fn least_covered(
         &self,
         order: &ByStart<'_>,
@@ -67,7 +67,7 @@ pub(crate) fn least_of(
     found
 }
 
-// The same for several marks, in one run after another.
+// As `least_of`, for several marks.
 fn least_covered(runs: &[WrittenRun], order: &ByStart<'_>, begin: u64, flagged: bool) -> Option<u64>
     ensures { result ≡ least (covered_of (marks_of order.now.marks.now) begin flagged) (postings_in runs.now) }
 {
@@ -78,14 +78,14 @@ fn least_covered(runs: &[WrittenRun], order: &ByStart<'_>, begin: u64, flagged: 
     found
 }
 
-// The least commit number above `begin` that has written a key that one of the marks covers.
+// The least commit number above `begin` that has written a key that one of the marks covers: the first target of the reader.
 pub(crate) fn first_target(runs: &[WrittenRun], order: &ByStart<'_>, begin: u64) -> Option<u64>
     ensures { result ≡ least (covered_of (marks_of order.now.marks.now) begin false) (postings_in runs.now) }
 {
     least_covered(runs, order, begin, false)
 }
 
-// The same of those that have a dependency to a concurrent one that committed before them.
+// The least of these numbers whose transaction has a dependency to a concurrent one that committed before it.
 pub(crate) fn first_pivot(runs: &[WrittenRun], order: &ByStart<'_>, begin: u64) -> Option<u64>
     ensures { result ≡ least (covered_of (marks_of order.now.marks.now) begin true) (postings_in runs.now) }
 {

@@ -1,4 +1,4 @@
-//! The verdict on a commit.
+//! The verdict on a commit: cleared, with what is kept of that, or the reason for which it is refused.
 ghost use Rattle.std.specs.Prelude.{◌≡◌};
 
 /// What `Committed::verdict` says of a transaction that may commit, and `Committed::note` keeps of it.
@@ -8,7 +8,7 @@ pub struct Cleared {
 }
 
 impl Cleared {
-    // With this answer to `has_earlier_target`.
+    // Of a transaction that has such a dependency, or has none.
     pub(crate) fn new(has_earlier_target: bool) -> Cleared
         ensures { result ≡ record { has_earlier_target = has_earlier_target } }
     {

@@ -59,7 +59,7 @@ impl Present {
         self.rows.binary_search_by(|row| row.0.cmp(&s))
     }
 
-    /// The same. Where the row is, it is found at once next time.
+    /// As `search`, but it looks first at the row that it found last time.
     fn place(&self, s: u64) -> Result<usize, usize>
         ensures found { IfOk result (IsSessionPlace self.now s) }
         ensures absent { IfErr result (IsSessionGap self.now s) }

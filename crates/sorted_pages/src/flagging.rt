@@ -16,7 +16,7 @@ pub(crate) fn next_flagged(flags: &[bool], from: usize) -> usize
     at
 }
 
-// These flags, in memory of their own with so many places.
+// A copy of these flags, with so many places.
 pub(crate) fn copied_flags(
     alloc: Global,
     flags: &[bool],

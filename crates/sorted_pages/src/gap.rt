@@ -14,7 +14,7 @@ impl Gap {
     ghost use Rattle.std.specs.List.{list_any};
     ghost use Rattle.sorted_pages.specs.Gaps.{IsBeside, active_or_none, is_empty_gap, is_within, no_gap};
 
-    // That of no number.
+    // A gap of no number.
     pub(crate) fn none() -> Gap
         ensures { result ≡ no_gap }
     {
@@ -53,8 +53,8 @@ impl Gap {
         }
     }
 
-    // Those of the numbers that see nothing of the value: up to its last change where it shows, and from the end of the last value before
-    // that they see.
+    // What is left of the gap for a page with this value as well: its last numbers that see nothing of the value, up to the value's last
+    // change where it shows.
     pub(crate) fn beside<V: Aging>(self, value: &V) -> Gap
         ensures { IsBeside V.hides V.shows V.last value.now self result }
     {

@@ -14,7 +14,7 @@ impl Older {
     ghost use Rattle.std.specs.Prelude.{◌≡◌};
     ghost use Rattle.sorted_pages.specs.Gaps.{AreBeside, are_active_or_none, is_in_some, with_gap};
 
-    // None.
+    // No earlier gap.
     pub(crate) fn none() -> Older {
         Older {
             first: Gap::none(),
@@ -30,7 +30,7 @@ impl Older {
         self.first.has(number) || self.second.has(number) || self.third.has(number)
     }
 
-    // Of each the numbers that see nothing of the value.
+    // What is left of each gap for a page with this value as well.
     pub(crate) fn beside<V: Aging>(self, value: &V) -> Older
         ensures { AreBeside V.hides V.shows V.last value.now self result }
     {
@@ -41,7 +41,7 @@ impl Older {
         }
     }
 
-    // Those that one of these active numbers is in.
+    // The gaps that one of these active numbers is in. The others become gaps of no number.
     pub(crate) fn active(self, numbers: &[u64]) -> Older
         ensures { result ≡ are_active_or_none numbers.now self }
     {
@@ -52,7 +52,7 @@ impl Older {
         }
     }
 
-    // With one more, if it has a number: in the first place that has none, and in the last where each has one.
+    // These gaps and one more, if it has a number: in the first place that has none, and in the last where each has one.
     pub(crate) fn with(self, gap: Gap) -> Older
         ensures { result ≡ with_gap gap self }
     {

@@ -23,7 +23,7 @@ impl Summary {
     ghost use Rattle.sorted_pages.specs.Summaries.{AreHidden, IsSummary, IsSummaryBut, KeepsGap, hides_but, is_known};
     ghost use Rattle.sorted_pages.specs.Gaps.{are_active_or_none, is_within, with_gap};
 
-    // That of no entries.
+    // The summary of no entries.
     pub(crate) fn new() -> Summary
         ensures live { result.live ≡ 0 }
         ensures whole { result.left_out ≡ None }
@@ -41,7 +41,7 @@ impl Summary {
         }
     }
 
-    // Takes in the entry that it left out.
+    // The summary with the entry that it left out.
     pub(crate) fn take_in<V: Aging>(self, entries: &[(Key, V)]) -> Summary
         requires { IsSummaryBut V.hides V.shows entries.now self }
         ensures summary { IsSummary V.hides V.shows entries.now result }
@@ -72,7 +72,7 @@ impl Summary {
         }
     }
 
-    // Where no value shows, a gap begins with the last number, unless one has begun before.
+    // Where no value shows, a gap begins with the last number, unless one has begun before. The entries are named for the contract alone.
     fn with_open_gap<V: Aging>(self, _entries: &[(Key, V)]) -> Summary
         requires { IsSummary V.hides V.shows _entries.now self }
         ensures summary { IsSummary V.hides V.shows _entries.now result }
@@ -94,7 +94,7 @@ impl Summary {
         }
     }
 
-    // Forgets the older gaps in which none of these active numbers is.
+    // Forgets the older gaps in which none of these active numbers is. The entries are named for the contract alone.
     pub(crate) fn active<V: Aging>(self, _entries: &[(Key, V)], numbers: &[u64]) -> Summary
         requires { IsSummary V.hides V.shows _entries.now self }
         ensures summary { IsSummary V.hides V.shows _entries.now result }
@@ -139,7 +139,7 @@ impl Summary {
         }
     }
 
-    // That of these entries, of which the numbers of these gaps see nothing where they saw nothing of more entries.
+    // The summary of these entries, with what is left for them of these older gaps: those of a page that they were a part of.
     pub(crate) fn of<V: Aging>(entries: &[(Key, V)], older: Older) -> Summary
         ensures summary { IsSummary V.hides V.shows entries.now result }
         ensures whole { result.left_out ≡ None }

@@ -23,7 +23,7 @@ impl CallCounts {
     ghost use Rattle.stream_driver.specs.Traffic.{untouched};
     ghost use Rattle.stream_driver.specs.Counts.{Notes, counted};
 
-    /// Of no call. Takes no memory.
+    /// The counts before the first call. Takes no memory.
     pub fn new() -> CallCounts
         ensures { counted result ≡ untouched }
     {

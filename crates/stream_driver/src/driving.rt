@@ -174,7 +174,7 @@ fn depart<D: Sectors>(hub: &mut Hub<D>, s: u64) -> Progress
     Progress::Gone
 }
 
-// As `drive`. What is read comes over the buffer.
+// As `drive`, with a buffer for what is read.
 pub(crate) fn drive_over<D: Sectors, S: Stream>(
     hub: &mut Hub<D>,
     s: u64,

@@ -22,7 +22,7 @@ impl Model for KeptValue {
 }
 
 impl KeptValue {
-    // These bytes.
+    // A value of these bytes.
     pub(crate) fn new(bytes: Vec<u8>) -> KeptValue
         requires { IsValue bytes.items }
         ensures { result ≡ bytes.items }
