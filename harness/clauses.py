@@ -5,9 +5,9 @@ Crate by crate of the program, in the order of crates.txt, the page has each pub
 first sentence of its comment, and its clauses as they stand in the source, each with the files of specs/ whose definitions it is stated with. Public
 is what src/lib.rt passes on, and the methods of that. A type of the crate has its invariants, and what it makes of a trait's definitions and clauses.
 
-It fails where a definition is not where the source has it from, where a public function has no comment, where lib.rt passes on what isn't found, and
-where a `pub fn` or a clause of a source was not read. Each run also reads a source with one comment left out, which must be missed. The page isn't
-kept. Needs Python 3 alone.
+It fails where a definition is not where the source has it from, where a public function has no comment, where any function has more than seven
+clauses, where lib.rt passes on what isn't found, and where a `pub fn` or a clause of a source was not read. Each run also reads a source with one
+comment left out, which must be missed, and with eight clauses more, which must be seen. The page isn't kept. Needs Python 3 alone.
 """
 import functools
 import os
@@ -23,6 +23,7 @@ from ssikvd_harness.settings import TOP, text_of
 
 PAGE = "docs/CLAUSES.md"
 PLANTED = "crates/resp/src/decoding.rt", "decode"    # a function that is read without its comment, which must be missed
+CLAUSES_MAX = 7    # what always comes together is a record of specs/
 BLOCK = re.compile(r"(pub(?:\([a-z]+\))? )?(struct|enum|trait|impl)\b(.*)", re.S)
 FUNCTION = re.compile(r"( {4})?(pub(?:\([a-z]+\))? )?(?:const )?fn (\w+)")
 GHOST = re.compile(r" +ghost (\w+)(?::| =) *\{")
@@ -237,12 +238,19 @@ def unread(crate):
             yield path
 
 
+def crowded(items):
+    """The functions that have more clauses than a contract is read in."""
+    return [f"{item.name} has {len(item.clauses)}" for item in items if item.kind == "fn" and len(item.clauses) > CLAUSES_MAX]
+
+
 def planted(tally):
-    """What is wrong is seen: a function without a comment, and a name that no file declares."""
+    """What is wrong is seen: a function without a comment, one with many clauses, and a name that no file declares."""
     path, name = PLANTED
     text = re.sub(rf"(?:^ *///.*\n)+(?=(?:^ *#\[.*\n)*^ *pub fn {name}\b)", "", text_of(path), flags=re.M)
     with tally.run(f"{name} without a comment"):
         expect(text != text_of(path) and any(item.name == name and lacks_comment(item) for item in items_of(path, text)), "it isn't missed")
+    with tally.run(f"{name} with eight clauses more"):
+        expect(crowded(items_of(path, re.sub(rf"(\bfn {name}\b[^\n]*\n)", r"\1" + "    ensures { ⊤ }\n" * 8, text_of(path)))), "they aren't seen")
     with tally.run("a name that isn't declared"):
         try:
             home_of("model.specs.Grammar", "Undeclared")
@@ -259,6 +267,8 @@ def check(tally):
         with tally.run(f"the sources of {crate}"):
             expect(not gone, f"what lib.rt passes on isn't found: {gone}")
             expect(not list(unread(crate)), f"not every `pub fn` or clause is read: {list(unread(crate))}")
+            many = [found for name, _ in modules(crate)[0] for found in crowded(items_in(f"crates/{crate}/src/{name}.rt"))]
+            expect(not many, f"more than {CLAUSES_MAX} clauses: {many}")
         for item in items:
             with tally.run(f"{item.name} in {item.path}"):
                 expect(not lacks_comment(item), "it has no `///` comment")
