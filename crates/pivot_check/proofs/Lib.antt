@@ -5,7 +5,7 @@ pub mod Histories
 pub mod LastSources
 pub mod Writers
 pub mod Passing
-pub mod Looking
+pub mod Scanning
 pub mod Walks
 pub mod PlacedMarks
 pub mod Judging

@@ -4,7 +4,7 @@ use Rattle.std.specs.Prelude.{◌≡◌, ◌<◌, ◌≤◌, ℕ, ◌+◌, ◌-�
 use Rattle.std.specs.Prelude.{nat_lt, nat_le, length, take, drop, slice_index_or, if◌then◌else◌}
 use Rattle.pivot_check.specs.Postings.{Posting, lesser, is_asked, between}
 use Rattle.pivot_check.specs.declared.bound.Bound.{Bound}
-use Rattle.pivot_check.specs.declared.looks.Looked.{Looked}
+use Rattle.pivot_check.specs.declared.scan.Scan.{Scan}
 use Rattle.pivot_check.specs.declared.written.Span.{Span}
 
 -- whether the posting's number isn't below the bound nor above its last, nor below that of flagged ones where it has
@@ -40,9 +40,9 @@ abbrev pub KeepsFound : Option ℕ → ℕ → Bool → List Posting → Type 0
 KeepsFound found b flagged ps =
     AllByRecursion (λ p. is_asked b flagged p ≡ true → lesser found (Some p.number) ≡ found) ps
 
--- the postings that were looked at decide nothing more: none of them that is asked for has a number below the one that
+-- the postings that were scanned decide nothing more: none of them that is asked for has a number below the one that
 -- was found
-pub record IsLooked (l : Looked) (b : ℕ) (flagged : Bool) (ps : List Posting) : Type 0 where
-  pub order : l.seen.first ≤ l.seen.end
-  pub within : l.seen.end ≤ length ps
-  pub kept : KeepsFound l.found b flagged (between l.seen.first l.seen.end ps)
+pub record IsScanned (s : Scan) (b : ℕ) (flagged : Bool) (ps : List Posting) : Type 0 where
+  pub order : s.seen.first ≤ s.seen.end
+  pub within : s.seen.end ≤ length ps
+  pub kept : KeepsFound s.found b flagged (between s.seen.first s.seen.end ps)

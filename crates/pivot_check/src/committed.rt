@@ -161,19 +161,19 @@ impl Committed {
 
     // The answer where the transaction overwrites no concurrent commit. A transaction is a dangerous pivot where its first target committed
     // no later than its last source.
-    fn answer(&self, tx: &Transaction) -> Verdict
-        ensures { result ≡ answer_found self.now.facts tx.now }
+    fn answer(&self, transaction: &Transaction) -> Verdict
+        ensures { result ≡ answer_found self.now.facts transaction.now }
     {
         let runs = self.runs.as_slice();
         if runs.is_empty() {
             return Verdict::Clear(Cleared::new(false));
         }
-        let begin = tx.begin();
-        let order = ByStart::of(tx.marks().held());
+        let begin = transaction.begin();
+        let order = ByStart::of(transaction.marks().held());
         let Some(target) = first_target(runs, &order, begin) else {
             return Verdict::Clear(Cleared::new(false));
         };
-        if let Some(source) = last_source(&self.readers, tx.entries(), begin) {
+        if let Some(source) = last_source(&self.readers, transaction.entries(), begin) {
             if target <= source {
                 return Verdict::PivotSelf;
             }
@@ -192,14 +192,18 @@ impl Committed {
     /// two, and a look at a bound for each 64 keys written under a mark; the numbers of these keys are looked at where the bound lets one
     /// be less than what was found. The marks are sorted by start, and a key under several of them is looked at once. Where the transaction
     /// has read what a concurrent one wrote, it takes also a look-up of the last reader of each written key. Takes no memory.
-    pub fn verdict(&self, tx: &Transaction) -> Verdict
-        ensures verdict { IsInReach self.now.facts tx.now → IsVerdict self.now.facts tx.now result }
-        ensures cleared { IsClearedBy self.now.facts tx.now result }
-        ensures place { IsPlaced result tx.now.writes }
+    pub fn verdict(&self, transaction: &Transaction) -> Verdict
+        ensures verdict { IsInReach self.now.facts transaction.now → IsVerdict self.now.facts transaction.now result }
+        ensures cleared { IsClearedBy self.now.facts transaction.now result }
+        ensures place { IsPlaced result transaction.now.writes }
     {
-        match first_overwritten(self.runs.as_slice(), tx.entries(), tx.begin()) {
+        match first_overwritten(
+            self.runs.as_slice(),
+            transaction.entries(),
+            transaction.begin(),
+        ) {
             Some(i) => Verdict::Overwritten(i),
-            None => self.answer(tx),
+            None => self.answer(transaction),
         }
     }
 
@@ -210,26 +214,26 @@ impl Committed {
     /// It begins to merge two runs beside one another that are of a like size and have `MERGED_MAX` keys at most together, where there
     /// are such: that takes the places of both. Where memory for these is refused, it counts the refusal, and the two stay. So it does
     /// with the last readers, by a count of their own.
-    pub fn reserve(&mut self, tx: &Transaction) -> Result<(), Memory>
+    pub fn reserve(&mut self, transaction: &Transaction) -> Result<(), Memory>
         ensures same { StandForSame self.old.facts self.new.facts }
         ensures tried { IsTriedIn self.old self.new }
-        ensures room { OnOk result (HasRoom self.new.room tx.now) }
+        ensures room { OnOk result (HasRoom self.new.room transaction.now) }
     {
         self.runs.reserve(self.oldest)?;
-        self.readers.reserve(tx.marks())?;
-        self.ready = Some(Ready::for_commit(self.runs.allocator(), tx)?);
+        self.readers.reserve(transaction.marks())?;
+        self.ready = Some(Ready::for_commit(self.runs.allocator(), transaction)?);
         Ok(())
     }
 
     // Adds what is kept of the transaction, in the room that was made for it.
-    fn add_record(&mut self, tx: &Transaction, n: u64, cleared: Cleared)
+    fn add_record(&mut self, transaction: &Transaction, n: u64, cleared: Cleared)
         requires next { n ≡ self.old.facts.last + 1 }
-        requires cleared { IsCleared self.old.facts tx.now cleared }
-        requires room { HasRoom self.old.room tx.now }
-        ensures stands_for { StandWithRecord self.old.facts self.new.facts tx.now n }
+        requires cleared { IsCleared self.old.facts transaction.now cleared }
+        requires room { HasRoom self.old.room transaction.now }
+        ensures stands_for { StandWithRecord self.old.facts self.new.facts transaction.now n }
         ensures last { self.new.facts.last ≡ n }
         ensures reach { KeepsReach self.old.facts self.new.facts }
-        ensures run { AddsWrittenRun tx.now n self.old self.new }
+        ensures run { AddsWrittenRun transaction.now n self.old self.new }
     {
         let Some(ready) = self.ready.take() else {
             unreachable!()
@@ -256,17 +260,17 @@ impl Committed {
     /// Then the merges that are under way go on by 16 postings for each written key, and 64, until nothing is left to move. What none who
     /// may ask is answered by is dropped as it is moved: of two postings of one key the later, where none who may ask began between
     /// their numbers and the flag of the earlier tells as much. The last readers are merged in the same way, by a count of their own.
-    pub fn note(&mut self, tx: &Transaction, n: u64, cleared: Cleared)
+    pub fn note(&mut self, transaction: &Transaction, n: u64, cleared: Cleared)
         requires next { n ≡ self.old.facts.last + 1 }
-        requires cleared { IsCleared self.old.facts tx.now cleared }
-        requires room { HasRoom self.old.room tx.now }
-        ensures stands_for { StandWithRecord self.old.facts self.new.facts tx.now n }
+        requires cleared { IsCleared self.old.facts transaction.now cleared }
+        requires room { HasRoom self.old.room transaction.now }
+        ensures stands_for { StandWithRecord self.old.facts self.new.facts transaction.now n }
         ensures last { self.new.facts.last ≡ n }
         ensures reach { KeepsReach self.old.facts self.new.facts }
-        ensures moved { AreMovedWith tx.now n self.old self.new }
+        ensures moved { AreMovedWith transaction.now n self.old self.new }
     {
-        self.add_record(tx, n, cleared);
-        self.move_on(tx.entries().len());
+        self.add_record(transaction, n, cleared);
+        self.move_on(transaction.entries().len());
     }
 
     /// From then on one may ask alone who began at one of these numbers, or at the last commit number or later; what is kept stands for the

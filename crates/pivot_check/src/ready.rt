@@ -30,10 +30,10 @@ fn copy_keys(alloc: Global, writes: &[Write]) -> Result<Vec<Key>, Memory>
 
 impl Ready {
     // Makes it.
-    pub(crate) fn for_commit(alloc: Global, tx: &Transaction) -> Result<Ready, Memory>
-        ensures { IfOk result (λ r. r.keys.items ≡ keys_of tx.now.writes) }
+    pub(crate) fn for_commit(alloc: Global, transaction: &Transaction) -> Result<Ready, Memory>
+        ensures { IfOk result (λ r. r.keys.items ≡ keys_of transaction.now.writes) }
     {
-        let keys = copy_keys(alloc, tx.entries())?;
+        let keys = copy_keys(alloc, transaction.entries())?;
         let places = Vec::with_capacity(alloc, keys.len())?;
         Ok(Ready { keys, places })
     }

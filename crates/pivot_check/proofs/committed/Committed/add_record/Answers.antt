@@ -10,14 +10,15 @@ use Rattle.pivot_check.specs.Kept.{CommittedValue, keys_of}
 use Rattle.pivot_check.specs.Postings.{Posting, postings_by, least, lesser}
 
 -- what was made ready has the keys of the transaction
-keys : (c : goal.After-self-1) → c.in-Some.ready.keys.items ≡ keys_of c.args.tx.now.writes
+keys : (c : goal.After-self-1) → c.in-Some.ready.keys.items ≡ keys_of c.args.transaction.now.writes
 keys c = grind (arith, c.requires.room.2)
 
-noted : (c : goal.After-self-1) → IsNoted c.args.tx.now.marks c.args.n c.self.inside.readers.readers c.note.new.self.readers
-noted c = c.note.ensures.noted c.args.tx.now.marks
-    (subst (λ (r : ReadersRoom). HasReadersRoom c.args.tx.now.marks r) (ap (λ (v : CommittedValue). v.room.readers) (sym c.self.view_is)) c.requires.room.0)
+noted : (c : goal.After-self-1) → IsNoted c.args.transaction.now.marks c.args.n c.self.inside.readers.readers c.note.new.self.readers
+noted c = c.note.ensures.noted c.args.transaction.now.marks
+    (subst (λ (r : ReadersRoom). HasReadersRoom c.args.transaction.now.marks r) (ap (λ (v : CommittedValue). v.room.readers) (sym c.self.view_is))
+    c.requires.room.0)
 
-read : (c : goal.After-self-1) → IsNoted c.args.tx.now.marks c.args.n c.args.self.now.facts.readers c.note.new.self.readers
+read : (c : goal.After-self-1) → IsNoted c.args.transaction.now.marks c.args.n c.args.self.now.facts.readers c.note.new.self.readers
 read c = λ k. grind (arith, noted c k)
 
 added : (c : goal.After-self-1) (t : Posting → Bool) → least t (postings_in c.add_run.new.runs.runs)
@@ -38,7 +39,7 @@ add_run-requires-clause-upto c =
 
 pub returns-clause-stands_for : goal.returns-clause-stands_for
 returns-clause-stands_for c = λ reach h s r own.
-    notes c.args.self.now.facts h s c.args.tx.now reach c.args.n c.requires.next r own
+    notes c.args.self.now.facts h s c.args.transaction.now reach c.args.n c.requires.next r own
     c.args.cleared c.requires.cleared c.in-Some.ready.keys.items (keys c)
     c.note.new.self.readers (read c) (postings_in c.add_run.new.runs.runs) (added c)
     c.self.inside.oldest (ap (λ (v : CommittedValue). v.facts.oldest) c.self.view_is) (reach_of c.self.inside.active)
@@ -52,9 +53,11 @@ invariant_of-self c =
       order = omega (arith, n_is, c.self.invariant.order);
       forgotten = omega (arith, n_is, c.self.invariant.forgotten, c.note.ensures.oldest);
       together = c.note.ensures.oldest ∙ c.self.invariant.together;
-      upto = noted_upto (last_reader c.self.inside.readers.readers) (last_reader c.note.new.self.readers) c.args.tx.now.marks c.self.inside.last c.args.n n_is
+      upto = noted_upto (last_reader c.self.inside.readers.readers) (last_reader c.note.new.self.readers) c.args.transaction.now.marks c.self.inside.last
+          c.args.n n_is
           c.self.invariant.upto (noted c);
-      above = noted_above (last_reader c.self.inside.readers.readers) (last_reader c.note.new.self.readers) c.args.tx.now.marks c.self.inside.oldest c.args.n
+      above = noted_above (last_reader c.self.inside.readers.readers) (last_reader c.note.new.self.readers) c.args.transaction.now.marks c.self.inside.oldest
+          c.args.n
           (omega (arith, n_is, c.self.invariant.order)) c.self.invariant.above (noted c);
       now = omega (arith, n_is, c.self.invariant.now);
     }

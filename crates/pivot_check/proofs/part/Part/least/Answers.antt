@@ -5,8 +5,8 @@ use Rattle.marks.specs.Lent.{lent_mark}
 use Rattle.pivot_check.proofs.Passing.{passed_over, all_left}
 use Rattle.pivot_check.specs.Postings.{asked_of}
 
-pub returns-then-not-may_lower : goal.returns-then-not-may_lower
-returns-then-not-may_lower c =
+pub returns-then-not-can_improve : goal.returns-then-not-can_improve
+returns-then-not-can_improve c =
     passed_over c.args.found c.args.begin c.args.flagged (asked_of (lent_mark c.args.mark) c.args.begin c.args.flagged) (λ p e. (and_parts _ _ e).1)
     (drop c.args.self.now.start c.args.self.now.written.items)
-    (all_left _ c.args.self.now.start c.args.self.now.written.items (c.may_lower.ensures c.if-not-may_lower.true))
+    (all_left _ c.args.self.now.start c.args.self.now.written.items (c.can_improve.ensures c.if-not-can_improve.true))

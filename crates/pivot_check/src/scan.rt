@@ -1,10 +1,10 @@
-//! Searches sorted written keys for the least commit number that wrote a key under marks.
+//! Scans sorted written keys for the least commit number that wrote a key under marks.
 ghost use Rattle.std.specs.Prelude.{◌≡◌, ◌≤◌, ◌<◌, ◌+◌, ◌*◌, ℕ, false, length, take, drop, Some, None, IfSome, ◌∷◌};
 ghost use Rattle.marks.specs.Lent.{lent_mark};
 ghost use Rattle.marks.specs.Marked.{marks_of};
 ghost use Rattle.pivot_check.specs.Postings.{CountCovered, least, lesser, is_asked, asked_of, covered_of};
 ghost use Rattle.pivot_check.specs.Parts.{live};
-ghost use Rattle.pivot_check.specs.Bounds.{KeepsFound, IsLooked, in_span};
+ghost use Rattle.pivot_check.specs.Bounds.{KeepsFound, IsScanned, in_span};
 ghost use Rattle.pivot_check.specs.Places.{asked_there};
 
 use crate::bound::BLOCK;
@@ -23,16 +23,16 @@ fn most_below(found: Option<u64>, last: u64) -> u64
     }
 }
 
-/// The number that was found, and the places that were looked at last.
+/// How far a scan has come: the number that was found, and the places that were scanned last.
 #[derive(Clone, Copy)]
-pub(crate) struct Looked {
+pub(crate) struct Scan {
     pub(crate) found: Option<u64>,
     pub(crate) seen: Span,
 }
 
 impl Part {
-    // May some posting of the part that is asked for have a number below the one that was found?
-    fn may_lower(&self, found: Option<u64>, begin: u64, flagged: bool) -> bool
+    // May some posting of the part that is asked for have a number below the one that was found? Only then can a scan improve on it.
+    fn can_improve(&self, found: Option<u64>, begin: u64, flagged: bool) -> bool
         ensures { result ≡ false → KeepsFound found begin flagged self.now.written.items }
     {
         self.bound
@@ -40,7 +40,7 @@ impl Part {
     }
 
     // May some posting of this block that is asked for have a number below the one that was found?
-    fn may_lower_in(&self, block: usize, found: Option<u64>, begin: u64, flagged: bool) -> bool
+    fn can_improve_in(&self, block: usize, found: Option<u64>, begin: u64, flagged: bool) -> bool
         ensures { result ≡ false
             → KeepsFound found begin flagged (take BLOCK (drop (BLOCK * block) self.now.written.items)) }
     {
@@ -65,7 +65,7 @@ impl Part {
         requires within { span.end ≤ length self.now.written.items }
         ensures { result ≡ lesser found (least (is_asked begin flagged) (in_span span self.now.written.items)) }
     {
-        if !self.may_lower_in(block, found, begin, flagged) {
+        if !self.can_improve_in(block, found, begin, flagged) {
             return found;
         }
         least_number(&self.written[span.first..span.end], found, begin, flagged)
@@ -87,8 +87,8 @@ impl Part {
         let mut found = found;
         for block in span.first / BLOCK..span.end / BLOCK + 1 {
             let part = Span {
-                first: span.first.max(64 * block),
-                end: span.end.min(64 * block + 64),
+                first: span.first.max(BLOCK * block),
+                end: span.end.min(BLOCK * block + BLOCK),
             };
             found = self.least_in(block, part, found, begin, flagged);
         }
@@ -109,7 +109,7 @@ impl Part {
     }
 
     // The number that was found, or the least commit number above `begin` that has written a key that the mark covers, of those with
-    // the flag where these alone are asked for, where that is lesser. Two binary searches, and a look at a bound for each 64 postings
+    // the flag where these alone are asked for, where that is lesser. Two binary searches, and a look at the bound of each block
     // under the mark, unless the bound of the part rules out a lesser number.
     pub(crate) fn least(
         &self,
@@ -120,75 +120,75 @@ impl Part {
     ) -> Option<u64>
         ensures { result ≡ lesser found (least (asked_of (lent_mark mark.entry) begin flagged) (live self.now)) }
     {
-        if !self.may_lower(found, begin, flagged) {
+        if !self.can_improve(found, begin, flagged) {
             return found;
         }
         self.least_between(self.covered_by(mark), found, begin, flagged)
     }
 
-    // Looks at the postings of a span, but for those that were looked at just before.
-    fn look_on(&self, span: Span, looked: Looked, begin: u64, flagged: bool) -> Looked
+    // Scans the postings of a span, but for those that were scanned just before.
+    fn scan_span(&self, span: Span, scan: Scan, begin: u64, flagged: bool) -> Scan
         requires order { span.first ≤ span.end }
         requires within { span.end ≤ length self.now.written.items }
-        requires looked { IsLooked looked begin flagged self.now.written.items }
+        requires looked { IsScanned scan begin flagged self.now.written.items }
         ensures found { result.found
-            ≡ lesser looked.found (least (is_asked begin flagged) (in_span span self.now.written.items)) }
-        ensures looked { IsLooked result begin flagged self.now.written.items }
+            ≡ lesser scan.found (least (is_asked begin flagged) (in_span span self.now.written.items)) }
+        ensures looked { IsScanned result begin flagged self.now.written.items }
     {
-        let seen = looked.seen;
+        let seen = scan.seen;
         if span.first < seen.first || seen.end < span.first {
-            let found = self.least_between(span, looked.found, begin, flagged);
-            return Looked { found, seen: span };
+            let found = self.least_between(span, scan.found, begin, flagged);
+            return Scan { found, seen: span };
         }
         if span.end <= seen.end {
-            return looked;
+            return scan;
         }
         let rest = Span {
             first: seen.end,
             end: span.end,
         };
-        let found = self.least_between(rest, looked.found, begin, flagged);
+        let found = self.least_between(rest, scan.found, begin, flagged);
         let seen = Span {
             first: seen.first,
             end: span.end,
         };
-        Looked { found, seen }
+        Scan { found, seen }
     }
 
-    // Looks at the postings that the mark covers.
-    fn look(&self, mark: MarkRef<'_>, looked: Looked, begin: u64, flagged: bool) -> Looked
-        requires { IsLooked looked begin flagged self.now.written.items }
+    // Scans the postings that the mark covers.
+    fn scan_mark(&self, mark: MarkRef<'_>, scan: Scan, begin: u64, flagged: bool) -> Scan
+        requires { IsScanned scan begin flagged self.now.written.items }
         ensures found { result.found
-            ≡ lesser looked.found (least (asked_of (lent_mark mark.entry) begin flagged) (live self.now)) }
-        ensures looked { IsLooked result begin flagged self.now.written.items }
+            ≡ lesser scan.found (least (asked_of (lent_mark mark.entry) begin flagged) (live self.now)) }
+        ensures looked { IsScanned result begin flagged self.now.written.items }
     {
-        if !self.may_lower(looked.found, begin, flagged) {
-            return looked;
+        if !self.can_improve(scan.found, begin, flagged) {
+            return scan;
         }
-        self.look_on(self.covered_by(mark), looked, begin, flagged)
+        self.scan_span(self.covered_by(mark), scan, begin, flagged)
     }
 
-    // Looks at the postings that the mark at a place covers, if there is one.
-    fn look_at(
+    // Scans the postings that the mark at a place covers, if there is one.
+    fn scan_mark_at(
         &self,
         marks: &[OwnedMark],
         place: u8,
-        looked: Looked,
+        scan: Scan,
         begin: u64,
         flagged: bool,
-    ) -> Looked
-        requires { IsLooked looked begin flagged self.now.written.items }
+    ) -> Scan
+        requires { IsScanned scan begin flagged self.now.written.items }
         ensures found { result.found
-            ≡ lesser looked.found (least (asked_there (marks_of marks.now) place begin flagged) (live self.now)) }
-        ensures looked { IsLooked result begin flagged self.now.written.items }
+            ≡ lesser scan.found (least (asked_there (marks_of marks.now) place begin flagged) (live self.now)) }
+        ensures looked { IsScanned result begin flagged self.now.written.items }
     {
         match marks.get(place as usize) {
-            Some(mark) => self.look(mark.lend(), looked, begin, flagged),
-            None => looked,
+            Some(mark) => self.scan_mark(mark.lend(), scan, begin, flagged),
+            None => scan,
         }
     }
 
-    // As `least`, for several marks. Each posting is looked at once, whatever the number of marks that cover it.
+    // As `least`, for several marks. Each posting is scanned once, whatever the number of marks that cover it.
     pub(crate) fn least_covered(
         &self,
         order: &ByStart<'_>,
@@ -199,18 +199,18 @@ impl Part {
         ensures { result
             ≡ lesser found (least (covered_of (marks_of order.now.marks.now) begin flagged) (live self.now)) }
     {
-        if !self.may_lower(found, begin, flagged) {
+        if !self.can_improve(found, begin, flagged) {
             return found;
         }
-        let mut looked = Looked {
+        let mut scan = Scan {
             found,
             seen: Span { first: 0, end: 0 },
         };
         let places = order.places.as_slice();
         for place in places {
-            looked = self.look_at(order.marks, *place, looked, begin, flagged);
+            scan = self.scan_mark_at(order.marks, *place, scan, begin, flagged);
         }
-        looked.found
+        scan.found
     }
 
     // The first of what is left.

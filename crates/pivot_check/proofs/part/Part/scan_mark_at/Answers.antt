@@ -1,4 +1,4 @@
-use Rattle.pivot_check.proofs.part.Part.look_at.Goals as goal
+use Rattle.pivot_check.proofs.part.Part.scan_mark_at.Goals as goal
 use Rattle.std.proofs.Common.{drop, arith}
 use Rattle.std.proofs.lemmas.Bool.Decides.{nat_tests}
 use Rattle.pivot_check.proofs.PlacedMarks.{asked_at, asked_past}

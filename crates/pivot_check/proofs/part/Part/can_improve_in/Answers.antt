@@ -1,4 +1,4 @@
-use Rattle.pivot_check.proofs.part.Part.may_lower_in.Goals as goal
+use Rattle.pivot_check.proofs.part.Part.can_improve_in.Goals as goal
 use Rattle.std.proofs.Common.{◌<◌, ◌∙◌, ◌*◌, List, length, get_or, ap, sym, take, drop}
 use Rattle.std.proofs.lemmas.Bool.{ltb-true}
 use Rattle.std.specs.Prelude.{nat_lt}

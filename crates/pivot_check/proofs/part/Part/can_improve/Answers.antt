@@ -1,4 +1,4 @@
-use Rattle.pivot_check.proofs.part.Part.may_lower.Goals as goal
+use Rattle.pivot_check.proofs.part.Part.can_improve.Goals as goal
 use Rattle.pivot_check.proofs.Passing.{kept, upto_last}
 
 pub returns : goal.returns
