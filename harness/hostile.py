@@ -4,7 +4,8 @@ Half frames and silence, urgent bytes, broken frames with much before and after 
 don't read, transactions in one piece to one key, as many connections as there are and more, also all at once, resets within a reply, random bytes, and
 every session at its limits at once.
 The good client's slowest reply stays under a bound, the server doesn't end, what may be answered is the model's, and the memory of the process stays
-under the bound that its limits give.
+under the bound that its limits give. No sync is judged, so the data is in memory. By how much the machine itself was late doesn't count, and a scene
+with a reply above the bound is played once more. A server that is stopped for longer than a bound is reported.
 
 `quick` does each once and small.
 """
@@ -19,16 +20,20 @@ import time
 from ssikvd_harness.arguments import is_long, run_harness
 from ssikvd_harness.cases import Harness
 from ssikvd_harness.connection import Connection
-from ssikvd_harness.deviations import Deviation, expect
+from ssikvd_harness.deviations import Deviation, Tally, expect, wait_for
 from ssikvd_harness.frames import ABORT, BEGIN, BROKEN_FRAME, COMMIT, FULL, OK, PING, PONG, Broken, decode, frame, pairs, refusal
 from ssikvd_harness.good_client import KEY as GOOD_KEY, VALUE as GOOD_VALUE, GoodClient
 from ssikvd_harness.limits import BUFFERED_MAX, INBOX_MAX, KEY_MAX, LARGEST_REPLY, MARKS_MAX, OPEN_MAX, OUTPUT_ROOM, SESSIONS_MAX, VALUE_MAX, WRITES_MAX
+from ssikvd_harness.lateness import STOOD_STILL, Lateness
 from ssikvd_harness.model import Store
-from ssikvd_harness.server import Server, folder, fresh
+from ssikvd_harness.server import Server, fresh
+from ssikvd_harness.settings import PATIENCE
 from ssikvd_harness.shrinking import shrunk
+from ssikvd_harness.tools import in_memory
 
 SECTORS = 262_144
 SLOWEST_REPLY = 5.0
+STOPPED = 2.0    # for how long a server is stopped, which is to be reported
 ACKNOWLEDGED_LATE = 0.04    # how long Linux puts off an acknowledgement
 REQUESTS_MAX = 64    # of a session in one turn
 ENTRY = 144    # a written key or a mark: its vectors, and what the allocator adds to their two blocks
@@ -42,9 +47,10 @@ SHRINKING_SECONDS = 20.0
 class Siege:
     """A server, its good client, and how much is done to it."""
 
-    def __init__(self, server, is_long_one):
+    def __init__(self, server, lateness, descriptors, is_long_one):
         self.server, self.is_long = server, is_long_one
-        self.good = GoodClient(server.port)
+        self.alone = descriptors    # of the server, with one client
+        self.good = GoodClient(server.port, lateness, syncs_ahead(1))
 
     def times(self, few, many):
         return many if self.is_long else few
@@ -54,7 +60,7 @@ class Siege:
 
     def join(self, **options):
         """A connection that is served. There may be no place until those that left have been taken out."""
-        end = time.monotonic() + SLOWEST_REPLY
+        end = time.monotonic() + PATIENCE
         while True:
             client = self.connect(**options)
             if client.ask(PING) == PONG:
@@ -62,6 +68,15 @@ class Siege:
             client.close()
             expect(time.monotonic() < end, "no connection is served")
             time.sleep(0.01)
+
+    def wait_for_descriptors(self, more, text):
+        """Waits until the server has this many descriptors besides those for the good client: `more` says of how many whether it may."""
+        wait_for(lambda: more(self.server.descriptors() - self.alone), text)
+
+
+def syncs_ahead(commits):
+    """How many syncs a reply may wait for where so many COMMITs come in one turn: what is left of a turn, and the next one, with two for each."""
+    return 2 * 2 * commits
 
 
 def fill(server):
@@ -111,7 +126,7 @@ def one_byte_at_a_time(siege):
 def urgent_bytes(siege):
     """Requests with an urgent byte between them, at which a read ends early, all there before the server reads."""
     for _ in range(siege.times(3, 20)):
-        with siege.join(timeout=SLOWEST_REPLY) as client:
+        with siege.join() as client:
             siege.server.process.send_signal(signal.SIGSTOP)
             client.send(PING)
             client.socket.send(b"u", socket.MSG_OOB)
@@ -128,7 +143,7 @@ def broken_frames(siege):
     for data in (*BROKEN, *(PING + data for data in BROKEN)):
         due = OK + PONG * data.startswith(PING) + BROKEN_FRAME
         for size in (len(data), 1):
-            with siege.join(timeout=SLOWEST_REPLY) as client:
+            with siege.join() as client:
                 client.send(BEGIN)
                 for at in range(0, len(data), size):
                     client.send(data[at:at + size])
@@ -147,7 +162,7 @@ def exchange(siege, data, waits_for_end, receive_buffer=None):
     with siege.join(receive_buffer=receive_buffer) as client:
         left, came, piece = memoryview(data), bytearray(), b"more"
         client.socket.setblocking(False)
-        quiet = time.monotonic() + 4 * SLOWEST_REPLY
+        quiet = time.monotonic() + PATIENCE
         while piece or left:
             may_read = piece and not (waits_for_end and left)
             expect(time.monotonic() < quiet, f"nothing moves, with {len(left):,} bytes to be sent and {len(came):,} read")
@@ -164,7 +179,7 @@ def exchange(siege, data, waits_for_end, receive_buffer=None):
                 text = f"{type(found).__name__} behind {len(came):,} bytes that came, with {len(left):,} left to be sent"
                 raise Deviation(f"{text}; the last were {bytes(came[-20:])!r}") from None
             if ready or writable:
-                quiet = time.monotonic() + 4 * SLOWEST_REPLY
+                quiet = time.monotonic() + PATIENCE
     return bytes(came)
 
 
@@ -198,12 +213,8 @@ LINGERING_MAX = 64    # how many connections behind a broken frame are kept
 
 
 def are_reset(clients):
-    """Of each of these, whose server has ended: is what it sends reset, since the connection was closed?"""
+    """Of each of these, whose server has ended: was what it sent reset, since the connection is closed?"""
     for client in clients:
-        client.send(b"x")
-    time.sleep(0.2)
-    for client in clients:
-        client.is_closed = False
         client.send(b"x")
     return [client.is_closed for client in clients]
 
@@ -211,23 +222,21 @@ def are_reset(clients):
 def held_behind_broken_frames(siege):
     """Peers that hold on after their broken frame: they take no place, and few descriptors. The oldest are closed, and the others when they
     end."""
-    time.sleep(0.2)    # those that left have been taken out
-    before = siege.server.descriptors()
+    siege.wait_for_descriptors(lambda kept: kept <= 0, "descriptors are kept though those that had them left")
     clients = take_every_place(siege)
     for client in clients:
         client.send(BEGIN + b"*0")
         came = client.rest()
         expect(came == OK + BROKEN_FRAME, f"a broken frame was answered {came!r}")
+        client.is_closed = False    # until what it sends is reset
     all_transactions_are_free(siege)
-    time.sleep(0.2)
-    kept = siege.server.descriptors() - before
-    expect(kept == LINGERING_MAX, f"{kept} descriptors of {len(clients)} are kept")
-    reset = are_reset(clients)
-    expect(reset == [True] * (len(clients) - LINGERING_MAX) + [False] * LINGERING_MAX, f"others than the oldest were closed: {reset}")
+    siege.wait_for_descriptors(lambda kept: kept == LINGERING_MAX, f"there aren't {LINGERING_MAX} descriptors of {len(clients)} that are kept")
+    due = [True] * (len(clients) - LINGERING_MAX) + [False] * LINGERING_MAX
+    wait_for(lambda: are_reset(clients)[:-LINGERING_MAX] == due[:-LINGERING_MAX], "the oldest aren't closed")
+    expect(are_reset(clients) == due, "others than the oldest were closed")
+    siege.wait_for_descriptors(lambda kept: kept == LINGERING_MAX, f"there aren't {LINGERING_MAX} descriptors any more")
     close_all(clients)
-    time.sleep(0.2)
-    kept = siege.server.descriptors() - before
-    expect(kept <= 0, f"{kept} descriptors are kept though their peers have ended")
+    siege.wait_for_descriptors(lambda kept: kept <= 0, "descriptors are kept though their peers have ended")
 
 
 LINGERING_BYTES, IN_BUFFERS = 1 << 26, 1 << 24    # how many bytes are dropped behind a broken frame, and how many more the system may hold
@@ -259,7 +268,7 @@ def flood(siege, request, due, times, fills_first):
         sock.setblocking(False)
     while any(owed.values()):
         readers = [sock for sock in owed if reads and owed[sock]]
-        ready, writable, _ = select.select(readers, [sock for sock in left if left[sock]], [], 1.0 if not reads else SLOWEST_REPLY)
+        ready, writable, _ = select.select(readers, [sock for sock in left if left[sock]], [], 1.0 if not reads else PATIENCE)
         if not ready and not writable:
             expect(not reads, "the flood stands still")
             reads = True
@@ -281,17 +290,22 @@ def flood_of_transactions(siege):
 
 def replies_of_two_turns(siege):
     """128 requests at once, which are served in two turns: what the second sends doesn't wait until the peer acknowledges what the first
-    sent, which a peer that is told to puts off for 40 ms (TCP_NODELAY)."""
+    sent, which a peer that is told to puts off for 40 ms (TCP_NODELAY). Where the machine does much else it's tried again."""
     with siege.join() as client:
-        waits = []
-        for _ in range(siege.times(15, 101)):
-            client.socket.setsockopt(socket.IPPROTO_TCP, socket.TCP_QUICKACK, 0)
-            begun = time.monotonic()
-            client.send(2 * REQUESTS_MAX * PING)
-            expect(all(client.reply() == PONG for _ in range(2 * REQUESTS_MAX)), "another reply")
-            waits.append(time.monotonic() - begun)
-        usual = sorted(waits)[len(waits) // 2]
-        expect(usual < ACKNOWLEDGED_LATE / 2, f"half of the batches took {1_000 * usual:.0f} ms or more")
+        for is_last in (False, False, False, True):
+            few = sorted(two_turns(client) for _ in range(siege.times(15, 101)))[:siege.times(4, 25)][-1]
+            expect(few < ACKNOWLEDGED_LATE / 2 or not is_last, f"three of four batches took {1_000 * few:.0f} ms or more")
+            if few < ACKNOWLEDGED_LATE / 2:
+                return
+
+
+def two_turns(client):
+    """How long the replies of two turns took."""
+    client.socket.setsockopt(socket.IPPROTO_TCP, socket.TCP_QUICKACK, 0)
+    begun = time.monotonic()
+    client.send(2 * REQUESTS_MAX * PING)
+    expect(all(client.reply() == PONG for _ in range(2 * REQUESTS_MAX)), "another reply")
+    return time.monotonic() - begun
 
 
 def flood_before_reading(siege):
@@ -413,7 +427,7 @@ def burst(siege):
     """400 connections while the server is stopped: once it goes on, each is served or closed without a byte, soon."""
     all_transactions_are_free(siege)
     for _ in range(siege.times(1, 10)):
-        time.sleep(0.2)    # those that left have been taken out
+        siege.wait_for_descriptors(lambda kept: kept <= 0, "descriptors are kept though those that had them left")
         siege.server.process.send_signal(signal.SIGSTOP)
         clients = [socket.socket() for _ in range(BURST)]
         try:
@@ -427,8 +441,8 @@ def burst(siege):
 
 
 def judge_burst(clients):
-    """Each asks as soon as it is connected; some are served and the others closed, within the time of the slowest reply."""
-    asking, waiting, answers, end = set(clients), set(clients), [], time.monotonic() + SLOWEST_REPLY
+    """Each asks as soon as it is connected; some are served and the others closed."""
+    asking, waiting, answers, end = set(clients), set(clients), [], time.monotonic() + PATIENCE
     while waiting and time.monotonic() < end:
         ready, writable, _ = select.select(list(waiting), list(asking), [], 0.1)
         for client in writable:
@@ -603,21 +617,73 @@ SCENES = (
     flood_of_commits, whole_transactions, never_reads, reads_late, resets, two_hundred_connections, burst, random_bytes, every_session_at_its_limits)
 
 
-def play(tally, siege, scene):
-    """One scene, and how the good client fared in it."""
-    name, begun = scene.__name__.replace("_", " "), time.monotonic()
-    siege.good.since()
-    with tally.run(name):
-        scene(siege)
-    siege.good.wait_for_one(SLOWEST_REPLY)
-    commits, full, slowest = siege.good.since()
+# How many COMMITs may come in one turn, apart from the good client's, in the quick and the long form; none in all other scenes.
+COMMITS_AT_ONCE = {flood_of_commits: (2 * REQUESTS_MAX // 2, 8 * REQUESTS_MAX // 2), whole_transactions: (SESSIONS_MAX, SESSIONS_MAX)}
+
+
+def play(tally, siege, scene, bound=SLOWEST_REPLY):
+    """One scene, and how the good client fared in it. It is played once more where a reply took longer than the bound. Returns its commits."""
+    name = scene.__name__.replace("_", " ")
+    commits, slowest = play_once(tally, siege, scene, name)
+    if slowest >= bound:
+        more, slowest = play_once(tally, siege, scene, f"{name}, once more")
+        commits += more
     with tally.run(f"the good client during {name}"):
         expect(siege.server.is_alive(), "the server ended")
         expect(siege.good.deviation is None, f"{siege.good.deviation}")
-        expect(commits + full > 0 and slowest < SLOWEST_REPLY, f"its slowest reply took {slowest:.2f} seconds")
-    print(f"  {name}: {time.monotonic() - begun:.1f} s; the good client: {commits} commits, {full} times full, slowest reply "
-          f"{1_000 * slowest:.1f} ms; peak {siege.server.memory('VmHWM'):,} bytes", flush=True)
+        expect(slowest < bound, f"its slowest reply took {slowest:.2f} seconds, twice")
     return commits
+
+
+def play_once(tally, siege, scene, name):
+    """How many transactions the good client commits meanwhile or is refused, at least one, and its slowest reply."""
+    begun = time.monotonic()
+    siege.good.since()
+    siege.good.syncs = syncs_ahead(1 + siege.times(*COMMITS_AT_ONCE.get(scene, (0, 0))))
+    with tally.run(name):
+        scene(siege)
+    siege.good.wait_for_one(6 * PATIENCE)
+    commits, full, slowest, longest = siege.good.since()
+    with tally.run(f"the good client is served during {name}"):
+        expect(commits + full > 0 or siege.good.deviation, "it isn't")
+    late = f" besides {1_000 * (longest - slowest):.1f} ms of the machine" * (longest > slowest + STOOD_STILL)
+    print(f"  {name}: {time.monotonic() - begun:.1f} s; the good client: {commits} commits, {full} times full, slowest reply "
+          f"{1_000 * slowest:.1f} ms{late}; peak {siege.server.memory('VmHWM'):,} bytes", flush=True)
+    return commits, slowest
+
+
+# What the judge must find
+
+def stopped_server(siege):
+    """The server stands still, and the machine doesn't."""
+    siege.server.process.send_signal(signal.SIGSTOP)
+    try:
+        time.sleep(siege.times(STOPPED, 1.5 * SLOWEST_REPLY))
+    finally:
+        siege.server.process.send_signal(signal.SIGCONT)
+
+
+def judge_stopped(tally, siege):
+    """A server that is stopped for longer than the bound is reported, except where the machine stands still at the same time."""
+    for is_last in (False, False, True):
+        found = Tally("a server that is stopped")
+        play(found, siege, stopped_server, siege.times(STOPPED / 2, SLOWEST_REPLY))
+        if found.deviations or is_last:
+            break
+    with tally.run(f"{found.name} is reported"):
+        texts = list(found.deviations)
+        expect(len(texts) == 1 and "its slowest reply took" in texts[0], f"it is said that {texts}")
+
+
+def judge_lateness(tally, siege, place):
+    """What the machine itself is late counts as that: sleeps that take longer, and syncs, of which so many are waited for."""
+    with tally.run("a machine that is late"), Lateness(siege.server.process.pid, place, lambda seconds: time.sleep(seconds + 2 * STOOD_STILL)) as late:
+        begun = late.now()
+        wait_for(lambda: late.lost(begun, 0) > 4 * STOOD_STILL, "sleeps that overrun aren't counted")
+        wait_for(lambda: late.syncs, "there are no syncs")
+        late.syncs.append((time.monotonic(), 1.0))
+        due = late.lost(begun, 0)
+        expect(due >= 1.0 and late.lost(begun, 1_000) >= due + 1_000 / len(late.syncs), "a sync that takes long isn't counted")
 
 
 class Hostile(Harness):
@@ -625,12 +691,17 @@ class Hostile(Harness):
 
     def test_hostile(self):
         tally = self.tally
-        with folder() as place, Server(fresh(place, SECTORS)) as server:
+        with in_memory() as place, Server(fresh(place, SECTORS)) as server, Lateness(server.process.pid, place) as lateness:
             idle = server.memory("VmHWM")
+            with Connection(server.port) as client:
+                expect(client.ask(PING) == PONG, "a client is not served")
+                descriptors = server.descriptors()
             fill(server)
-            siege = Siege(server, is_long())
+            siege = Siege(server, lateness, descriptors, is_long())
             siege.good.start()
             commits = [play(tally, siege, scene) for scene in SCENES][-1]
+            judge_stopped(tally, siege)
+            judge_lateness(tally, siege, place)
             siege.good.end()
             judge_memory(tally, server.memory("VmHWM"), idle, commits)
             with tally.run("its error output"):

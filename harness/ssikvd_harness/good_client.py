@@ -5,25 +5,31 @@ import time
 from .connection import Connection
 from .deviations import Deviation, expect
 from .frames import FULL, OK, frame
+from .lateness import Lateness
+from .settings import PATIENCE
 
 KEY, VALUE = b"\xff good", b"1"
 PAUSE = 0.005
 
 
 class GoodClient(threading.Thread):
-    """Commits one key again and again, each request after the previous reply, and takes the time of each reply."""
+    """Commits one key again and again, each request after the previous reply, and takes the time of each reply. `slowest` is without that by which
+    the machine itself was late, `longest` with it. `syncs` is how many syncs a reply may have to wait for."""
 
-    def __init__(self, port: int | None) -> None:
+    def __init__(self, port: int | None, lateness: Lateness, syncs: int) -> None:
         super().__init__(daemon=True)
-        self.connection = Connection(port)
+        self.connection, self.lateness, self.syncs = Connection(port, 6 * PATIENCE), lateness, syncs
         self.turn, self.is_done = threading.Lock(), False
-        self.commits, self.full, self.slowest = 0, 0, 0.0
+        self.commits, self.full, self.slowest, self.longest = 0, 0, 0.0, 0.0
         self.deviation: Exception | None = None
 
     def _ask(self, *parts: bytes | str) -> bytes | None:
-        begun = time.monotonic()
+        begun = self.lateness.now()
         reply = self.connection.ask(frame(*parts))
-        self.slowest = max(self.slowest, time.monotonic() - begun)
+        took = time.monotonic() - begun.at
+        self.longest = max(self.longest, took)
+        if took > self.slowest:
+            self.slowest = max(self.slowest, took - self.lateness.lost(begun, self.syncs))
         return reply
 
     def _transaction(self) -> None:
@@ -47,11 +53,11 @@ class GoodClient(threading.Thread):
         except (Deviation, OSError) as found:
             self.deviation = found
 
-    def since(self) -> tuple[int, int, float]:
-        """What happened since it was asked last: commits, refusals for 64 others, the slowest reply."""
+    def since(self) -> tuple[int, int, float, float]:
+        """What happened since it was asked last: commits, refusals for 64 others, the slowest reply, the longest one."""
         with self.turn:
-            found = self.commits, self.full, self.slowest
-            self.commits, self.full, self.slowest = 0, 0, 0.0
+            found = self.commits, self.full, self.slowest, self.longest
+            self.commits, self.full, self.slowest, self.longest = 0, 0, 0.0, 0.0
         return found
 
     def wait_for_one(self, seconds: float) -> None:

@@ -73,10 +73,21 @@ def fill(data: str, count: int, sectors: int = SECTORS) -> None:
             commit(server.port, number)
 
 
+MEMORY, ROOM = "/dev/shm", 512 << 20    # where files are in memory, and how many bytes must be free there
+
+
+def memory() -> str | None:
+    """Where a folder may be in memory; None where there is no such place, or little room in it."""
+    if not os.access(MEMORY, os.W_OK | os.X_OK):
+        return None
+    room = os.statvfs(MEMORY)
+    return MEMORY if room.f_bavail * room.f_frsize >= ROOM else None
+
+
 def in_memory() -> contextlib.AbstractContextManager[str]:
-    """A folder in memory where that is possible: the program is faster there, and no sync is judged."""
-    if os.path.isdir("/dev/shm"):
-        tempfile.tempdir = "/dev/shm"
+    """A folder in memory where that is possible, and else on the disk: the program is faster there, and no sync is judged. Folders that are made later
+    are in memory, too."""
+    tempfile.tempdir = memory() or tempfile.tempdir
     return folder()
 
 
