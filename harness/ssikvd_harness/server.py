@@ -3,6 +3,7 @@ from __future__ import annotations
 
 import contextlib
 import os
+import random
 import select
 import shutil
 import socket
@@ -25,9 +26,9 @@ Ended = tuple[int, bytes, bytes]    # of a command the status, the output and th
 
 
 @contextlib.contextmanager
-def folder() -> Iterator[str]:
-    """A folder that is removed at the end."""
-    name = tempfile.mkdtemp(prefix="ssikvd-harness-")
+def folder(place: str | None = None) -> Iterator[str]:
+    """A folder that is removed at the end, in this place or where temporary files are."""
+    name = tempfile.mkdtemp(prefix="ssikvd-harness-", dir=place)
     try:
         yield name
     finally:
@@ -51,12 +52,25 @@ def closing(descriptors: Iterable[int]) -> Callable[[], None] | None:
     return close if descriptors else None
 
 
+LEAST_PORT = 10_000
+
+
+def ports_of_nobody() -> list[int]:
+    """The ports that the system gives to no connection by itself, without those that are often taken."""
+    with open("/proc/sys/net/ipv4/ip_local_port_range", encoding="ascii") as file:
+        first, last = map(int, file.read().split())
+    return [*range(LEAST_PORT, first), *range(last + 1, 65_536)]
+
+
 def free_port() -> int:
-    """A port of 127.0.0.1 that nothing listens at now."""
-    with socket.socket() as probe:
-        probe.bind(("127.0.0.1", 0))
-        port: int = probe.getsockname()[1]
-        return port
+    """A port of 127.0.0.1 that nothing listens at now, and that no connection takes before a server does, where there are such ports."""
+    ports = ports_of_nobody()
+    for port in (*random.SystemRandom().sample(ports, min(len(ports), 100)), 0):
+        with socket.socket() as probe, contextlib.suppress(OSError):
+            probe.bind(("127.0.0.1", port))
+            found: int = probe.getsockname()[1]
+            return found
+    raise OSError("no port is free")
 
 
 def memory_of(process: int, name: str) -> int:
