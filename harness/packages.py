@@ -30,6 +30,7 @@ import re
 import shutil
 import signal
 import socket
+import subprocess
 import time
 
 from ssikvd_harness.arguments import is_long, run_harness
@@ -43,12 +44,14 @@ from ssikvd_harness.limits import WRITES_MAX
 from ssikvd_harness.log_format import log_image
 from ssikvd_harness.server import Server, folder, fresh, run
 from ssikvd_harness.settings import PATIENCE, PROGRAM
+from ssikvd_harness.tools import memory
 
 LINES_MAX = 400
 KEYS = 100_000
 SEATS = 60
 SECTORS = 16_384
-SCRIPTS_AT_ONCE = 4
+SCRIPTS_AT_ONCE = 8    # of which some only wait
+LONGER = 3    # how many times as long a script may take that is played again
 
 
 ERRORS = """overwritten: Conflict key 6b
@@ -97,7 +100,7 @@ class Count(Run):
 
 def all_at_once(package):
     """Conflicts, 64 other transactions, connections that are cut, and a kill."""
-    with folder() as place, Count(package, place, 0.15, 12) as count:
+    with folder(memory()) as place, Count(package, place, 0.15, 12) as count:
         count.among_others()
         count.kill(count.due // 2)
         count.result()
@@ -105,7 +108,7 @@ def all_at_once(package):
 
 
 def conflicts(package):
-    with folder() as place, Count(package, place, 0.0, 100) as count:
+    with folder(memory()) as place, Count(package, place, 0.0, 100) as count:
         for is_first in (True, False):
             count.process = count.begin()
             tries = count.result()
@@ -113,14 +116,14 @@ def conflicts(package):
 
 
 def cuts(package):
-    with folder() as place, Count(package, place, 0.4, 40) as count:
+    with folder(memory()) as place, Count(package, place, 0.4, 40) as count:
         count.process = count.begin()
         count.result()
         expect(count.proxy.cuts > count.due // 4, f"only {count.proxy.cuts} connections were cut")
 
 
 def kills(package):
-    with folder() as place, Count(package, place, 0.0, 100) as count:
+    with folder(memory()) as place, Count(package, place, 0.0, 100) as count:
         count.process = count.begin()
         for number in range(1, 6):
             count.kill(number * count.due // 6)
@@ -173,14 +176,14 @@ def judge_bookings(said, stored, times):
 
 
 def reservations(package, times=12):
-    with folder() as place, Booking(package, place, times) as booking:
+    with folder(memory()) as place, Booking(package, place, times) as booking:
         booking.kill(WORKERS * times // 3)
         judge_bookings(*booking.result(), times)
         expect(booking.proxy.cuts > 2, f"only {booking.proxy.cuts} connections were cut")
 
 
 def errors(package):
-    with folder() as place, Server(fresh(place, 1_024)) as server:
+    with folder(memory()) as place, Server(fresh(place, 1_024)) as server:
         found = ended(package.job(server.port, "errors"))
         expect(found == ERRORS, f"it printed {[line for line in found.splitlines() if line not in ERRORS.splitlines()]}")
 
@@ -209,22 +212,27 @@ def readme(package):
         text = file.read()
     code = re.search(r"^```(?!console)\w+\n(.*?)^```$", text, re.M | re.S)[1]
     due = re.search(rf"^\$ .*{re.escape(name)}\n(.*?)^```$", text, re.M | re.S)[1]
-    with folder() as place, Server(fresh(place, 1_024)) as server:
+    with folder(memory()) as place, Server(fresh(place, 1_024)) as server:
         with open(os.path.join(here, name), "w", encoding="utf-8") as file:
             file.write(code.replace("7777", str(server.port)))
         status, out, errors = shell(package.first, here)
         expect(status == 0 and out == due, f"{name} ended with {status}, {out!r} {errors[-400:]!r}, expected {due!r}")
 
 
+# A job's last two words are its deadline and its reply timeout, in seconds.
 def in_pieces(reply):
     return [reply[at:at + 1] for at in range(len(reply))]
 
 
 SET, ONCE = "set a b 0 10", "once a 0 10"
 PATIENT_SET, PATIENT_ONCE = "set a b 30 10", "once a 30 10"
-SHORT_SET = "set a b 30 1"    # where a reply never comes
-# What is scripted, the job, the answers by name, what the job prints, and how often each name is asked.
+SHORT_SET = "set a b 30 3"    # where a reply never comes; all others must come within this time
+# What is scripted, the job, the answers by name, what the job prints, and how often each name is asked. Those that wait are first.
 SCRIPTS = [
+    ("a COMMIT without a reply", SHORT_SET, {"COMMIT": [SILENCE]}, "Lost", {"BEGIN": 1, "COMMIT": 1}),
+    ("half a reply to COMMIT", SHORT_SET, {"COMMIT": [[b":1"]]}, "Lost", {"COMMIT": 1}),
+    ("no reply to SET once", SHORT_SET, {"SET": [SILENCE, OK]}, "done", {"BEGIN": 2, "SET": 2, "COMMIT": 1, "ABORT": 0}),
+    ("no reply to PING", SHORT_SET, {"PING": [SILENCE]}, "Unreachable", {"PING": 1, "BEGIN": 0}),
     ("the usual", SET, {}, "done", {"PING": 1, "BEGIN": 1, "SET": 1, "COMMIT": 1}),
     ("replies in pieces", SET, {"BEGIN": [in_pieces(OK)], "COMMIT": [in_pieces(b":123\r\n")]}, "done", {"COMMIT": 1}),
     ("a conflict", SET, {"COMMIT": [PIVOT]}, "Conflict pivot 7", {"BEGIN": 1, "COMMIT": 1, "ABORT": 0}),
@@ -239,14 +247,10 @@ SCRIPTS = [
     ("a refusal amid it", PATIENT_SET, {"SET": [refusal("ERR key")]}, "Refused ERR key", {"BEGIN": 1, "SET": 1, "ABORT": 1, "COMMIT": 0}),
     ("no room for a write", PATIENT_SET, {"SET": [refusal("FULL writes")]}, "Full writes", {"ABORT": 1, "COMMIT": 0}),
     ("a COMMIT that is cut", PATIENT_SET, {"COMMIT": [CLOSE]}, "Lost", {"BEGIN": 1, "COMMIT": 1}),
-    ("a COMMIT without a reply", SHORT_SET, {"COMMIT": [SILENCE]}, "Lost", {"BEGIN": 1, "COMMIT": 1}),
-    ("half a reply to COMMIT", SHORT_SET, {"COMMIT": [[b":1"]]}, "Lost", {"COMMIT": 1}),
     ("a reply that is none", SET, {"SET": [b"?\r\n"]}, "Unreachable", {"SET": 1, "COMMIT": 0}),
     ("cut at BEGIN", SET, {"BEGIN": [CLOSE]}, "Unreachable", {"BEGIN": 1, "SET": 0}),
     ("cut at BEGIN once", PATIENT_SET, {"BEGIN": [CLOSE, OK]}, "done", {"BEGIN": 2, "COMMIT": 1}),
     ("cut at SET once", PATIENT_SET, {"SET": [CLOSE, OK]}, "done", {"BEGIN": 2, "SET": 2, "COMMIT": 1}),
-    ("no reply to SET once", SHORT_SET, {"SET": [SILENCE, OK]}, "done", {"BEGIN": 2, "SET": 2, "COMMIT": 1, "ABORT": 0}),
-    ("no reply to PING", SHORT_SET, {"PING": [SILENCE]}, "Unreachable", {"PING": 1, "BEGIN": 0}),
     ("cut at PING", PATIENT_SET, {"PING": [CLOSE]}, "Unreachable", {"PING": 1, "BEGIN": 0}),
     ("once", ONCE, {}, "made", {"GET": 1, "SET": 1, "COMMIT": 1}),
     ("once, done before", ONCE, {"GET": [bulk(b"before")]}, "before", {"GET": 1, "SET": 0, "COMMIT": 1}),
@@ -265,14 +269,25 @@ def judge_script(out, asked, due, counts):
     expect(not wrong, f"it asked {wrong}, expected {counts}")
 
 
+def longer(words, times):
+    """The words of a job that has so many times the time."""
+    *what, deadline, reply = words.split()
+    return [*what, str(int(deadline) * times), str(int(reply) * times)]
+
+
 def scripted(package, what, words, answers, due, counts):
-    server = Scripted(answers)
-    try:
-        judge_script(ended(package.job(server.port, *words.split())), server.asked, due, counts)
-    except Deviation as found:
-        raise Deviation(f"{what}: {found}") from None
-    finally:
-        server.close()
+    """One script, and once more with more time where it fails: on a machine that does much else a reply may come too late."""
+    failures = []
+    for times in (1, LONGER):
+        server = Scripted(answers)
+        try:
+            judge_script(ended(package.job(server.port, *longer(words, times)), 3 * PATIENCE * times), server.asked, due, counts)
+            return
+        except (Deviation, subprocess.TimeoutExpired) as found:
+            failures.append(str(found))
+        finally:
+            server.close()
+    raise Deviation(f"{what}: {failures[-1]}, and before that {failures[0]}")
 
 
 def scripts(package):
@@ -448,7 +463,7 @@ class Packages(Harness):
         for package in PACKAGES:
             if package not in there:
                 missing(f"the package for {package.name}", package.needs)
-        with folder() as place, concurrent.futures.ThreadPoolExecutor(max(1, len(there))) as threads:
+        with folder(memory()) as place, concurrent.futures.ThreadPoolExecutor(max(1, len(there))) as threads:
             filled = Filled(place)
             try:
                 for found, seconds in threads.map(lambda package: play(package, filled), there):

@@ -23,7 +23,7 @@ WORKERS = 8
 ENVIRONMENT = {**os.environ, "GOCACHE": os.path.join(OUT, "go"), "PYTHONDONTWRITEBYTECODE": "1"}
 
 
-def shell(command: str, place: str, seconds: float = 6 * PATIENCE) -> tuple[int, str, str]:
+def shell(command: str, place: str, seconds: float = 15 * PATIENCE) -> tuple[int, str, str]:
     """What the command printed in this folder, and its status."""
     ran = subprocess.run(["bash", "-c", command], cwd=place, env=ENVIRONMENT, capture_output=True, text=True, timeout=seconds)
     return ran.returncode, ran.stdout, ran.stderr
@@ -100,7 +100,7 @@ class Client(Protocol):
 
 def wait_for(holds: Callable[[], object], process: subprocess.Popen[Any]) -> None:
     """Waits until it holds, or the process has ended."""
-    end = time.monotonic() + PATIENCE
+    end = time.monotonic() + 3 * PATIENCE
     while not holds() and process.poll() is None and time.monotonic() < end:
         time.sleep(0.005)
 
@@ -126,10 +126,14 @@ class Run:
         expect(self.proxy.refusals[FULL], f"the client met no {FULL!r}")
 
     def kill(self, commits: int) -> None:
-        """Kills the server after this many COMMITs, and starts it again."""
-        wait_for(lambda: self.proxy.names[b"COMMIT"] >= commits, self.process)
-        expect(self.process.poll() is None, "the client ended before the server was killed")
-        self.server.kill()
+        """Kills the server after this many COMMITs, and starts it again. The client doesn't come to its end before."""
+        self.proxy.most = (commits + self.due) // 2
+        try:
+            wait_for(lambda: self.proxy.names[b"COMMIT"] >= commits, self.process)
+            expect(self.process.poll() is None, "the client ended before the server was killed")
+            self.server.kill()
+        finally:
+            self.proxy.most = float("inf")
         time.sleep(0.05)
         self.server = Server(self.data)
         self.proxy.port = self.server.port
