@@ -35,7 +35,7 @@ from ssikvd_harness.server import FILE_FAULT, STORE_STOPPED, Server, check, crea
 from ssikvd_harness.settings import PATIENCE, PROGRAM
 
 DESCRIPTORS, CONNECTIONS = 24, 40
-SOON = 0.5
+WAIT = 0.5    # for how long nothing comes that must not come
 MIB = 1 << 20
 
 
@@ -45,11 +45,10 @@ def with_limit(kind, amount):
 
 # Descriptors
 
-def served(clients, patience=0.5):
-    """Those of the clients, each of which has asked once, whose reply comes in this time."""
-    end, found = time.monotonic() + patience, []
-    while time.monotonic() < end and len(found) < len(clients):
-        ready, _, _ = select.select([c.socket for c in clients if c not in found], [], [], 0.1)
+def served(clients, count):
+    """Those of the clients, each of which has asked once, that are served: so many are expected, and no more."""
+    found = []
+    while ready := select.select([c.socket for c in clients if c not in found], [], [], PATIENCE if len(found) < count else WAIT)[0]:
         found += [client for client in clients if client.socket in ready]
     for client in found:
         expect(client.reply() == PONG, "a connection that waited was closed")
@@ -74,8 +73,8 @@ def spent_while_waiting(server):
 def soon_served(clients):
     """The first of the clients to be served, none of which sends anything more, and after how many seconds."""
     began = time.monotonic()
-    ready, _, _ = select.select([client.socket for client in clients], [], [], SOON)
-    expect(ready, f"no connection that waits is served within {SOON} seconds")
+    ready, _, _ = select.select([client.socket for client in clients], [], [], PATIENCE)
+    expect(ready, "no connection that waits is served")
     seconds = time.monotonic() - began
     found = [client for client in clients if client.socket in ready]
     expect(all(client.reply() == PONG for client in found), "a connection that waited was closed")
@@ -96,9 +95,12 @@ def one_after_another(waiting, open_clients):
 
 
 def few_descriptors(server):
+    with asking(server) as client:
+        expect(client.reply() == PONG, "a client is not served")
+        free = DESCRIPTORS - server.descriptors() + 1
     clients = [asking(server) for _ in range(CONNECTIONS)]
-    first = served(clients)
-    expect(0 < len(first) < CONNECTIONS, f"{len(first)} of {CONNECTIONS} connections are served")
+    first = served(clients, free)
+    expect(len(first) == free, f"{len(first)} of {CONNECTIONS} connections are served, expected {free}")
     spent = spent_while_waiting(server)
     waiting = [client for client in clients if client not in first]
     longest = one_after_another(waiting, list(first))
@@ -130,12 +132,12 @@ def commits(client, number):
 def memory_is_back(server):
     """After how many seconds a transaction commits that marks all it may; the connection of one that is refused memory is closed."""
     began = time.monotonic()
-    while time.monotonic() < began + SOON:
+    while time.monotonic() < began + PATIENCE:
         with Connection(server.port) as client:
             if commits(client, 0):
                 return time.monotonic() - began
         time.sleep(0.01)
-    expect(False, f"there is no memory {SOON} seconds after the old transaction has ended")
+    expect(False, f"there is no memory {PATIENCE} seconds after the old transaction has ended")
 
 
 def old_transaction(server):
@@ -229,7 +231,6 @@ def file_limit_of_create(place, is_ignored):
 
 # A full pipe
 
-WAIT = 0.5
 
 
 class Pipe:
@@ -282,10 +283,11 @@ class Piped:
                 expect(time.monotonic() < end and self.process.poll() is None, f"the port isn't there; status {self.process.poll()}")
                 time.sleep(0.01)
 
-    def is_served(self, client):
-        """Is a PING answered soon?"""
+    @staticmethod
+    def is_served(client, seconds=PATIENCE):
+        """Is a PING answered in this time?"""
         client.send(PING)
-        return bool(select.select([client.socket], [], [], WAIT)[0]) and client.reply() == PONG
+        return bool(select.select([client.socket], [], [], seconds)[0]) and client.reply() == PONG
 
     def stop_the_store(self, client):
         """A commit, and one in which the data file fails."""
@@ -312,7 +314,7 @@ def expect_line(server, due):
 def full_output(place):
     """The port is there, and nobody is served until the first line is taken."""
     with Piped(place, "stdout") as server, server.connected() as client:
-        expect(not server.is_served(client), "a client is served though the first line has no room")
+        expect(not server.is_served(client, WAIT), "a client is served though the first line has no room")
         expect_line(server, b"listening 127.0.0.1:%d\n" % server.port)
         expect(client.reply() == PONG and server.is_served(client), "nobody is served though the line was taken")
 
@@ -321,7 +323,7 @@ def full_errors_of_a_stopped_store(place):
     """The COMMIT that met the fault is answered; then nobody is served until the line is taken."""
     with Piped(place, "stderr") as server, server.connected() as client:
         server.stop_the_store(client)
-        expect(not server.is_served(client), "a client is served though the line has no room")
+        expect(not server.is_served(client, WAIT), "a client is served though the line has no room")
         expect_line(server, STORE_STOPPED)
         expect(client.reply() == PONG and client.ask(BEGIN) == refusal("STORE stopped"), "nobody is served though the line was taken")
     expect(check(server.data)[0] == 1, "the commit that was answered is not there")
