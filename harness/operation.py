@@ -31,7 +31,7 @@ from ssikvd_harness.failing_calls import DEVICE, Refusals
 from ssikvd_harness.frames import frame
 from ssikvd_harness.log_format import SECTOR, Damaged, NotALog, log_of, map_of, read_log
 from ssikvd_harness.server import Server, check, create, folder, free_port
-from ssikvd_harness.settings import PROGRAM
+from ssikvd_harness.settings import PATIENCE, PROGRAM
 from ssikvd_harness.tools import DIST, SECTORS, commit, fill, loaded, tool
 from ssikvd_harness.trials import Recorder, Trial, write_script
 from ssikvd_harness.units import allocator, judge_metrics, rules, scripts, texts, units
@@ -80,21 +80,22 @@ def probes(tally):
             expect_probe(probe(port), 2, "Connection refused")
             expect_probe(tool("ssikvd-probe", "7777"), 3, "argument")
         with tally.run("the probe waits"):
-            threading.Timer(0.3, late_server, (data, port)).start()
+            is_over = threading.Event()
+            threading.Timer(0.3, late_server, (data, port, is_over)).start()
             found = probe(port, "--wait", "20")
+            is_over.set()
             expect_probe(found, 0, "transactions begin | time=")
         with tally.run("the probe waits for a process that has ended"):
             ended = subprocess.Popen(["true"])
             ended.wait()
-            begun = time.monotonic()
-            found = probe(free_port(), "--wait", "20", "--process", str(ended.pid))
-            expect(found[0] == 2 and time.monotonic() - begun < 10, f"the probe answered {found}")
+            found = probe(free_port(), "--wait", str(3 * PATIENCE), "--process", str(ended.pid))    # it has no more than PATIENCE
+            expect(found[0] == 2, f"the probe answered {found}")
     stopped_store(tally)
 
 
-def late_server(data, port):
+def late_server(data, port, is_over):
     with Server(data, listen=f"127.0.0.1:{port}"):
-        time.sleep(2.0)
+        is_over.wait(2 * PATIENCE)
 
 
 def stopped_store(tally):
