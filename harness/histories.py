@@ -42,6 +42,7 @@ LOST = 0.01     # of the COMMITs: their client ends the connection without waiti
 READER, LATER = 999, 1_000     # the process of the last reads, and how far the next process of a client is
 PAGE = "128"
 MODEL_COUNT = 250
+OK_LEAST, FAIL_LEAST = 50, 5    # how many transactions of a history must be committed, and refused, that there is something to judge
 
 
 class Lost(Exception):
@@ -258,30 +259,41 @@ class Driver(threading.Thread):
                 request = self.steps.send(reply)
 
 
+def is_enough(events):
+    """Are there more transactions than a judge wants?"""
+    kinds = [event["type"] for event in list(events.list)]
+    return kinds.count("ok") > 2 * OK_LEAST and kinds.count("fail") > 2 * FAIL_LEAST
+
+
 def serve_history(place, form, seconds, clients=CLIENTS, kills=1, seed=1):
-    """The events of a history of this many clients over this long, amid which the server is killed this many times."""
+    """The events of a history of this many clients over this long, or until there is enough to judge, amid which the server is killed this many
+    times."""
     data = os.path.join(place, f"data {seed}")
     create(data, SECTORS["quick" if seconds < 5 else "long"])
     service, events, chance = Service(data), Events(), random.Random(seed)
-    keys, end = Keys(random.Random(seed + 1)), time.monotonic() + seconds
+    keys, end, is_over = Keys(random.Random(seed + 1)), time.monotonic() + seconds, threading.Event()
     drivers = [Driver(service, random.Random(chance.random())) for _ in range(clients)]
     try:
         for process, driver in enumerate(drivers):
             driver.steps = client(
-                form, keys, random.Random(chance.random()), events, process, lambda: time.monotonic() > end, lambda d=driver: d.life)
+                form, keys, random.Random(chance.random()), events, process, is_over.is_set, lambda d=driver: d.life)
             driver.start()
         for _ in range(kills):
             time.sleep(seconds / (kills + 1) * chance.uniform(0.8, 1.0))
             service.kill()
             service.serve()
+        while time.monotonic() < end or not is_enough(events) and any(driver.is_alive() for driver in drivers) and time.monotonic() < end + 3 * PATIENCE:
+            time.sleep(0.05)
+        is_over.set()
         for driver in drivers:
-            driver.join(seconds + PATIENCE)
+            driver.join(PATIENCE)
         last = Driver(service, chance, 0)
         last.steps = reader(form, keys, events, lambda: last.life)
         last.run()
         failures = [driver.failure for driver in (*drivers, last) if driver.failure]
         expect(not failures, f"{len(failures)} clients failed, first {failures[:1]!r}")
     finally:
+        is_over.set()
         if service.server:
             service.kill()
     os.remove(data)
@@ -492,7 +504,7 @@ def judge(form, events):
     expect(order is not None, "there is no serial order")
     expect(history.deviation(order) is None, f"the serial order is none: {history.deviation(order)}")
     counts = {kind: sum(t.kind == kind for t in history.all) for kind in ("ok", "fail", "info")}
-    expect(counts["ok"] > 50 and counts["fail"] > 5, f"there is little to judge: {counts}")
+    expect(counts["ok"] > OK_LEAST and counts["fail"] > FAIL_LEAST, f"there is little to judge: {counts}")
     return counts
 
 
