@@ -23,7 +23,7 @@ from ssikvd_harness.arguments import is_long, run_harness
 from ssikvd_harness.cases import Harness
 from ssikvd_harness.connection import Connection
 from ssikvd_harness.cutting import Cutting
-from ssikvd_harness.deviations import Deviation, expect, missing
+from ssikvd_harness.deviations import Deviation, expect, missing, wait_for
 from ssikvd_harness.examples import export, load, once, pool, simple_client, transfer, walk
 from ssikvd_harness.frames import OK, frame
 from ssikvd_harness.limits import OPEN_MAX
@@ -290,6 +290,7 @@ def copies(tally):
         threads, data, copy = Threads(), os.path.join(place, "data"), os.path.join(place, "copy")
         threads.start(commit, server.port)
         for number in range(count):
+            wait_for(lambda before=number: done[0] > before or threads.failures, "nothing is committed")
             acknowledged = done[0]
             if number % 3:
                 subprocess.run(["cp", data, copy], check=True)
@@ -303,7 +304,7 @@ def copies(tally):
             expect(records >= acknowledged, f"copy {number} lacks commits that were acknowledged before it began")
         is_done.set()
         threads.end()
-        expect(done[0] > count, "too little was committed meanwhile")
+        expect(done[0] >= count, "too little was committed meanwhile")
         served = simple_client.Client(server.port).transact(lambda store: list(walk.walk(store)))
         with open(data, "rb") as file:
             pairs = export.map_of(file)
