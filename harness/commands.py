@@ -399,18 +399,28 @@ def read_terminal(terminal):
 
 
 def late_copies(tally):
-    """`compact` reports that the copy is being written where its error output is a terminal and reading took a second, and only there."""
+    """`compact` reports that the copy is being written where its error output is a terminal and reading took a second, and only there. One that reads at
+    once may have taken a second where the machine stood still, and is run again."""
     for is_late, is_terminal in ((True, True), (False, True), (True, False)):
-        with folder() as place, tally.run(f"compact that reads {'late' if is_late else 'at once'}, {'on' if is_terminal else 'without'} a terminal"):
-            data, refusals = os.path.join(place, "data"), Refusals(place)
-            with open(data, "wb") as file:
-                file.write(IMAGE)
-            if is_late:
-                refusals.of(DEVICE).fail(2, error=LATE)
-            words = ["compact", "--from", data, "--to", os.path.join(place, "new")]
-            status, text = on_a_terminal(words, refusals.environment()) if is_terminal else run(words, environment=refusals.environment())[::2]
-            expect((status, text) == (0, COPYING if is_late and is_terminal else b""), f"it answered {(status, text)}")
-            expect(refusals.of(DEVICE).failed == is_late, "no call was late")
+        with tally.run(f"compact that reads {'late' if is_late else 'at once'}, {'on' if is_terminal else 'without'} a terminal"):
+            found = [copied(is_late, is_terminal)]
+            while not is_late and len(found) < 3 and found[-1] == (0, COPYING):
+                found.append(copied(is_late, is_terminal))
+            expect(found[-1] == (0, COPYING if is_late and is_terminal else b""), f"it answered {found}")
+
+
+def copied(is_late, is_terminal):
+    """The status of a `compact`, and what it prints."""
+    with folder() as place:
+        data, refusals = os.path.join(place, "data"), Refusals(place)
+        with open(data, "wb") as file:
+            file.write(IMAGE)
+        if is_late:
+            refusals.of(DEVICE).fail(2, error=LATE)
+        words = ["compact", "--from", data, "--to", os.path.join(place, "new")]
+        found = on_a_terminal(words, refusals.environment()) if is_terminal else run(words, environment=refusals.environment())[::2]
+        expect(refusals.of(DEVICE).failed == is_late, "no call was late")
+        return found
 
 
 # By the command, how many of its calls on files have the text of their error: its openings and its writes of zeros, and the syncs before
