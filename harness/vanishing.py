@@ -20,7 +20,7 @@ import time
 from ssikvd_harness.arguments import asked, is_long, run_harness
 from ssikvd_harness.cases import Harness
 from ssikvd_harness.connection import Connection
-from ssikvd_harness.deviations import expect
+from ssikvd_harness.deviations import expect, wait_for
 from ssikvd_harness.frames import ABORT, BEGIN, OK, PING, PONG
 from ssikvd_harness.limits import OPEN_MAX, SESSIONS_MAX
 from ssikvd_harness.server import Server, create, folder
@@ -36,7 +36,7 @@ OPTIONS = {"SO_KEEPALIVE": socket.SOL_SOCKET, "TCP_KEEPIDLE": socket.IPPROTO_TCP
            "TCP_KEEPCNT": socket.IPPROTO_TCP, "TCP_NODELAY": socket.IPPROTO_TCP}
 DUE = dict(zip(OPTIONS, (1, SILENT, BETWEEN, PROBES, 1)))
 PIDFD_GETFD = 438
-SLACK = 3.0    # seconds by which a connection may end later than the probes say, on a busy machine
+SLACK = 3.0    # seconds by which a place may be free earlier than the probes say, and for which the peer that isn't probed must stay
 LATE = 1 / 8    # and the part of its time by which a timer of Linux may be late: that of the slots of its wheel, the coarser the longer it is
 
 
@@ -199,15 +199,14 @@ def vanished(place, by):
             there_are_kept(served, peers, good, last if by > 1 else 0.0)
             peers.vanish()
             begun = time.monotonic()
-            found = wait_for_a_place(served.port, good, begun + last * (1 + LATE) + SLACK)
+            found = wait_for_a_place(served.port, good, begun + last * (1 + LATE) + PATIENCE)
             expect(found, f"no place is free {last:.0f} seconds after {PEERS} peers vanished")
             # The last answer came at most so long before they vanished as lies between two probes of a peer that is there.
             took = found - begun
             expect(took >= last - silent - SLACK, f"a place was free after {took:.1f} seconds")
-            time.sleep(silent / 4 + SLACK)
-            left = sockets_of(served.process)
-            close_all(left.values())
-            kept = sum(address[0] == FAR for address in left)
+            wait_for(lambda: kept_of(served.process) <= 1, "more peers are kept than the one that isn't probed", silent / 4 + PATIENCE)
+            time.sleep(SLACK)
+            kept = kept_of(served.process)
             expect(kept == 1, f"{kept} peers are kept, of which one isn't probed")
             expect(good.ask(ABORT) == OK, "the good client's transaction was lost")
             expect(open_transactions(served.port, OPEN_MAX - 1), "their transactions aren't free")
@@ -217,6 +216,13 @@ def vanished(place, by):
         peers.close()
         with contextlib.suppress(subprocess.CalledProcessError):
             command("ip", "link", "delete", "near")
+
+
+def kept_of(process):
+    """How many peers have a connection."""
+    left = sockets_of(process)
+    close_all(left.values())
+    return sum(address[0] == FAR for address in left)
 
 
 def there_are_kept(served, peers, good, seconds):
