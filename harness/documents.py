@@ -148,7 +148,7 @@ class Shell:
                 break
             self.came += piece
 
-    def type(self, command, least=0, seconds=PATIENCE):
+    def type(self, command, least=0, seconds=6 * PATIENCE):
         """What the command prints, and its status. Of one in the background this many lines are waited for."""
         self.turn += 1
         mark = b"--- %d " % self.turn
@@ -220,7 +220,7 @@ def run_document(tally, name, crates, left_out):
                         continue
                     with tally.run(f"{name}: {command}"):
                         due = [line.replace(PORT, port) for line in due]
-                        lines, status = shell.type(typed(command).replace(PORT, port), len(due), 300 if command.startswith("rt") else PATIENCE)
+                        lines, status = shell.type(typed(command).replace(PORT, port), len(due), (15 if command.startswith("rt") else 6) * PATIENCE)
                         expect(fits(lines, due), f"{command} printed {lines}, expected {due}")
                         expect(status == 0, f"{command} ended with {status}")
             finally:

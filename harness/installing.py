@@ -36,7 +36,7 @@ def left_out(what, tool):
     return False
 
 
-def done(words, seconds=PATIENCE, **how):
+def done(words, seconds=6 * PATIENCE, **how):
     """A tool that ends by itself with status 0: its output."""
     ran = subprocess.run(words, stdin=subprocess.DEVNULL, capture_output=True, text=True, timeout=seconds, **how)
     expect(ran.returncode == 0, f"{words} ended with {ran.returncode}: {(ran.stdout + ran.stderr)[-400:]}")
@@ -162,7 +162,7 @@ def manuals_of_tools(tally):
     for name in tools():
         with tally.run(f"the man page of {name}"):
             said = subprocess.run(
-                [os.path.join(TOP, "dist", name), "--help"], stdin=subprocess.DEVNULL, capture_output=True, text=True, timeout=PATIENCE)
+                [os.path.join(TOP, "dist", name), "--help"], stdin=subprocess.DEVNULL, capture_output=True, text=True, timeout=6 * PATIENCE)
             due = set(re.findall(r"--\w+", said.stdout + said.stderr)) - GENERAL
             for form in (r"^\.(?:Op )?Fl Fl (\w+)", r"^\.It Fl Fl (\w+)"):
                 found = {"--" + option for option in re.findall(form, text_of(f"man/{name}.8"), re.M)}
@@ -177,14 +177,14 @@ def man_lints(tally):
         expect(named <= set(names), f"there is no {named - set(names)}")
     if not left_out("mandoc -Tlint", "mandoc"):
         with tally.run("mandoc -Tlint"):
-            lint = subprocess.run(["mandoc", "-Tlint", *pages], capture_output=True, text=True, timeout=PATIENCE)
+            lint = subprocess.run(["mandoc", "-Tlint", *pages], capture_output=True, text=True, timeout=6 * PATIENCE)
             said = [line for line in lint.stdout.splitlines() if "referenced manual not found" not in line]
             expect(not said, f"mandoc says {said[:3]}")
     if not left_out("man --warnings", "man"):
         for page in pages:
             with tally.run(f"man --warnings of {os.path.basename(page)}"):
                 shown = subprocess.run(
-                    ["man", "--warnings", "-l", page], capture_output=True, text=True, timeout=PATIENCE,
+                    ["man", "--warnings", "-l", page], capture_output=True, text=True, timeout=6 * PATIENCE,
                     env={**os.environ, "LC_ALL": "C.UTF-8", "MANWIDTH": "80", "MANPAGER": "cat"})
                 expect(shown.returncode == 0 and not shown.stderr and "SEE ALSO" in shown.stdout, f"man says {shown.stderr[-300:]}")
 
@@ -249,7 +249,7 @@ class Zsh:
         """Types, and answers what is shown before the next prompt."""
         self.turn += 1
         os.write(self.screen, keys.encode())
-        shown, end = "", time.monotonic() + PATIENCE
+        shown, end = "", time.monotonic() + 3 * PATIENCE
         while not shown.endswith(f"<{self.turn}>") and time.monotonic() < end:
             if select.select([self.screen], [], [], 1.0)[0]:
                 shown = re.sub(r"\x1b\[[0-9;?]*[A-Za-z]|\r", "", shown + os.read(self.screen, 65_536).decode(errors="replace"))
@@ -337,7 +337,7 @@ def uninstalled(tally, root):
         expect(not files_below(root), f"left behind: {sorted(files_below(root))[:5]}")
     with tally.run("make install without a program"):
         ran = subprocess.run(
-            ["make", "-C", TOP, "install", f"DESTDIR={root}", "PROGRAM=/nowhere/ssikvd"], capture_output=True, text=True, timeout=PATIENCE)
+            ["make", "-C", TOP, "install", f"DESTDIR={root}", "PROGRAM=/nowhere/ssikvd"], capture_output=True, text=True, timeout=6 * PATIENCE)
         expect(ran.returncode and "there is no program /nowhere/ssikvd" in ran.stderr, f"it ended with {ran.returncode}: {ran.stderr[-200:]}")
         expect(not files_below(root), "it installed something")
 
@@ -429,7 +429,7 @@ def quick_start(tally):
 
 def without_program(tally, copy):
     with tally.run("a package without a program"):
-        ran = subprocess.run(["debian/rules", "build"], cwd=copy, capture_output=True, text=True, timeout=PATIENCE, env=DEBIAN_PATH)
+        ran = subprocess.run(["debian/rules", "build"], cwd=copy, capture_output=True, text=True, timeout=6 * PATIENCE, env=DEBIAN_PATH)
         expect(ran.returncode and "there is no program" in ran.stderr, f"it ended with {ran.returncode}: {ran.stderr[-300:]}")
 
 
@@ -497,7 +497,7 @@ def refused_releases(tally):
                 committed(copy, tag)
                 if is_changed:
                     os.truncate(os.path.join(copy, "CHANGELOG.md"), 10)
-                ran = subprocess.run(["make", "-C", copy, "release", f"PROGRAM={program}"], capture_output=True, text=True, timeout=PATIENCE, check=False)
+                ran = subprocess.run(["make", "-C", copy, "release", f"PROGRAM={program}"], capture_output=True, text=True, timeout=6 * PATIENCE, check=False)
                 expect(ran.returncode and due in ran.stderr and not os.path.exists(os.path.join(copy, "out")), f"it answered {ran}")
 
 
@@ -528,7 +528,7 @@ def install_package(tally, place, deb, test):
     for name in folders:
         os.mkdir(name)
     over = ["unshare", "-m", "sh", "-euc", OVER_A_COPY, "sh", place]
-    can = os.geteuid() == 0 and not subprocess.run([*over, "true", "", "", ""], capture_output=True, timeout=PATIENCE, env=DEBIAN_PATH).returncode
+    can = os.geteuid() == 0 and not subprocess.run([*over, "true", "", "", ""], capture_output=True, timeout=6 * PATIENCE, env=DEBIAN_PATH).returncode
     if not can:
         print("  dpkg -i: not run, for want of root and an overlay of the system", flush=True)
         return
