@@ -27,11 +27,11 @@ from ssikvd_harness.log_format import apply, log_image
 from ssikvd_harness.model import Store
 from ssikvd_harness.rows import ROWS, request_of
 from ssikvd_harness.server import DEVICE_FAULT, FILE_FAULT, OUT_OF_MEMORY, STORE_STOPPED, Server, check, create, folder
+from ssikvd_harness.settings import PATIENCE
 
 SECTORS = 512
 STEP_OF_QUICK = 7
 CALLS_MAX, ERRORS_MAX = 10_000, 10
-WAIT = 0.5
 
 
 @dataclass(frozen=True)
@@ -114,10 +114,10 @@ class Clients:
             self.failed_before = self.calls.failed
 
     def _is_let_in(self, label):
-        """A connection whose accept failed is let in soon, though no other client comes."""
+        """A connection whose accept failed is let in, though no other client comes."""
         connection = self.connections[label]
         connection.send(frame("PING"))
-        expect(select.select([connection.socket], [], [], WAIT)[0], f"{label} is not let in")
+        expect(select.select([connection.socket], [], [], PATIENCE)[0], f"{label} is not let in")
         expect(connection.reply() == PONG, f"{label} is not served")
 
     def play(self, line):
