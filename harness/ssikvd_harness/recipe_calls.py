@@ -126,7 +126,7 @@ class Run:
         create(data, SECTORS)
         self.server = Server(data)
         self.port, self.gate = self.server.port, Gate(self.server.port)
-        self.programs = [language.start(self.gate.own_port) for _ in range(PROGRAMS)]
+        self.programs, self.have_begun = [language.start(self.gate.own_port) for _ in range(PROGRAMS)], False
 
     def __enter__(self) -> Run:
         return self
@@ -151,7 +151,10 @@ class Run:
         return given[:-1]
 
     def at_once(self, *calls: str) -> tuple[list[str], int]:
-        """What calls give whose transactions are all open before the first commits, and how many conflicts there were."""
+        """What calls give whose transactions are all open before the first commits, and how many conflicts there were. All programs have begun by then:
+        else the COMMIT of one may be held for longer than it waits for a reply."""
+        if not self.have_begun:
+            self.have_begun = all([self.call("key 1", number) for number in range(PROGRAMS)])
         self.gate.hold(len(calls))
         with concurrent.futures.ThreadPoolExecutor(len(calls)) as threads:
             given = list(threads.map(self.call, calls, range(len(calls)), timeout=2 * PATIENCE))
