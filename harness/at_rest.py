@@ -282,7 +282,7 @@ exec {real} "$@"
 """
 
     def __init__(self, place, number, script):
-        self.place, self.script, self.data = place, script, os.path.join(place, "data", "data")
+        self.place, self.number, self.script, self.data = place, number, script, os.path.join(place, "data", "data")
         commands = os.path.join(place, "commands")
         os.mkdir(commands)
         os.makedirs(os.path.dirname(self.data), exist_ok=True)
@@ -301,8 +301,8 @@ exec {real} "$@"
         with open(os.path.join(self.place, "calls"), encoding="ascii") as file:
             calls = len(file.readlines())
         name, end = os.path.join(self.place, "other"), time.monotonic() + PATIENCE
-        while os.path.exists(name) and not others and time.monotonic() < end:
-            with open(name, encoding="utf-8") as file:
+        while self.number <= calls and not others and time.monotonic() < end:
+            with contextlib.suppress(FileNotFoundError), open(name, encoding="utf-8") as file:
                 others = file.read().splitlines()[-1:]
             time.sleep(0.01)
         return first, others, calls
