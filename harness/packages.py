@@ -29,7 +29,6 @@ import os
 import re
 import shutil
 import signal
-import socket
 import subprocess
 import time
 
@@ -42,7 +41,7 @@ from ssikvd_harness.frames import FULL, OK, bulk, decode, frame, pairs, refusal
 from ssikvd_harness.languages import CLIENTS, PACKAGES, WORKERS, Run, shell
 from ssikvd_harness.limits import WRITES_MAX
 from ssikvd_harness.log_format import log_image
-from ssikvd_harness.server import Server, folder, fresh, run
+from ssikvd_harness.server import Server, folder, free_port, fresh, run
 from ssikvd_harness.settings import PATIENCE, PROGRAM
 from ssikvd_harness.tools import memory
 
@@ -297,9 +296,7 @@ def scripts(package):
 
 
 def no_server(package):
-    with socket.create_server(("127.0.0.1", 0)) as closed:
-        port = closed.getsockname()[1]
-    found = ended(package.job(port, *PATIENT_SET.split()))
+    found = ended(package.job(free_port(), *PATIENT_SET.split()))
     expect(found == "Unreachable\n", f"without a server it printed {found!r}")
 
 
