@@ -23,8 +23,8 @@ from ssikvd_harness.connection import Connection
 from ssikvd_harness.deviations import Deviation, Tally, expect, wait_for
 from ssikvd_harness.frames import ABORT, BEGIN, BROKEN_FRAME, COMMIT, FULL, OK, PING, PONG, Broken, decode, frame, pairs, refusal
 from ssikvd_harness.good_client import KEY as GOOD_KEY, VALUE as GOOD_VALUE, GoodClient
-from ssikvd_harness.limits import BUFFERED_MAX, INBOX_MAX, KEY_MAX, LARGEST_REPLY, MARKS_MAX, OPEN_MAX, OUTPUT_ROOM, SESSIONS_MAX, VALUE_MAX, WRITES_MAX
 from ssikvd_harness.lateness import STOOD_STILL, Lateness
+from ssikvd_harness.limits import BUFFERED_MAX, INBOX_MAX, KEY_MAX, LARGEST_REPLY, MARKS_MAX, OPEN_MAX, OUTPUT_ROOM, SESSIONS_MAX, VALUE_MAX, WRITES_MAX
 from ssikvd_harness.model import Store
 from ssikvd_harness.server import Server, fresh
 from ssikvd_harness.settings import PATIENCE
@@ -69,9 +69,15 @@ class Siege:
             expect(time.monotonic() < end, "no connection is served")
             time.sleep(0.01)
 
-    def wait_for_descriptors(self, more, text):
-        """Waits until the server has this many descriptors besides those for the good client: `more` says of how many whether it may."""
-        wait_for(lambda: more(self.server.descriptors() - self.alone), text)
+    def kept(self):
+        """How many descriptors the server has besides those that it has with the good client alone."""
+        return self.server.descriptors() - self.alone
+
+    def wait_for_descriptors(self, least, most, text):
+        """Waits until it has at least and at most so many of these."""
+        with contextlib.suppress(Deviation):
+            wait_for(lambda: least <= self.kept() <= most, text)
+        expect(least <= self.kept() <= most, f"{self.kept()} descriptors are kept, {text}")
 
 
 def syncs_ahead(commits):
@@ -222,7 +228,7 @@ def are_reset(clients):
 def held_behind_broken_frames(siege):
     """Peers that hold on after their broken frame: they take no place, and few descriptors. The oldest are closed, and the others when they
     end."""
-    siege.wait_for_descriptors(lambda kept: kept <= 0, "descriptors are kept though those that had them left")
+    siege.wait_for_descriptors(0, 0, "though all have left")
     clients = take_every_place(siege)
     for client in clients:
         client.send(BEGIN + b"*0")
@@ -230,13 +236,13 @@ def held_behind_broken_frames(siege):
         expect(came == OK + BROKEN_FRAME, f"a broken frame was answered {came!r}")
         client.is_closed = False    # until what it sends is reset
     all_transactions_are_free(siege)
-    siege.wait_for_descriptors(lambda kept: kept == LINGERING_MAX, f"there aren't {LINGERING_MAX} descriptors of {len(clients)} that are kept")
+    siege.wait_for_descriptors(LINGERING_MAX, LINGERING_MAX, f"of {len(clients)}")
     due = [True] * (len(clients) - LINGERING_MAX) + [False] * LINGERING_MAX
     wait_for(lambda: are_reset(clients)[:-LINGERING_MAX] == due[:-LINGERING_MAX], "the oldest aren't closed")
     expect(are_reset(clients) == due, "others than the oldest were closed")
-    siege.wait_for_descriptors(lambda kept: kept == LINGERING_MAX, f"there aren't {LINGERING_MAX} descriptors any more")
+    expect(siege.kept() == LINGERING_MAX, f"{siege.kept()} descriptors of {len(clients)} are kept after that")
     close_all(clients)
-    siege.wait_for_descriptors(lambda kept: kept <= 0, "descriptors are kept though their peers have ended")
+    siege.wait_for_descriptors(0, 0, "though their peers have ended")
 
 
 LINGERING_BYTES, IN_BUFFERS = 1 << 26, 1 << 24    # how many bytes are dropped behind a broken frame, and how many more the system may hold
@@ -427,7 +433,7 @@ def burst(siege):
     """400 connections while the server is stopped: once it goes on, each is served or closed without a byte, soon."""
     all_transactions_are_free(siege)
     for _ in range(siege.times(1, 10)):
-        siege.wait_for_descriptors(lambda kept: kept <= 0, "descriptors are kept though those that had them left")
+        siege.wait_for_descriptors(0, 0, "though all have left")
         siege.server.process.send_signal(signal.SIGSTOP)
         clients = [socket.socket() for _ in range(BURST)]
         try:
@@ -618,7 +624,8 @@ SCENES = (
 
 
 # How many COMMITs may come in one turn, apart from the good client's, in the quick and the long form; none in all other scenes.
-COMMITS_AT_ONCE = {flood_of_commits: (2 * REQUESTS_MAX // 2, 8 * REQUESTS_MAX // 2), whole_transactions: (SESSIONS_MAX, SESSIONS_MAX)}
+COMMITS_OF_ONE = REQUESTS_MAX // 3 + 1    # of transactions of three requests each
+COMMITS_AT_ONCE = {flood_of_commits: (2 * COMMITS_OF_ONE, 8 * COMMITS_OF_ONE), whole_transactions: (SESSIONS_MAX, SESSIONS_MAX)}
 
 
 def play(tally, siege, scene, bound=SLOWEST_REPLY):
