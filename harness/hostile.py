@@ -47,9 +47,9 @@ SHRINKING_SECONDS = 20.0
 class Siege:
     """A server, its good client, and how much is done to it."""
 
-    def __init__(self, server, lateness, descriptors, is_long_one):
+    def __init__(self, server, lateness, idle, alone, is_long_one):
         self.server, self.is_long = server, is_long_one
-        self.alone = descriptors    # of the server, with one client
+        self.idle, self.alone = idle, alone    # the memory of the server that idles, and how many descriptors it has with one client
         self.good = GoodClient(server.port, lateness, syncs_ahead(1))
 
     def times(self, few, many):
@@ -96,6 +96,19 @@ def fill(server):
         expect(client.reply() == OK and len(client.reply()) == LARGEST_REPLY, "the largest reply has another length")
         client.send(frame("SET", GOOD_KEY, GOOD_VALUE) + COMMIT)
         expect([client.reply(), client.reply()] == [OK, b":3\r\n"], "filling was refused")
+
+
+@contextlib.contextmanager
+def besieged(place, sectors, is_long_one):
+    """A server over the map that the scenes ask for, and its good client, which isn't begun."""
+    with Server(fresh(place, sectors)) as server, Lateness(server.process.pid, place) as lateness:
+        expect(server.is_listening(), f"no server: {server.error_text()!r}")
+        idle = server.memory("VmHWM")
+        with Connection(server.port) as client:
+            expect(client.ask(PING) == PONG, "a client is not served")
+            alone = server.descriptors()
+        fill(server)
+        yield Siege(server, lateness, idle, alone, is_long_one)
 
 
 # Frames
@@ -698,21 +711,15 @@ class Hostile(Harness):
 
     def test_hostile(self):
         tally = self.tally
-        with in_memory() as place, Server(fresh(place, SECTORS)) as server, Lateness(server.process.pid, place) as lateness:
-            idle = server.memory("VmHWM")
-            with Connection(server.port) as client:
-                expect(client.ask(PING) == PONG, "a client is not served")
-                descriptors = server.descriptors()
-            fill(server)
-            siege = Siege(server, lateness, descriptors, is_long())
+        with in_memory() as place, besieged(place, SECTORS, is_long()) as siege:
             siege.good.start()
             commits = [play(tally, siege, scene) for scene in SCENES][-1]
             judge_stopped(tally, siege)
             judge_lateness(tally, siege, place)
             siege.good.end()
-            judge_memory(tally, server.memory("VmHWM"), idle, commits)
+            judge_memory(tally, siege.server.memory("VmHWM"), siege.idle, commits)
             with tally.run("its error output"):
-                expect(server.error_text() == b"", f"it wrote {server.error_text()!r}")
+                expect(siege.server.error_text() == b"", f"it wrote {siege.server.error_text()!r}")
 
 
 if __name__ == "__main__":

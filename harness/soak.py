@@ -180,14 +180,9 @@ def wire(seed):
 
 @contextlib.contextmanager
 def siege(sectors):
-    """A server over the map that the scenes ask for, and its good client, which isn't begun."""
-    with folder() as place:
-        data = os.path.join(place, "data")
-        create(data, sectors)
-        with Server(data) as server:
-            expect(server.is_listening(), f"no server: {server.error_text()!r}")
-            hostile.fill(server)
-            yield hostile.Siege(server, False)
+    """A server and its good client, in a folder of their own."""
+    with folder() as place, hostile.besieged(place, sectors, False) as besieged:
+        yield besieged
 
 
 def play_stream_alone(pieces):
