@@ -11,6 +11,7 @@ sockets to a thirtieth, `long` also waits for them in full, four minutes.
 import argparse
 import contextlib
 import ctypes
+import errno
 import os
 import socket
 import subprocess
@@ -52,6 +53,8 @@ def sockets_of(process):
                 if not os.readlink(f"/proc/{process.pid}/fd/{name}").startswith("socket:"):
                     continue
                 descriptor = library.syscall(PIDFD_GETFD, pidfd, int(name), 0)
+                if descriptor < 0 and ctypes.get_errno() == errno.EBADF:    # it was closed meanwhile
+                    continue
                 expect(descriptor >= 0, f"no duplicate of a descriptor: {os.strerror(ctypes.get_errno())}")
                 one = socket.socket(fileno=descriptor)
                 try:
