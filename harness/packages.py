@@ -383,23 +383,31 @@ WRONG = [
 
 
 def wrong(tally, package):
-    """Each wrong form of the package, which each of its finders must find."""
-    for name, file_name, right, instead, finders in WRONG:
-        if name != package.name:
-            continue
-        with folder() as place, tally.run(f"wrong: {instead or right}"):
-            copy = shutil.copytree(package.copy, os.path.join(place, "clients"))
-            path = os.path.join(copy, package.place, file_name)
-            with open(path, encoding="utf-8") as file:
-                text = file.read()
-            expect(text.count(right) == 1, f"{right!r} stands {text.count(right)} times in {file_name}")
-            with open(path, "w", encoding="utf-8") as file:
-                file.write(text.replace(right, instead))
-            other = package.of(copy)
-            for script in SCRIPTS:
-                if script[0] in finders:
-                    expect(is_refused(scripted, other, *script), f"{script[0]} doesn't find {instead or 'that it lacks'} {right!r}")
-            expect("errors" not in finders or is_refused(errors, other), f"errors doesn't find {instead or 'that it lacks'} {right!r}")
+    """Each wrong form of the package, some of them at once."""
+    forms = [form for name, *form in WRONG if name == package.name]
+    with concurrent.futures.ThreadPoolExecutor(SCRIPTS_AT_ONCE) as threads:
+        for found in threads.map(lambda form: wrong_form(package, *form), forms):
+            tally.take(found)
+
+
+def wrong_form(package, file_name, right, instead, finders):
+    """A wrong form, which each of its finders must find."""
+    tally = Tally(f"wrong: {instead or right}")
+    with folder() as place, tally.run(file_name):
+        copy = shutil.copytree(package.copy, os.path.join(place, "clients"))
+        path = os.path.join(copy, package.place, file_name)
+        with open(path, encoding="utf-8") as file:
+            text = file.read()
+        expect(text.count(right) == 1, f"{right!r} stands {text.count(right)} times in {file_name}")
+        with open(path, "w", encoding="utf-8") as file:
+            file.write(text.replace(right, instead))
+        other = package.of(copy)
+        some = [script for script in SCRIPTS if script[0] in finders]
+        with concurrent.futures.ThreadPoolExecutor(SCRIPTS_AT_ONCE) as threads:
+            for (name, *_), is_found in zip(some, threads.map(lambda script: is_refused(scripted, other, *script), some)):
+                expect(is_found, f"{name} doesn't find {instead or 'that it lacks'} {right!r}")
+        expect("errors" not in finders or is_refused(errors, other), f"errors doesn't find {instead or 'that it lacks'} {right!r}")
+    return tally
 
 
 # All packages at once
