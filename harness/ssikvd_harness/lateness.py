@@ -47,8 +47,9 @@ class Lateness:
                 self.syncing = time.monotonic()
                 os.pwrite(file.fileno(), bytes(512), 0)
                 os.fdatasync(file.fileno())
-                end, begun, self.syncing = time.monotonic(), self.syncing, 0.0
-                self.syncs.append((end, end - begun))
+                end = time.monotonic()
+                self.syncs.append((end, end - self.syncing))
+                self.syncing = 0.0
                 time.sleep(BETWEEN)
 
     def _waited(self) -> float:
@@ -65,9 +66,10 @@ class Lateness:
 
     def lost(self, since: Moment, syncs: int) -> float:
         """How many seconds the machine itself was late since a moment, at most: by its processors, and by so many syncs one after another."""
-        now, syncing = self.now(), self.syncing
-        took = [seconds for end, seconds in list(self.syncs) if end >= since.at] + [now.at - syncing] * bool(syncing)
-        by_syncs = syncs * sum(took) / len(took) + max(took) if took else 0.0
+        syncing, now = self.syncing, self.now()
+        under_way = now.at - syncing if syncing else 0.0
+        took = [seconds for end, seconds in list(self.syncs) if end >= since.at] or [under_way]
+        by_syncs = syncs * sum(took) / len(took) + max(*took, under_way)
         return max(now.late - since.late, now.waited - since.waited) + by_syncs
 
     def __enter__(self) -> Lateness:
