@@ -40,7 +40,7 @@ use Rattle.engine.proofs.Steps.{step_is, reached_by, store_full, store_fault, st
 use Rattle.engine.specs.Changes.{entry_of, EndsTransaction, WritesSomething, HasLogRoom, IsLogged, IsLogStopped}
 use Rattle.engine.specs.Changes.{sectors_taken, AddsOneAtMost}
 use Rattle.engine.specs.HistoryValue.{HistoryValue, IsSameHistory, Joins}
-use Rattle.engine.specs.Judgements.{CommitIsRefused, IsToJudge, IsToCommit}
+use Rattle.engine.specs.Validations.{CommitIsRefused, IsToCheck, IsToCommit}
 use Rattle.engine.specs.Meaning.{StandsForSame, Leads, IsNotRefused, IsReadOnly, IsLeftByCommit, has_risen}
 use Rattle.engine.specs.Meaning.{response_to}
 use Rattle.engine.specs.Recovery.{IsStored, WhereStored, SurvivesAppend, LeavesInDoubt, HoldsMap, committed_map}
@@ -93,7 +93,7 @@ module _ {D : Type 0} {g : Ghosts D} (old new : Log D g) where
     quiet = λ _ stayed. absurd (not_both stops.fault stayed);
   }
 
--- ---- what is judged of a transaction
+-- ---- what is validated of a transaction
 
 -- its writes are those of its requests
 abbrev HasItsWrites : View → Type 0
@@ -179,11 +179,11 @@ module _ {D : Type 0} {g : Ghosts D} where
   own_record e m t r h made same = grind (arith, common_steps)
 
   -- the machine's commit by its verdict
-  judged : (e : Engine D g) (m : State) (s : ℕ) (t : View) (r : Running) (failed : Bool) (h : StandsFor e m) → Active e m h t r → IsToJudge e s t
+  validated : (e : Engine D g) (m : State) (s : ℕ) (t : View) (r : Running) (failed : Bool) (h : StandsFor e m) → Active e m h t r → IsToCheck e s t
       → HasItsWrites t
       → (o : Option Refusal) → HasVerdict e.history.committed.facts t o
       → commit m s r failed ≡ store_unless o m s (record_to_commit m r) failed
-  judged e m s t r failed h same j made o says =
+  validated e m s t r failed h same j made o says =
       let numbers = j.numbers in let l = h.history.committed.last in
       rw (
         h.stopped ∙ j.running,
@@ -192,14 +192,14 @@ module _ {D : Type 0} {g : Ghosts D} where
       ) refl
 
   -- that of what has no conflict
-  cleared : (e : Engine D g) (m : State) (s : ℕ) (t : View) (r : Running) (failed : Bool) (h : StandsFor e m) → Active e m h t r → IsToJudge e s t
+  cleared : (e : Engine D g) (m : State) (s : ℕ) (t : View) (r : Running) (failed : Bool) (h : StandsFor e m) → Active e m h t r → IsToCheck e s t
       → HasItsWrites t
       → (IsInReach e.history.committed.facts t → IsClear e.history.committed.facts t) → commit m s r failed ≡ store m s (record_to_commit m r) t.writes failed
   cleared e m s t r failed h same j made clear =
-      judged e m s t r failed h same j made None clear ∙ ap (λ ws. store m s (record_to_commit m r) ws failed) (own_record e m t r h made same).writes
+      validated e m s t r failed h same j made None clear ∙ ap (λ ws. store m s (record_to_commit m r) ws failed) (own_record e m t r h made same).writes
 
   -- what was found of the transaction's writes, and of what has committed
-  module _ (e : Engine D g) (s : ℕ) (t : View) (j : IsToJudge e s t) (committed : CommittedValue) (history : HistoryValue) (found : committed
+  module _ (e : Engine D g) (s : ℕ) (t : View) (j : IsToCheck e s t) (committed : CommittedValue) (history : HistoryValue) (found : committed
       ≡ history.committed) (now : e.history ≡ history)
       (ws : List KeyWrite) (is : ws ≡ t.writes) (made : (m : KeyMap) (qs : List Operation) → HasMade t m qs → ws ≡ writes m qs) where
     same : committed ≡ e.history.committed
@@ -211,7 +211,7 @@ module _ {D : Type 0} {g : Ghosts D} where
     pub conflict_refuses : (refusal : Refusal) → HasVerdict committed.facts t (Some refusal) → CommitIsRefused e s refusal
     conflict_refuses refusal says =
         refused_if e s t refusal j.entry
-        (λ m r failed h active. judged e m s t r failed h active j its_writes (Some refusal)
+        (λ m r failed h active. validated e m s t r failed h active j its_writes (Some refusal)
         (subst (λ (x : CommittedValue). HasVerdict x.facts t (Some refusal)) same says))
 
     pub overwritten_refuses : (i : ℕ) (d : KeyWrite) → (IsInReach committed.facts t → IsVerdict committed.facts t (verdicts.Overwritten i))

@@ -5,6 +5,6 @@ pub mod HistoryValue
 pub mod Recovery
 pub mod StandsFor
 pub mod Changes
-pub mod Judgements
+pub mod Validations
 pub mod Meaning
 pub mod Opening

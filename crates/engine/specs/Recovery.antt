@@ -48,7 +48,7 @@ abbrev pub LeavesInDoubt : {D : Type 0} {g : Ghosts D} → Log D g → Log D g �
 LeavesInDoubt {g = g} old new = WhereStored old (λ map. IsInDoubt map (g.may_leave (log_device new)))
 
 -- what each fault of an append leaves
-pub record FailsToCarryOut {D : Type 0} {g : Ghosts D} (old new : Log D g) (ws : List KeyWrite)
+pub record FailsToAppend {D : Type 0} {g : Ghosts D} (old new : Log D g) (ws : List KeyWrite)
     (result : Result (Unit {0}) AppendFault) : Type 0 where
   pub unchanged : IsErrOf result Memory → new ≡ old
   pub stopped : IsErrOf result Device → IsLogStopped old new ws

@@ -1,8 +1,8 @@
 //! COMMIT: the verdict, the memory, the record in the log, and then the new versions, which can't fail any more.
 use crate::engine::Engine;
 use crate::faults::EngineFault;
-use crate::judging::{Judgement, judge};
-use crate::records::carry_out;
+use crate::records::reserve_and_append;
+use crate::validating::{Validation, validate};
 use commit_log::AppendFault;
 use model::Refusal;
 use sector::Sectors;
@@ -46,15 +46,15 @@ impl<D: Sectors> Engine<D> {
         let Some(transaction) = self.running.get(&s) else {
             return Err(EngineFault::Refused(Refusal::NotOpen));
         };
-        let (payload, cleared) = match judge(&self.log, &self.history, transaction) {
-            Judgement::Refused(refusal) => return Err(self.refuse(s, refusal)),
-            Judgement::Overwritten(i) => {
+        let (payload, cleared) = match validate(&self.log, &self.history, transaction) {
+            Validation::Refused(refusal) => return Err(self.refuse(s, refusal)),
+            Validation::Overwritten(i) => {
                 let key = self.end(s).into_key(i);
                 return Err(EngineFault::Refused(Refusal::Overwritten(key)));
             }
-            Judgement::Clear(payload, cleared) => (payload, cleared),
+            Validation::Clear(payload, cleared) => (payload, cleared),
         };
-        match carry_out(
+        match reserve_and_append(
             &mut self.log,
             &mut self.history,
             self.alloc,

@@ -5,7 +5,7 @@ ghost use Rattle.versions.specs.Meaning.{IsReclaimed, IsReclaimedInPart};
 ghost use Rattle.pivot_check.specs.Kept.{IsEmpty, FreesRuns, KeepsNoneUpto, KeepsReach};
 ghost use Rattle.pivot_check.specs.StandsFor.{IsCleared};
 ghost use Rattle.engine.specs.declared.engine.TheConstants.{OPEN_MAX};
-ghost use Rattle.engine.specs.declared.judging.TheConstants.{LAST_MAX};
+ghost use Rattle.engine.specs.declared.validating.TheConstants.{LAST_MAX};
 ghost use Rattle.engine.specs.HistoryValue.{HistoryStandsFor, IsSameHistory, IsReady, Joins, Reclaims, is_garbage};
 
 use model::{Map, Memory};

@@ -5,11 +5,11 @@ mod commits;
 mod engine;
 mod faults;
 mod history;
-mod judging;
 mod opening;
 mod reads;
 mod reclaiming;
 mod records;
+mod validating;
 
 pub use engine::Engine;
 pub use faults::{EngineFault, ReadFault};

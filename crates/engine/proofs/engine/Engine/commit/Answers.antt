@@ -29,15 +29,16 @@ pub returns-in-Err-Memory-clause-step : goal.returns-in-Err-Memory-clause-step
 returns-in-Err-Memory-clause-step g c =
     let j = (c.in-Clear.ensures c.args.self.now c.args.s refl refl (sym c.in-Some.ensures.value)).0 in
     commit_memory c.args.self.now _ c.args.s c.in-Some.transaction.now j (c.in-Err-Memory.ensures.fails.unchanged (ap Err c.in-Err-Memory.field-0-is)) refl
-    c.carry_out.ensures.same
+    c.reserve_and_append.ensures.same
 
 pub returns-in-Err-Device-clause-step : goal.returns-in-Err-Device-clause-step
 returns-in-Err-Device-clause-step g c =
     let j = (c.in-Clear.ensures c.args.self.now c.args.s refl refl (sym c.in-Some.ensures.value)).0 in
     let stops = c.in-Err-Device.ensures.fails.stopped (ap Err c.in-Err-Device.field-0-is) in
     let leaves = c.refuse-in-Err-Device.ensures.leaves in
-    ended_fault c.args.self.now _ c.carry_out.new.log c.carry_out.new.history c.args.s _ _ (λ n. Number n) _ c.refuse-in-Err-Device.ensures.refusal j stops
-    c.carry_out.ensures.same leaves (rw leaves.store.log (risen _ _ stops.fault))
+    ended_fault c.args.self.now _ c.reserve_and_append.new.log c.reserve_and_append.new.history c.args.s _ _ (λ n. Number n) _
+    c.refuse-in-Err-Device.ensures.refusal j stops
+    c.reserve_and_append.ensures.same leaves (rw leaves.store.log (risen _ _ stops.fault))
     (c.in-Err-Device.ensures.fails.left (ap Err c.in-Err-Device.field-0-is))
 
 pub returns-in-Err-Device-clause-appends : goal.returns-in-Err-Device-clause-appends
@@ -51,22 +52,24 @@ returns-in-Err-Device-clause-appends g c =
 
 pub returns-in-Err-Device-clause-crash : goal.returns-in-Err-Device-clause-crash
 returns-in-Err-Device-clause-crash g c keeps =
-    crash_stored c.args.self.now c.carry_out.new.log (device_of c.refuse-in-Err-Device.new.self) c.args.s c.in-Some.transaction.now
+    crash_stored c.args.self.now c.reserve_and_append.new.log (device_of c.refuse-in-Err-Device.new.self) c.args.s c.in-Some.transaction.now
     (c.in-Clear.ensures c.args.self.now c.args.s refl refl (sym c.in-Some.ensures.value)).0
     (ap log_device c.refuse-in-Err-Device.ensures.leaves.store.log) (c.in-Err-Device.ensures.crash keeps) keeps
 
 pub join-requires-clause-cleared : goal.join-requires-clause-cleared
 join-requires-clause-cleared g c =
     let j = c.in-Clear.ensures c.args.self.now c.args.s refl refl (sym c.in-Some.ensures.value) in
-    cleared_still c.args.self.now c.end-ended.new.self c.carry_out.new.log c.carry_out.new.history c.args.s _ c.end-ended.result c.in-Clear.cleared
-    j.0.asked.entry j.2 c.carry_out.ensures.same c.end-ended.ensures.leaves c.end-ended.ensures.taken
+    cleared_still c.args.self.now c.end-ended.new.self c.reserve_and_append.new.log c.reserve_and_append.new.history c.args.s _ c.end-ended.result
+    c.in-Clear.cleared
+    j.0.asked.entry j.2 c.reserve_and_append.ensures.same c.end-ended.ensures.leaves c.end-ended.ensures.taken
 
 pub returns-clause-step : goal.returns-clause-step
 returns-clause-step g c =
     let j = (c.in-Clear.ensures c.args.self.now c.args.s refl refl (sym c.in-Some.ensures.value)).0 in
     let leaves = c.end-ended.ensures.leaves in
-    joined c.args.self.now c.end-ended.new.self c.carry_out.new.log c.carry_out.new.history c.join.new.self c.args.s _ c.end-ended.result _ _ j
-    c.in-Ok.ensures.logged c.in-Ok.ensures.stored c.carry_out.ensures.same leaves
+    joined c.args.self.now c.end-ended.new.self c.reserve_and_append.new.log c.reserve_and_append.new.history c.join.new.self c.args.s _ c.end-ended.result _ _
+    j
+    c.in-Ok.ensures.logged c.in-Ok.ensures.stored c.reserve_and_append.ensures.same leaves
     c.end-ended.ensures.taken c.join.ensures.last c.join.ensures.reach c.join.ensures.stands
     (λ some. rw leaves.store.log (not_risen _ _ (c.in-Ok.ensures.logged.no_fault some))) c.join.ensures.number
 
@@ -82,6 +85,6 @@ returns-clause-appends g c =
 
 pub returns-clause-crash : goal.returns-clause-crash
 returns-clause-crash g c keeps =
-    crash_stored c.args.self.now c.carry_out.new.log c.end-ended.new.self.log.device c.args.s c.in-Some.transaction.now
+    crash_stored c.args.self.now c.reserve_and_append.new.log c.end-ended.new.self.log.device c.args.s c.in-Some.transaction.now
     (c.in-Clear.ensures c.args.self.now c.args.s refl refl (sym c.in-Some.ensures.value)).0
     (ap log_device c.end-ended.ensures.leaves.store.log) (c.in-Ok.ensures.crash keeps) keeps

@@ -1,4 +1,4 @@
-use Rattle.engine.proofs.records.carry_out.Goals as goal
+use Rattle.engine.proofs.records.reserve_and_append.Goals as goal
 use Rattle.std.proofs.Common.{◌≡◌, ◌⊎◌, inl, inr, ℕ, List, [], ◌∷◌, ◌++◌, refl, ◌∙◌, rules}
 use Rattle.model.specs.Map.{KeyMap, KeyWrite, after_writes}
 use Rattle.sector.specs.declared.device.Sectors.{Ghosts}

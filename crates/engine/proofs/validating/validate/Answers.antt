@@ -1,4 +1,4 @@
-use Rattle.engine.proofs.judging.judge.Goals as goal
+use Rattle.engine.proofs.validating.validate.Goals as goal
 use Rattle.std.proofs.Common.{◌≤◌, ◌-◌, ◌^◌, ap, sym, subst, ◌∙◌, arith}
 use Rattle.commit_log.specs.LogState.{is_log_stopped}
 use Rattle.pivot_check.specs.Kept.{CommittedValue}
@@ -20,5 +20,5 @@ pub returns : goal.returns
 returns g c e s log history entry =
     let last = c.last.ensures ∙ ap (λ (v : CommittedValue). v.facts.last) c.committed.ensures
     ∙ sym (ap (λ (v : HistoryValue). v.committed.facts.last) history) in
-    c.weigh.ensures e s log history
+    c.check_conflicts_and_space.ensures e s log history
     (record { entry = entry; running = ap is_log_stopped log ∙ running_if _ _ c.is_stopped.ensures c.if-is_stopped.false; numbers = omega (arith, last) })

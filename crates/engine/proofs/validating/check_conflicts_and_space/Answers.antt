@@ -1,4 +1,4 @@
-use Rattle.engine.proofs.judging.weigh.Goals as goal
+use Rattle.engine.proofs.validating.check_conflicts_and_space.Goals as goal
 use Rattle.std.proofs.Common.{◌≡◌, ◌≤◌, ◌<◌, ◌+◌, ℕ, Bool, true, false, List, [], length, ap, ◌∙◌, arith, inl, inr}
 use Rattle.std.proofs.lemmas.Bool.{cases_lt, iff_false}
 use Rattle.std.proofs.lemmas.Bool.Decides.{nat_tests}
