@@ -165,7 +165,7 @@ fn serve_in_share<D: Sectors, S: Stream>(
 }
 
 // The session leaves.
-fn depart<D: Sectors>(hub: &mut Hub<D>, s: u64) -> Progress
+fn disconnect<D: Sectors>(hub: &mut Hub<D>, s: u64) -> Progress
     ensures answer { result ≡ Progress.Gone }
     ensures left { Leads hub.old hub.new (λ h k. Departs s h k) }
     ensures records { Stands hub.old → records_of hub.new ≡ records_of hub.old }
@@ -192,27 +192,27 @@ pub(crate) fn drive_over<D: Sectors, S: Stream>(
         match write_out(hub, s, view.pending, stream) {
             OutputState::Empty => {}
             OutputState::Blocked => return Progress::Waiting,
-            OutputState::Failed => return depart(hub, s),
+            OutputState::Failed => return disconnect(hub, s),
         }
         match view.status {
             Status::Open => {}
-            _ => return depart(hub, s),
+            _ => return disconnect(hub, s),
         }
         match serve_in_share(hub, s, view.room, stream, buffer) {
             Exchange::Replied => {}
             Exchange::Blocked => return Progress::Waiting,
-            _ => return depart(hub, s),
+            _ => return disconnect(hub, s),
         }
     }
     let view = hub.view(s);
     match write_out(hub, s, view.pending, stream) {
         OutputState::Empty => {}
         OutputState::Blocked => return Progress::Waiting,
-        OutputState::Failed => return depart(hub, s),
+        OutputState::Failed => return disconnect(hub, s),
     }
     match view.status {
         Status::Open => Progress::Again,
-        _ => depart(hub, s),
+        _ => disconnect(hub, s),
     }
 }
 

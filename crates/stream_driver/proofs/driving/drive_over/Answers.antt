@@ -33,12 +33,12 @@ pub returns-in-Failed : goal.returns-in-Failed
 returns-in-Failed g c =
     let some = stands_after (stands_after c.requires.0 c.requests.invariant.was_answered.leads) c.in-Failed.ensures.written.leads in
     record {
-      driven = leaves c.law_runs_follow.ensures.follow c.requests.invariant.was_answered c.depart.ensures.answer c.in-Failed.ensures.written
-          c.depart.ensures.left (λ h k l m stands p q r. gone_writing p (omega arith) q r);
-      appends = λ keeps. once_then (spent keeps (c.requests.invariant.adds keeps) c.in-Failed.ensures.spends) (c.depart.ensures.records some);
+      driven = leaves c.law_runs_follow.ensures.follow c.requests.invariant.was_answered c.disconnect.ensures.answer c.in-Failed.ensures.written
+          c.disconnect.ensures.left (λ h k l m stands p q r. gone_writing p (omega arith) q r);
+      appends = λ keeps. once_then (spent keeps (c.requests.invariant.adds keeps) c.in-Failed.ensures.spends) (c.disconnect.ensures.records some);
       stays = stays_still g.S.Stream.is_sound g.S.Stream.waits _ c.write_out.new.stream _
           (λ sound. c.in-Failed.ensures.stays.sound (c.requests.invariant.sound sound))
-          (λ waiting. (let gone = c.depart.ensures.answer in cc));
+          (λ waiting. (let gone = c.disconnect.ensures.answer in cc));
     }
 
 pub returns-in_default : goal.returns-in_default
@@ -47,13 +47,13 @@ returns-in_default g c =
     let some = stands_after before c.in-Empty.ensures.written.leads in
     let status = c.view-view.ensures.1 ∙ sym (status_flushed before c.in-Empty.ensures.written) in
     record {
-      driven = leaves c.law_runs_follow.ensures.follow c.requests.invariant.was_answered c.depart-in_default.ensures.answer c.in-Empty.ensures.written
-          c.depart-in_default.ensures.left
+      driven = leaves c.law_runs_follow.ensures.follow c.requests.invariant.was_answered c.disconnect-in_default.ensures.answer c.in-Empty.ensures.written
+          c.disconnect-in_default.ensures.left
           (λ h k l m stands p q r. gone_closed p (omega arith) q (λ e. c.in_default.not-Open (status ∙ status_seen _ _ stands c.args.s ∙ e)) r);
-      appends = λ keeps. once_then (spent keeps (c.requests.invariant.adds keeps) c.in-Empty.ensures.spends) (c.depart-in_default.ensures.records some);
+      appends = λ keeps. once_then (spent keeps (c.requests.invariant.adds keeps) c.in-Empty.ensures.spends) (c.disconnect-in_default.ensures.records some);
       stays = stays_still g.S.Stream.is_sound g.S.Stream.waits _ c.write_out.new.stream _
           (λ sound. c.in-Empty.ensures.stays.sound (c.requests.invariant.sound sound))
-          (λ waiting. (let gone = c.depart-in_default.ensures.answer in cc));
+          (λ waiting. (let gone = c.disconnect-in_default.ensures.answer in cc));
     }
 
 pub serve_in_share-requires : goal.serve_in_share-requires
@@ -87,20 +87,20 @@ returns-in_default-serve_in_share g c =
     let flushed = flushes_out c.law_runs_follow.ensures.follow c.requests.invariant.was_answered c.in-Empty.ensures.written in
     record {
       driven =
-          rw c.depart-in_default-serve_in_share.ensures.answer
+          rw c.disconnect-in_default-serve_in_share.ensures.answer
           (reports_three c.law_runs_follow.ensures.follow flushed c.serve_in_share.ensures.served
-          (reports_still c.depart-in_default-serve_in_share.ensures.left)
+          (reports_still c.disconnect-in_default-serve_in_share.ensures.left)
           (λ h l p. p.0.driven.carried) (λ l m r. r.carried)
           (λ h l m n stands p r t.
           gone_serving p (omega arith) c.serve_in_share.result c.in_default-serve_in_share.not-Replied c.in_default-serve_in_share.not-Blocked r t));
       appends = λ keeps. once_then
           (served_once keeps (out keeps (c.requests.invariant.adds keeps) c.in-Empty.ensures.spends (pending_none some c.in-Empty.ensures.written))
           c.serve_in_share.ensures.once (c.serve_in_share.ensures.ended keeps))
-          (c.depart-in_default-serve_in_share.ensures.records (stands_after (stands_after some c.in-Empty.ensures.written.leads)
+          (c.disconnect-in_default-serve_in_share.ensures.records (stands_after (stands_after some c.in-Empty.ensures.written.leads)
           c.serve_in_share.ensures.served.leads));
       stays = stays_still g.S.Stream.is_sound g.S.Stream.waits _ c.serve_in_share.new.stream _
           (λ sound. c.serve_in_share.ensures.stays.sound (c.in-Empty.ensures.stays.sound (c.requests.invariant.sound sound)))
-          (λ waiting. (let gone = c.depart-in_default-serve_in_share.ensures.answer in cc));
+          (λ waiting. (let gone = c.disconnect-in_default-serve_in_share.ensures.answer in cc));
     }
 
 pub write_out-requires-2-clause-present : goal.write_out-requires-2-clause-present
@@ -120,14 +120,14 @@ pub returns-in-Failed-write_out : goal.returns-in-Failed-write_out
 returns-in-Failed-write_out g c =
     let some = stands_after (stands_after c.requires.0 c.requests.invariant.was_answered.leads) c.in-Failed-write_out.ensures.written.leads in
     record {
-      driven = leaves c.law_runs_follow.ensures.follow c.requests.invariant.was_answered c.depart-in-Failed-write_out.ensures.answer
+      driven = leaves c.law_runs_follow.ensures.follow c.requests.invariant.was_answered c.disconnect-in-Failed-write_out.ensures.answer
           c.in-Failed-write_out.ensures.written
-          c.depart-in-Failed-write_out.ensures.left (λ h k l m stands p q r. gone_writing p (omega arith) q r);
+          c.disconnect-in-Failed-write_out.ensures.left (λ h k l m stands p q r. gone_writing p (omega arith) q r);
       appends = λ keeps. once_then (spent keeps (c.requests.invariant.adds keeps) c.in-Failed-write_out.ensures.spends)
-          (c.depart-in-Failed-write_out.ensures.records some);
+          (c.disconnect-in-Failed-write_out.ensures.records some);
       stays = stays_still g.S.Stream.is_sound g.S.Stream.waits _ c.write_out-2.new.stream _
           (λ sound. c.in-Failed-write_out.ensures.stays.sound (c.requests.invariant.sound sound))
-          (λ waiting. (let gone = c.depart-in-Failed-write_out.ensures.answer in cc));
+          (λ waiting. (let gone = c.disconnect-in-Failed-write_out.ensures.answer in cc));
     }
 
 pub returns-in-Open-status : goal.returns-in-Open-status
@@ -149,14 +149,14 @@ returns-in_default-status g c =
     let some = stands_after before c.in-Empty-write_out.ensures.written.leads in
     let status = c.view-view-2.ensures.1 ∙ sym (status_flushed before c.in-Empty-write_out.ensures.written) in
     record {
-      driven = leaves c.law_runs_follow.ensures.follow c.requests.invariant.was_answered c.depart-in_default-status.ensures.answer
-          c.in-Empty-write_out.ensures.written c.depart-in_default-status.ensures.left
+      driven = leaves c.law_runs_follow.ensures.follow c.requests.invariant.was_answered c.disconnect-in_default-status.ensures.answer
+          c.in-Empty-write_out.ensures.written c.disconnect-in_default-status.ensures.left
           (λ h k l m stands p q r. gone_closed p (omega arith) q (λ e. c.in_default-status.not-Open (status ∙ status_seen _ _ stands c.args.s ∙ e)) r);
       appends = λ keeps. once_then (spent keeps (c.requests.invariant.adds keeps) c.in-Empty-write_out.ensures.spends)
-          (c.depart-in_default-status.ensures.records some);
+          (c.disconnect-in_default-status.ensures.records some);
       stays = stays_still g.S.Stream.is_sound g.S.Stream.waits _ c.write_out-2.new.stream _
           (λ sound. c.in-Empty-write_out.ensures.stays.sound (c.requests.invariant.sound sound))
-          (λ waiting. (let gone = c.depart-in_default-status.ensures.answer in cc));
+          (λ waiting. (let gone = c.disconnect-in_default-status.ensures.answer in cc));
     }
 
 pub requests-preserved : goal.requests-preserved

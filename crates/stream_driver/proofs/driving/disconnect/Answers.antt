@@ -1,4 +1,4 @@
-use Rattle.stream_driver.proofs.driving.depart.Goals as goal
+use Rattle.stream_driver.proofs.driving.disconnect.Goals as goal
 use Rattle.std.proofs.Common.{refl}
 use Rattle.sessions.specs.SessionStreams.{Leaves}
 use Rattle.stream_driver.proofs.Appends.{leaves_none}
