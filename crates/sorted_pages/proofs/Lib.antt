@@ -6,4 +6,5 @@ pub mod Keys
 pub mod Placings
 pub mod Seen
 pub mod Tails
+pub mod Together
 pub mod Values

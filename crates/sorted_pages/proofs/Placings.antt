@@ -1,6 +1,6 @@
 -- Pages: where a key stands among them, and what a changed page does to all entries and to the rooms.
 use Rattle.std.proofs.Common.{◌≡◌, ℕ, zero, suc, max, ◌+◌, ◌-◌, ◌*◌, ◌<◌, ◌≤◌, Bool, true, false, List, [], ◌∷◌, ◌++◌}
-use Rattle.std.proofs.Common.{length, get_or, set, take, drop, min, refl, sym, ap, subst, ◌∙◌, arith, inl, inr}
+use Rattle.std.proofs.Common.{length, get_or, set, take, drop, min, not, refl, sym, ap, subst, ◌∙◌, arith, inl, inr}
 use Rattle.std.proofs.Math.Seq.{drop-cons}
 use Rattle.std.proofs.lemmas.Bool.{both_ways, cases_Bool}
 use Rattle.std.proofs.lemmas.Grind.{common_steps}
@@ -12,17 +12,18 @@ use Rattle.std.specs.Cmp.Lexicographic.{nat_list_cmp_total}
 use Rattle.std.specs.FinMap.Entries.{find, put, is_sorted-put}
 use Rattle.std.specs.List.{AllByRecursion, insert}
 use Rattle.std.specs.List.Sorted.{IsPartitionedBy, IsPartitionPoint}
-use Rattle.std.specs.Ordering.{is_le}
 use Rattle.std.specs.Prelude.{if◌then◌else◌, ◌⊎◌}
 use Rattle.model.proofs.Elements.{all-append, all-front, all-back}
 use Rattle.model.proofs.Entries.{IsSorted, IsBelowAll}
-use Rattle.model.proofs.InOrder.{below_left, below_right, sorted_left, sorted_right, parts}
+use Rattle.model.proofs.InOrder.{sorted_left, sorted_right}
 use Rattle.model.specs.Map.{Bytes, key_cmp}
-use Rattle.sorted_pages.proofs.Keys.{below_of, above_of, first_of, starts_lower, starts-append, starts-put}
+use Rattle.sorted_pages.proofs.Keys.{below_of, above_of, starts_lower, starts-append, starts-put}
 use Rattle.sorted_pages.proofs.Keys.{filled-put, find_middle, put_middle}
+use Rattle.sorted_pages.proofs.Together.{before_page, behind_page, in_one_page, none_from, room-other, starts_too}
+use Rattle.sorted_pages.proofs.Together.{together-replaced, together-split}
 use Rattle.sorted_pages.specs.Pages.{AreAllFull, AreFull, AreTight, Page, entries, starts_by, last_room, room_at}
 use Rattle.sorted_pages.specs.Pages.{last_page, count_at, page_entries, stands_behind, IsHalved, AreLoose, HasEntry}
-use Rattle.sorted_pages.specs.Pages.{RestHaveEntries, IsInOrder, AreBelow, IsPlace, IsRoomier, StaysTight}
+use Rattle.sorted_pages.specs.Pages.{RestHaveEntries, IsInOrder, AreBelow, IsPlace, IsRoomier, StaysTight, is_together}
 
 -- ---- lists
 
@@ -68,16 +69,6 @@ module _ {X : Type 0} where
 
   -- ---- where a key stands
 
-  heads : (x k : Bytes) (ps : List (Page X)) (j : ℕ) (d : Page X) → IsBelowAll x (entries ps) → AllByRecursion HasEntry ps → j < length ps
-      → starts_by k (get_or ps j d).0 ≡ true → is_le (key_cmp x k) ≡ true
-  heads x k [] j d h f lt t = absurd (omega arith)
-  heads x k (p ∷ ps) zero d h f lt t = ap is_le (first_of x k p.0 (below_left key_cmp x p.0 (entries ps) h) f.0 t)
-  heads x k (p ∷ ps) (suc j) d h f lt t = heads x k ps j d (below_right key_cmp x p.0 (entries ps) h) f.1 (omega arith) t
-
-  starts_too : (k : Bytes) (es : List (Bytes × X)) (ps : List (Page X)) (j : ℕ) (d : Page X) → IsSorted (es ++ entries ps) → AllByRecursion HasEntry ps
-      → j < length ps → starts_by k (get_or ps j d).0 ≡ true → starts_by k es ≡ true
-  starts_too k es ps j d h f lt t = grind (arith, common_steps, heads, below_right, parts)
-
   -- the pages that start by k come first
   pub parted : (k : Bytes) (ps : List (Page X)) → IsSorted (entries ps) → RestHaveEntries ps → IsPartitionedBy (λ (p : Page X). starts_by k p.0) ps
   parted k [] h f i j d le lt t = absurd (omega arith)
@@ -119,6 +110,10 @@ module _ {X : Type 0} where
       let later = recursion_from_All fails (drop (suc i) ps) behind in
       grind (arith, common_steps, all_below, later_above)
 
+  next_at : (b : List (Page X)) (c d : Page X) (a : List (Page X)) (o : Page X) → get_or (b ++ c ∷ d ∷ a) (length b + 1) o ≡ d
+  next_at b c d a o = ap (λ (l : List (Page X)). get_or l (length b + 1) o) (sym (append_assoc b (c ∷ []) (d ∷ a)))
+      ∙ get_or_at (b ++ c ∷ []) d a o (length b + 1) (length-append b (c ∷ []))
+
   -- ---- at a place
 
   -- there is a page where there is room
@@ -154,6 +149,58 @@ module _ {X : Type 0} where
       ap (find key_cmp k) (entries_at ps k i w)
       ∙ find_middle k (entries w.before) w.page.0 (entries w.after) w.below w.above
       ∙ sym (ap (λ (q : Page X). find key_cmp k q.0) (page_is ps k i p w is))
+
+  -- ---- in the page at a place
+
+  -- a key by which that page starts, and by which the next doesn't
+  pub together_at : (ps : List (Page X)) (k q : Bytes) (i : ℕ) → IsInOrder ps → (w : IsPlace ps k i) → (0 < i → starts_by q w.page.0 ≡ true)
+      → ((d : Page X) → i + 1 < length ps → starts_by q (get_or ps (i + 1) d).0 ≡ false) → is_together k q ps ≡ true
+  together_at ps k q i h w s n =
+      let order = rw w.is at h in
+      let e = w.index in
+      let none = none_behind w.before w.page w.after order (λ d lt. ap (λ (l : List (Page X)). starts_by q (get_or l (length w.before + 1) d).0) (sym w.is)
+      ∙ ap (λ m. starts_by q (get_or ps (m + 1) d).0) e ∙ n d (omega (arith, ap length w.is))) in
+      ap (is_together k q) w.is
+      ∙ in_one_page k q w.before w.page w.after order (λ lt. w.starts (omega arith))
+      (λ lt. s (omega arith)) w.later none
+    where
+      none_behind : (b : List (Page X)) (c : Page X) (a : List (Page X)) → IsInOrder (b ++ c ∷ a)
+          → ((d : Page X) → length b + 1 < length (b ++ c ∷ a) → starts_by q (get_or (b ++ c ∷ a) (length b + 1) d).0 ≡ false)
+          → AllByRecursion (λ (p : Page X). starts_by q p.0 ≡ false) a
+      none_behind b c [] h n = tt
+      none_behind b c (d ∷ a) h n =
+          let at : get_or (b ++ c ∷ d ∷ a) (length b + 1) d ≡ d = next_at b c d a d in
+          let first = ap (λ (r : Page X). starts_by q r.0) (sym at) ∙ n d (omega (arith, length-append b (c ∷ d ∷ a))) in
+          let sorted = sorted_right key_cmp c.0 (entries (d ∷ a)) (sorted_right key_cmp (entries b) (c.0 ++ entries (d ∷ a)) (sorted_parts b c (d ∷ a) h.sorted)) in
+          (first, none_from q d a sorted (after_filled b c (d ∷ a) h.filled).1 first)
+
+  -- a key by which that page doesn't start, or by which the next does
+  pub apart_before : (ps : List (Page X)) (k q : Bytes) (i : ℕ) → (w : IsPlace ps k i) → (p : Page X) → p ≡ get_or ps i p → 0 < i → starts_by q p.0 ≡ false
+      → is_together k q ps ≡ false
+  apart_before ps k q i w p is lt s =
+      let e = w.index in
+      ap (is_together k q) w.is
+      ∙ before_page k q w.before w.page w.after (omega arith) (w.starts lt) (ap (λ (r : Page X). starts_by q r.0) (sym (page_is ps k i p w is)) ∙ s)
+
+  pub apart_behind : (ps : List (Page X)) (k q : Bytes) (i : ℕ) → (w : IsPlace ps k i) → (n : Page X) → i + 1 < length ps → n ≡ get_or ps (i + 1) n
+      → starts_by q n.0 ≡ true → is_together k q ps ≡ false
+  apart_behind ps k q i w n lt is s = by w.before w.page w.after w.is w.index w.later
+    where
+      by : (b : List (Page X)) (c : Page X) (a : List (Page X)) → ps ≡ b ++ c ∷ a → length b ≡ i → AllByRecursion (λ (p : Page X). starts_by k p.0 ≡ false) a
+          → is_together k q ps ≡ false
+      by b c [] e at later = absurd (omega (arith, ap length e, length-append b (c ∷ [])))
+      by b c (d ∷ a) e at later =
+          let here : n ≡ d = is ∙ ap (λ (l : List (Page X)). get_or l (i + 1) n) e ∙ ap (λ m. get_or (b ++ c ∷ d ∷ a) (m + 1) n) (sym at) ∙ next_at b c d a n in
+          ap (is_together k q) e ∙ behind_page k q b c d a later.0 (ap (λ (r : Page X). starts_by q r.0) (sym here) ∙ s)
+
+  -- by the next page it is known, where a key starts that page
+  pub placed_by_next : (ps : List (Page X)) (k q : Bytes) (i : ℕ) (n : Page X) → IsInOrder ps → (w : IsPlace ps k i)
+      → (0 < i → starts_by q w.page.0 ≡ true) → i + 1 < length ps → ((d : Page X) → n ≡ get_or ps (i + 1) d) → not (starts_by q n.0) ≡ is_together k q ps
+  placed_by_next ps k q i n h w s lt is = by (starts_by q n.0) refl
+    where
+      by : (b : Bool) → starts_by q n.0 ≡ b → not (starts_by q n.0) ≡ is_together k q ps
+      by true e = ap not e ∙ sym (apart_behind ps k q i w n lt (is n) e)
+      by false e = ap not e ∙ sym (together_at ps k q i h w s (λ d _. ap (λ (r : Page X). starts_by q r.0) (sym (is d)) ∙ e))
 
   -- ---- rooms
 
@@ -256,24 +303,44 @@ module _ {X : Type 0} where
       entries-append b (r ∷ a) ∙ ap (λ (l : List (Bytes × X)). entries b ++ (l ++ entries a)) same ∙ sym (entries-append b (p ∷ a)) in
       record {
         order = same_order (b ++ p ∷ a) (b ++ r ∷ a) e (swap_filled b p r a (λ f. subst (λ (l : List (Bytes × X)). 0 < length l) (sym same) f) h.filled) h;
-        roomier = record { entries = e; rooms = λ q. omega (arith, room-replaced 0 q b p r a (omega arith) (λ lt. ap (starts_by q) same)) };
+        roomier = record {
+          entries = e;
+          rooms = λ q. omega (arith, room-replaced 0 q b p r a (omega arith) (λ lt. ap (starts_by q) same));
+          apart = λ j k t. sym (together-replaced j k b p r a (λ lt q. ap (starts_by q) same)) ∙ t;
+        };
       }
 
   split_parts : (b : List (Page X)) (p lo up : Page X) (a : List (Page X)) → IsInOrder (b ++ p ∷ a) → p.0 ≡ lo.0 ++ up.0 → HasEntry lo → HasEntry up
       → p.1 ≤ lo.1 → p.1 ≤ up.1 → Grown (b ++ p ∷ a) (b ++ lo ∷ up ∷ a)
   split_parts b p lo up a h same f g l u =
-      grind (arith, common_steps, entries-append, append_assoc, halves, sorted_page, same_order, two_filled, room-split, starts-append, starts_lower)
+      let e : entries (b ++ lo ∷ up ∷ a) ≡ entries (b ++ p ∷ a) =
+      entries-append b (lo ∷ up ∷ a)
+      ∙ ap (λ (l : List (Bytes × X)). entries b ++ l) (sym (append_assoc lo.0 up.0 (entries a)) ∙ ap (λ (l : List (Bytes × X)). l ++ entries a) (sym same))
+      ∙ sym (entries-append b (p ∷ a)) in
+      let starts = λ (q : Bytes). ap (starts_by q) same ∙ starts-append q lo.0 up.0 f in
+      let sorted = subst (λ (l : List (Bytes × X)). IsSorted l) same (sorted_page b p a h.sorted) in
+      record {
+        order = same_order (b ++ p ∷ a) (b ++ lo ∷ up ∷ a) e (two_filled b p lo up a f g h.filled) h;
+        roomier = record {
+          entries = e;
+          rooms = λ q. omega (arith, room-split q b p lo up a l u (starts q) (starts_lower q lo.0 up.0 sorted g));
+          apart = λ j k t. together-split j k b p lo up a starts t;
+        };
+      }
 
   -- pages with an entry more
   pub record Inserted (k : Bytes) (v : X) (old new : List (Page X)) : Type 0 where
     pub order : IsInOrder new
     pub entries : entries new ≡ put key_cmp k v (entries old)
     pub rooms : (q : Bytes) → room_at q old ≤ room_at q new + 1
+    pub others : (q : Bytes) → is_together k q old ≡ false → room_at q new ≡ room_at q old
+    pub together : (i j : Bytes) → is_together i j new ≡ is_together i j old
 
   inserted_parts : (k : Bytes) (v : X) (b : List (Page X)) (p r : Page X) (a : List (Page X)) → IsInOrder (b ++ p ∷ a) → AreBelow k (entries b)
-      → IsBelowAll k (entries a) → (0 < length b → starts_by k p.0 ≡ true)
+      → IsBelowAll k (entries a) → (0 < length b → starts_by k p.0 ≡ true) → AllByRecursion (λ (p : Page X). starts_by k p.0 ≡ false) a
       → r.0 ≡ put key_cmp k v p.0 → p.1 ≤ r.1 + 1 → Inserted k v (b ++ p ∷ a) (b ++ r ∷ a)
-  inserted_parts k v b p r a h below above starts same le =
+  inserted_parts k v b p r a h below above starts later same le =
+      let alike = λ (lt : 0 < length b) (q : Bytes). ap (starts_by q) same ∙ starts-put q k v p.0 (page_filled b p a lt h.filled) (starts lt) in
       let e : entries (b ++ r ∷ a) ≡ put key_cmp k v (entries (b ++ p ∷ a)) =
       entries-append b (r ∷ a) ∙ ap (λ (l : List (Bytes × X)). entries b ++ (l ++ entries a)) same
       ∙ sym (ap (put key_cmp k v) (entries-append b (p ∷ a)) ∙ put_middle k v (entries b) p.0 (entries a) below above) in
@@ -283,7 +350,9 @@ module _ {X : Type 0} where
           filled = swap_filled b p r a (λ f. subst (λ (l : List (Bytes × X)). 0 < length l) (sym same) (filled-put k v p.0)) h.filled;
         };
         entries = e;
-        rooms = λ q. room-replaced 1 q b p r a le (λ lt. ap (starts_by q) same ∙ starts-put q k v p.0 (page_filled b p a lt h.filled) (starts lt));
+        rooms = λ q. room-replaced 1 q b p r a le (λ lt. alike lt q);
+        others = λ q away. room-other k q b p r a h starts later (λ lt. alike lt q) away;
+        together = λ i j. together-replaced i j b p r a alike;
       }
 
   -- ---- the same at a place
@@ -309,7 +378,7 @@ module _ {X : Type 0} where
   inserted ps k v i p r w is h same le =
       let e = page_is ps k i p w is in
       rw (set_is ps k i r w, w.is)
-      (inserted_parts k v w.before w.page r w.after (rw w.is at h) w.below w.above (λ lt. w.starts (let n = w.index in omega arith)) (same
+      (inserted_parts k v w.before w.page r w.after (rw w.is at h) w.below w.above (λ lt. w.starts (let n = w.index in omega arith)) w.later (same
       ∙ ap (λ (q : Page X). put key_cmp k v q.0) e) (subst (λ (q : Page X). q.1 ≤ r.1 + 1) e le))
 
   insert_after : (b : List (Page X)) (lo up : Page X) (a : List (Page X)) → insert (b ++ lo ∷ a) (suc (length b)) up ≡ b ++ lo ∷ up ∷ a

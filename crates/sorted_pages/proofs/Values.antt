@@ -8,6 +8,7 @@ use Rattle.std.proofs.lemmas.List.{append-nil}
 use Rattle.std.proofs.lemmas.Map.Lookups.{exact_bytes}
 use Rattle.std.specs.Cmp.Lexicographic.{nat_list_cmp_total}
 use Rattle.std.specs.FinMap.Entries.{find, put, find-put}
+use Rattle.std.specs.List.{list_all}
 use Rattle.std.specs.Ordering.{is_lt, is_eq}
 use Rattle.std.specs.Prelude.{is_some, if◌then◌else◌, option_map}
 use Rattle.std.specs.declared.cmp.Ordering.TheVariants.{Less}
@@ -19,7 +20,8 @@ use Rattle.model.specs.Map.{Bytes, key_cmp}
 use Rattle.sorted_pages.proofs.Keys.{find_behind, put_behind}
 use Rattle.sorted_pages.proofs.Placings.{page_is, set_is, find_at, grown, inserted}
 use Rattle.sorted_pages.specs.Lent.{with_value, with_value_in}
-use Rattle.sorted_pages.specs.Pages.{Page, entries, starts_by, last_room, room_at, AreBelow, IsPlace, IsInOrder}
+use Rattle.sorted_pages.specs.Pages.{Page, entries, starts_by, last_room, room_at, AreBelow, IsPlace, IsInOrder, is_together}
+use Rattle.sorted_pages.specs.Pages.{starts_alike}
 use Rattle.sorted_pages.specs.Trims.{put_some, changed_at}
 
 module _ {X : Type 0} where
@@ -89,6 +91,20 @@ module _ {X : Type 0} where
       let first = starts_found q k v p.0 (sorted_left key_cmp p.0 (entries ps) h) in
       let rest = last_room-with_value (if starts_by q p.0 then p.1 else r) q ps k v (sorted_right key_cmp p.0 (entries ps) h) in
       grind (arith, first, rest)
+
+  alike-with_value : (i j : Bytes) (ps : List (Page X)) (k : Bytes) (v : X) → IsSorted (entries ps)
+      → list_all (λ (p : Page X). starts_alike i j p.0) (with_value ps k v) ≡ list_all (λ (p : Page X). starts_alike i j p.0) ps
+  alike-with_value i j [] k v h = refl
+  alike-with_value i j (p ∷ ps) k v h =
+      let first = λ (q : Bytes). starts_found q k v p.0 (sorted_left key_cmp p.0 (entries ps) h) in
+      let rest = alike-with_value i j ps k v (sorted_right key_cmp p.0 (entries ps) h) in
+      grind (arith, first i, first j, rest)
+
+  -- nor where a key stands
+  pub together-with_value : (i j : Bytes) (ps : List (Page X)) (k : Bytes) (v : X) → IsSorted (entries ps)
+      → is_together i j (with_value ps k v) ≡ is_together i j ps
+  together-with_value i j [] k v h = refl
+  together-with_value i j (p ∷ ps) k v h = grind (arith, alike-with_value i j ps k v (sorted_right key_cmp p.0 (entries ps) h))
 
   -- no room changes
   pub room-with_value : (q : Bytes) (ps : List (Page X)) (k : Bytes) (v : X) → IsSorted (entries ps) → room_at q (with_value ps k v) ≡ room_at q ps

@@ -1,10 +1,11 @@
 -- Pages of entries, all by rising key.
 use Rattle.std.specs.Cmp.Lexicographic.{slice_cmp}
 use Rattle.std.specs.FinMap.Entries.{below_all, find, is_sorted}
-use Rattle.std.specs.List.{AllByRecursion}
+use Rattle.std.specs.List.{AllByRecursion, list_all}
 use Rattle.std.specs.Ordering.{nat_cmp, is_le, is_lt}
 use Rattle.std.specs.Prelude.{◌≡◌, ℕ, T, ◌+◌, ◌-◌, ◌*◌, ◌^◌, ◌<◌, ◌≤◌, min, fold, Bool, true, false, List, [], ◌∷◌}
 use Rattle.std.specs.Prelude.{◌++◌, length, slice_get, slice_index_or, Option, Some, None, if◌then◌else◌, ⊤, ◌⊎◌}
+use Rattle.std.specs.Prelude.{not}
 use Rattle.std.specs.declared.cmp.Ordering.TheVariants.{Less}
 use Rattle.model.specs.Entries.{IsGap}
 use Rattle.model.specs.Map.{Bytes, key_cmp}
@@ -62,6 +63,15 @@ count_at k (p ∷ ps) = length (last_page p k ps).0
 abbrev pub page_entries : {X : Type 0} → Bytes → List (Page X) → List (Bytes × X)
 page_entries k [] = []
 page_entries k (p ∷ ps) = (last_page p k ps).0
+
+-- the first key is at most both, or at most neither
+abbrev pub starts_alike : {X : Type 0} → Bytes → Bytes → List (Bytes × X) → Bool
+starts_alike j k es = if starts_by j es then starts_by k es else not (starts_by k es)
+
+-- j and k stand or would stand in the same page: each page but the first starts by both or by neither
+abbrev pub is_together : {X : Type 0} → Bytes → Bytes → List (Page X) → Bool
+is_together j k [] = true
+is_together j k (p ∷ ps) = list_all (λ p. starts_alike j k p.0) ps
 
 -- where k doesn't stand behind all entries of its page, its page has half as many entries as before, one more or less
 pub record IsHalved {X : Type 0} (k : Bytes) (old new : List (Page X)) : Type 0 where
@@ -148,7 +158,12 @@ pub record IsInsertionPoint {X : Type 0} (ps : List (Page X)) (k : Bytes) (i j :
   pub page : 0 < length ps → IsPlace ps k i
   pub gap : 0 < length ps → (p : Page X) → IsGap (slice_index_or ps i p).0 k j
 
--- the same entries, and no less room for any key
+-- keys that stand in the same page stood in the same one before
+abbrev pub AreApart : {X : Type 0} → List (Page X) → List (Page X) → Type 0
+AreApart old new = (j k : Bytes) → is_together j k new ≡ true → is_together j k old ≡ true
+
+-- the same entries, no less room for any key, and no more keys to a page
 pub record IsRoomier {X : Type 0} (old new : List (Page X)) : Type 0 where
   pub entries : entries new ≡ entries old
   pub rooms : (q : Bytes) → room_at q old ≤ room_at q new
+  pub apart : AreApart old new

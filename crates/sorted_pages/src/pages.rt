@@ -1,12 +1,12 @@
 //! The map: look-ups, ranges, room for new keys, and new keys.
-ghost use Rattle.std.specs.Prelude.{◌≡◌, ◌+◌, ◌<◌, ◌≤◌, T, [], ◌∷◌, ◌++◌, length, option_copied, is_ok, IsOk};
+ghost use Rattle.std.specs.Prelude.{◌≡◌, ◌+◌, ◌<◌, ◌≤◌, T, false, [], ◌∷◌, ◌++◌, length, option_copied, is_ok, IsOk};
 ghost use Rattle.std.specs.Prelude.{OnOk};
 ghost use Rattle.std.specs.Ordering.{nat_cmp};
 ghost use Rattle.std.specs.Cmp.Lexicographic.{slice_cmp};
 ghost use Rattle.std.specs.FinMap.Entries.{find, put, is_sorted};
 ghost use Rattle.model.specs.Map.{Bytes};
 ghost use Rattle.sorted_pages.specs.Pages.{AreFull, AreLoose, IsCrowded, StaysTight, entries, places_in, pushed};
-ghost use Rattle.sorted_pages.specs.Pages.{IsInsertionPoint, room_at};
+ghost use Rattle.sorted_pages.specs.Pages.{IsInsertionPoint, is_together, room_at};
 ghost use Rattle.sorted_pages.specs.declared.changing.TheConstants.{FILL_PLACES};
 ghost use Rattle.sorted_pages.specs.Rooms.{MakesOnePage, MakesRoom, SplitsPage};
 
@@ -85,7 +85,7 @@ impl<V: Aging> SortedPages<V> {
     }
 
     /// Lends the key's value for writing, and says where it would be inserted if it has none: the map ends with what is written, and no
-    /// key's room changes. The key is looked up once. Takes no memory.
+    /// key's page or room changes. The key is looked up once. Takes no memory.
     pub fn find_mut(&mut self, key: KeyRef<'_>) -> Result<&mut V, InsertionPoint>
         ensures* writes_back { sem 𝓛 (lends_if_present V.row V.Aging self.entry key.entry.bytes.now result) }
         ensures value { IfOk result
@@ -93,6 +93,8 @@ impl<V: Aging> SortedPages<V> {
         ensures put { OnOk result (PutsAt self.old key.entry.bytes.now) }
         ensures rooms { (v : V) (q : Bytes)
             → room_at q (with_value self.old key.entry.bytes.now v) ≡ room_at q self.old }
+        ensures together { (v : V) (j k : Bytes)
+            → is_together j k (with_value self.old key.entry.bytes.now v) ≡ is_together j k self.old }
         ensures absent { IfErr result (λ at. IsInsertionPoint self.old key.entry.bytes.now at.page at.entry) }
     {
         if self.pages.is_empty() {
@@ -139,8 +141,17 @@ impl<V: Aging + Drop> SortedPages<V> {
         placing::room(&self.pages, key)
     }
 
-    /// Makes room for `n` more entries where a new key would be inserted. The entries stay, also where memory is refused, and no
-    /// key has less room than before. Where the room is there already, it takes none and succeeds. A page of 288 entries is split where
+    /// Does the key stand, or would it, in the page where a new key would be inserted? Looks at the first keys of two pages. Takes no
+    /// memory.
+    pub fn is_placed_in(&self, at: InsertionPoint, key: KeyRef<'_>) -> bool
+        ensures { (k : Bytes) → IsInsertionPoint self.now k at.page at.entry
+            → result ≡ is_together k key.entry.bytes.now self.now }
+    {
+        placing::is_placed_in(&self.pages, at.page, key)
+    }
+
+    /// Makes room for `n` more entries where a new key would be inserted. The entries stay, also where memory is refused, no key has less
+    /// room than before, and none comes to the page of another. Where the room is there already, it takes none and succeeds. A page of 288 entries is split where
     /// the `n` would make them more than 576: in the middle, or before its last entry where the key stands behind all of them. No other
     /// page is made, but for the first. No page gets room for more than `n` + 191 entries.
     pub fn reserve(
@@ -160,13 +171,15 @@ impl<V: Aging + Drop> SortedPages<V> {
         changing::reserve(&mut self.pages, at, key, n)
     }
 
-    /// Adds an entry of a new key where it would be inserted, in the room that was made for it: each key has room for one entry less, at
-    /// most. The key isn't looked up. Takes no memory.
+    /// Adds an entry of a new key where it would be inserted, in the room that was made for it: each key of its page has room for one entry
+    /// less. Keys of other pages have the same room, and no key comes to another page. The key isn't looked up. Takes no memory.
     pub fn insert(&mut self, at: InsertionPoint, key: Key, value: V)
         requires point { IsInsertionPoint self.old key at.page at.entry }
         requires room { 0 < room_at key self.old }
         ensures entries { entries self.new ≡ put (slice_cmp nat_cmp) key value (entries self.old) }
         ensures rooms { (q : Bytes) → room_at q self.old ≤ room_at q self.new + 1 }
+        ensures others { (q : Bytes) → is_together key q self.old ≡ false → room_at q self.new ≡ room_at q self.old }
+        ensures together { (j k : Bytes) → is_together j k self.new ≡ is_together j k self.old }
         ensures tight { StaysTight 0 self.old self.new }
     {
         changing::insert(&mut self.pages, at, key, value);

@@ -1,7 +1,7 @@
 //! Finds the page in which a key stands or would stand.
 ghost use Rattle.std.specs.Prelude.{◌≡◌, ◌<◌, length};
 ghost use Rattle.model.specs.Map.{Bytes};
-ghost use Rattle.sorted_pages.specs.Pages.{IsInOrder, IsPlace, count_at, room_at};
+ghost use Rattle.sorted_pages.specs.Pages.{IsInOrder, IsPlace, count_at, is_together, room_at};
 
 use crate::aging::Aging;
 use crate::heads::SoughtKey;
@@ -37,6 +37,25 @@ pub(crate) fn count_in<V: Aging>(pages: &[Page<V>], i: usize) -> usize
     match pages.get(i) {
         Some(page) => page.len(),
         None => 0,
+    }
+}
+
+// Does the key stand in the page at `i`, or would it? So does each where there is none.
+pub(crate) fn is_placed_in<V: Aging>(pages: &[Page<V>], i: usize, key: KeyRef<'_>) -> bool
+    requires { IsInOrder pages.now }
+    ensures { (k : Bytes) → (0 < length pages.now → IsPlace pages.now k i)
+        → result ≡ is_together k key.entry.bytes.now pages.now }
+{
+    if pages.len() <= i {
+        return true;
+    }
+    let sought = SoughtKey::new(key);
+    if i != 0 && !pages[i].starts_by(sought) {
+        return false;
+    }
+    match pages.get(i + 1) {
+        Some(next) => !next.starts_by(sought),
+        None => true,
     }
 }
 

@@ -1,5 +1,5 @@
 -- All chains: what is made, what more room leaves, what an install adds and what a reclaim leaves.
-use Rattle.std.proofs.Common.{[], ◌≡◌, ℕ, suc, ◌+◌, ◌-◌, ◌<◌, ◌≤◌, true, false, T, cond, ◌||◌, List, ◌∷◌, length}
+use Rattle.std.proofs.Common.{[], ◌≡◌, ℕ, Bool, ◌+◌, ◌-◌, ◌<◌, ◌≤◌, true, false, T, cond, ◌||◌, List, ◌∷◌, length}
 use Rattle.std.proofs.Common.{take, set, Option, Some, None, IsSome, Result, Ok, Err, refl, sym, ap, subst, ◌∙◌}
 use Rattle.std.proofs.Common.{arith}
 use Rattle.std.proofs.lemmas.Bool.{both_ways}
@@ -9,7 +9,7 @@ use Rattle.std.proofs.lemmas.List.{get_or_default}
 use Rattle.std.proofs.lemmas.Map.Lookups.{exact_bytes}
 use Rattle.std.specs.Cmp.Lexicographic.{slice_cmp}
 use Rattle.std.specs.FinMap.Entries.{is_sorted, put, below_all}
-use Rattle.std.specs.List.{AllByRecursion}
+use Rattle.std.specs.List.{AllByRecursion, prefix_len}
 use Rattle.std.specs.Ordering.{is_eq, is_lt, nat_cmp}
 use Rattle.std.specs.Prelude.{option_map, nat_le, if◌then◌else◌, IfSome, OnOk, swap_remove}
 use Rattle.std.specs.declared.cmp.Ordering.TheVariants.{Less}
@@ -18,16 +18,19 @@ use Rattle.model.proofs.Entries.{IsSorted, IsBelowAll, turned}
 use Rattle.model.proofs.InOrder.{both, less, parts}
 use Rattle.model.proofs.Lookups.{same_key, same_key_itself, same_key_comm, same_map}
 use Rattle.model.specs.Map.{Bytes, KeyMap, KeyWrite, IsMap, key_cmp, value_at, after_writes}
-use Rattle.sorted_pages.specs.Pages.{Page, room_at}
+use Rattle.sorted_pages.proofs.Together.{room-together, together_as, together_between}
+use Rattle.sorted_pages.specs.Pages.{AreApart, Page, is_together, room_at}
 use Rattle.sorted_pages.specs.Trims.{put_some, changed_at}
 use Rattle.versions.proofs.ChainLaws.{seen-added, rising-added, version_at-reclaimed, version_at-newest}
 use Rattle.versions.proofs.ChainLaws.{tight-reclaimed, rising-seen_by, reclaimed_twice}
 use Rattle.versions.proofs.Visibles.{IsMap-visible, value-visible, visible-put, visible-put_same, find_chain-put}
 use Rattle.versions.proofs.Visibles.{sorted-put}
 use Rattle.versions.specs.Chains.{Stamped, ChainValue, Chains, ChainsValue, find_chain, seen, seen_in, value_of}
-use Rattle.versions.specs.Chains.{visible, with_pair, added, stamped, CanAddVersion, HasPlace, ChainHasRoom}
+use Rattle.versions.specs.Chains.{visible, with_pair, added, stamped, CanAddVersion, HasPlace, HavePlaces, ChainHasRoom}
+use Rattle.versions.specs.Chains.{count_together}
 use Rattle.versions.specs.Chains.{reclaimed, IsReclaimedAt, base_chains, IsKept, IsRisingChain, AreRoomier}
 use Rattle.versions.specs.Chains.{IsRoomierChain}
+use Rattle.versions.specs.Installing.{places_taken}
 use Rattle.versions.specs.Listings.{IsPartReclaimed}
 use Rattle.versions.specs.Meaning.{kept_in, is_written_by, is_among}
 use Rattle.versions.specs.Meaning.{garbage_of, lists_a_step, IsSameMeaning, IsReclaimed}
@@ -164,21 +167,48 @@ rising_roomier last _ _ h g = absurd h
 pub kept-roomier : (es fs : Chains) (last : ℕ) → AreRoomier es fs → IsKept es last → IsKept fs last
 kept-roomier es fs last h g = record { sorted = sorted_roomier es fs h g.sorted; rising = rising_roomier last es fs h g.rising }
 
--- the write's key has a chain with room, or a place for one
-abbrev pub IsPlaced : ℕ → Chains → List (Page ChainValue) → KeyWrite → Type 0
-IsPlaced n es ps w = ChainHasRoom (find_chain w.0 es) × HasPlace n (room_at w.0 ps) (find_chain w.0 es)
+-- the key of the first of the writes has a chain with room, or a place for it and those behind it that come to its page
+abbrev pub IsPlaced : Chains → List (Page ChainValue) → List KeyWrite → Type 0
+IsPlaced es ps [] = Unit {0}
+IsPlaced es ps (w ∷ ws) = ChainHasRoom (find_chain w.0 es) × HasPlace (count_together w.0 ps (w ∷ ws)) (room_at w.0 ps) (find_chain w.0 es)
+
+-- no more of them come to one page once pages are split
+pub count-apart : (k : Bytes) (ps qs : List (Page ChainValue)) (ws : List KeyWrite) → AreApart ps qs → count_together k qs ws ≤ count_together k ps ws
+count-apart k ps qs [] apart = omega arith
+count-apart k ps qs (w ∷ ws) apart =
+    let rest = count-apart k ps qs ws apart in
+    let here = apart k w.0 in
+    grind (arith, common_steps, both_ways)
+
+pub place-any : (n r : ℕ) (o : Option ChainValue) → n ≤ r → HasPlace n r o
+place-any n r None le = le
+place-any n r (Some c) le = tt
+
+-- with as many places for no more of them, or more
+pub place-more : (n m r s : ℕ) (o : Option ChainValue) → (n ≤ r → m ≤ s) → HasPlace n r o → HasPlace m s o
+place-more n m r s None f h = f h
+place-more n m r s (Some c) f h = tt
 
 -- what was made for the write is still there
-pub placed-roomier : (n : ℕ) (es fs : Chains) (ps qs : List (Page ChainValue)) → AreRoomier es fs → ((q : Bytes) → room_at q ps ≤ room_at q qs) → (w : KeyWrite)
-    → IsPlaced n es ps w → IsPlaced n fs qs w
-placed-roomier n es fs ps qs h more w p = grind (arith, more w.0, find-roomier w.0 es fs h)
+pub placed-roomier : (es fs : Chains) (ps qs : List (Page ChainValue)) → AreRoomier es fs → ((q : Bytes) → room_at q ps ≤ room_at q qs) → AreApart ps qs
+    → (ws : List KeyWrite) → IsPlaced es ps ws → IsPlaced fs qs ws
+placed-roomier es fs ps qs h more apart [] p = p
+placed-roomier es fs ps qs h more apart (w ∷ ws) p =
+    let fewer = count-apart w.0 ps qs (w ∷ ws) apart in
+    let m = more w.0 in
+    let place = place-more (count_together w.0 ps (w ∷ ws)) (count_together w.0 qs (w ∷ ws)) (room_at w.0 ps) (room_at w.0 qs) (find_chain w.0 es)
+    (λ le. omega (arith, le, fewer, m)) p.1 in
+    place_found (find_chain w.0 es) (find_chain w.0 fs) (count_together w.0 qs (w ∷ ws)) (room_at w.0 qs) (find-roomier w.0 es fs h) (p.0, place)
+  where
+    place_found : (o u : Option ChainValue) (n r : ℕ) → RoomierFound o u → ChainHasRoom o × HasPlace n r o → ChainHasRoom u × HasPlace n r u
+    place_found None None n r f g = g
+    place_found (Some c) (Some d) n r f g = (omega (arith, f.room, g.0), tt)
+    place_found None (Some d) n r f g = absurd f
+    place_found (Some c) None n r f g = absurd f
 
 pub on_ok : {A E : Type 0} (r : Result A E) (P : Type 0) → P → OnOk r P
 on_ok (Ok x) P p = p
 on_ok (Err e) P p = tt
-
-abbrev pub HavePlaces : ℕ → Chains → List (Page ChainValue) → List KeyWrite → Type 0
-HavePlaces n es ps ws = AllByRecursion (λ w. HasPlace n (room_at w.0 ps) (find_chain w.0 es)) ws
 
 -- ---- an install
 
@@ -200,14 +230,52 @@ pub ready-apart : (n : ℕ) (k : Bytes) (c : ChainValue) (es : Chains) (ws : Lis
 ready-apart n k c es [] h r = tt
 ready-apart n k c es (w ∷ ws) h r = let p = parts _ _ h in (subst (CanAddVersion n) (sym (find_apart k c es w.0 p.0)) r.0, ready-apart n k c es ws p.1 r.1)
 
--- a new chain takes one place
-pub places-apart : (n : ℕ) (k : Bytes) (c : ChainValue) (es : Chains) (ps qs : List (Page ChainValue)) (ws : List KeyWrite)
-    → T (below_all (slice_cmp nat_cmp) k ws) → ((q : Bytes) → room_at q ps ≤ room_at q qs + 1)
-    → HavePlaces (suc n) es ps ws → HavePlaces n (put (slice_cmp nat_cmp) k c es) qs ws
-places-apart n k c es ps qs [] h rooms r = tt
-places-apart n k c es ps qs (w ∷ ws) h rooms r =
+-- where the first of the rest doesn't come to the page of k, none does
+count-rest : (k : Bytes) (ps : List (Page ChainValue)) (w : KeyWrite) (ws : List KeyWrite) → T (is_lt (key_cmp k w.0))
+    → T (below_all (slice_cmp nat_cmp) w.0 ws) → count_together k ps ws ≤ count_together k ps (w ∷ ws)
+count-rest k ps w [] h g = omega arith
+count-rest k ps w (v ∷ ws) h g =
+    let p = parts _ _ g in
+    let between = together_between k w.0 v.0 ps (less _ h) (less _ p.0) in
+    grind (arith, common_steps, both_ways)
+
+-- what is left for the next write, once a new version is at k
+place_left : (o : Option ChainValue) (k q : Bytes) (ps qs : List (Page ChainValue)) (ws : List KeyWrite)
+    → room_at q ps ≤ room_at q qs + places_taken o k q ps → HasPlace (1 + count_together k ps ws) (room_at k ps) o
+    → count_together q ps ws ≤ room_at q ps → count_together q ps ws ≤ room_at q qs
+place_left (Some c) k q ps qs ws rooms own le = omega (arith, rooms, le)
+place_left None k q ps qs ws rooms own le = by (is_together k q ps) refl
+  where
+    by : (b : Bool) → is_together k q ps ≡ b → count_together q ps ws ≤ room_at q qs
+    by true e =
+        let taken = ap {B = ℕ} (λ (b : Bool). if b then 1 else 0) e in
+        let same = ap (λ (p : Bytes → Bool). prefix_len (λ (w : KeyWrite). p w.0) ws) (λ i r. together_as k q r ps e i) in
+        let room = room-together k q ps e in
+        omega (arith, rooms, own, taken, same, room)
+    by false e = let taken = ap {B = ℕ} (λ (b : Bool). if b then 1 else 0) e in omega (arith, rooms, le, taken)
+
+-- a new chain takes one place of its page
+pub places-apart : (k : Bytes) (c : ChainValue) (es : Chains) (ps qs : List (Page ChainValue)) (ws : List KeyWrite)
+    → T (below_all (slice_cmp nat_cmp) k ws) → T (is_sorted (slice_cmp nat_cmp) ws)
+    → ((q : Bytes) → room_at q ps ≤ room_at q qs + places_taken (find_chain k es) k q ps)
+    → ((i j : Bytes) → is_together i j qs ≡ is_together i j ps)
+    → HasPlace (1 + count_together k ps ws) (room_at k ps) (find_chain k es)
+    → HavePlaces ps es ws → HavePlaces qs (put (slice_cmp nat_cmp) k c es) ws
+places-apart k c es ps qs [] h s rooms same own r = tt
+places-apart k c es ps qs (w ∷ ws) h s rooms same own r =
     let p = parts _ _ h in
-    (subst (HasPlace n (room_at w.0 qs)) (sym (find_apart k c es w.0 p.0)) (grind (arith, rooms w.0, r.0)), places-apart n k c es ps qs ws p.1 rooms r.1)
+    let t = parts _ _ s in
+    let all = w ∷ ws in
+    let counted : count_together w.0 qs all ≡ count_together w.0 ps all =
+    ap (λ (f : Bytes → Bool). prefix_len (λ (v : KeyWrite). f v.0) all) (λ i q. same w.0 q i) in
+    let here = place-more (count_together w.0 ps all) (count_together w.0 qs all) (room_at w.0 ps) (room_at w.0 qs) (find_chain w.0 es)
+    (λ le. (let left = place_left (find_chain k es) k w.0 ps qs all (rooms w.0) own le in omega (arith, left, counted))) r.0 in
+    let fewer = count-rest k ps w ws p.0 t.0 in
+    let left = place-more (1 + count_together k ps all) (1 + count_together k ps ws) (room_at k ps) (room_at k ps) (find_chain k es)
+    (λ le. omega (arith, le, fewer)) own in (
+      subst (HasPlace (count_together w.0 qs all) (room_at w.0 qs)) (sym (find_apart k c es w.0 p.0)) here,
+      places-apart k c es ps qs ws p.1 t.1 rooms same left r.1,
+    )
 
 -- what m sees once the writes are in
 abbrev pub written_map : ℕ → ℕ → List KeyWrite → KeyMap → KeyMap

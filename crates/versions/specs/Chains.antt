@@ -1,13 +1,13 @@
 -- Chains of versions by key, as contracts see them.
 use Rattle.std.specs.Cmp.Lexicographic.{slice_cmp}
 use Rattle.std.specs.FinMap.Entries.{find, is_sorted, put}
-use Rattle.std.specs.List.{AllByRecursion, list_any}
+use Rattle.std.specs.List.{AllByRecursion, list_any, prefix_len}
 use Rattle.std.specs.Ordering.{nat_cmp}
 use Rattle.std.specs.Prelude.{◌≡◌, ℕ, T, ◌+◌, ◌-◌, ◌<◌, ◌≤◌, Bool, List, [], ◌∷◌, ◌++◌, length, Option, Some, None}
 use Rattle.std.specs.Prelude.{option_map, nat_le, nat_lt, ◌&&◌, ◌==◌, ◌^◌, min, fold, is_none, is_some, if◌then◌else◌}
 use Rattle.std.specs.Prelude.{⊤}
 use Rattle.model.specs.Map.{Bytes, KeyMap, KeyWrite, is_same_key}
-use Rattle.sorted_pages.specs.Pages.{Page, room_at}
+use Rattle.sorted_pages.specs.Pages.{Page, is_together, room_at}
 use Rattle.versions.specs.Groups.{GroupValue}
 
 -- the commit number of a version and its value, `None` for a deletion
@@ -134,10 +134,20 @@ WhereRoom n k ps chains P = ChainHasRoom (find_chain k chains) → HasPlaceAt n 
 abbrev pub IsAddedAt : Bytes → Stamped → Chains → Chains → Type 0
 IsAddedAt k v old new = (room : ℕ) × (new ≡ put (slice_cmp nat_cmp) k (added (find_chain k old) v room) old)
 
+-- how many of the first of the writes stand or would stand in the page of k
+abbrev pub count_together : Bytes → List (Page ChainValue) → List KeyWrite → ℕ
+count_together k ps ws = prefix_len (λ w. is_together k w.0 ps) ws
+
+-- where the key of a write has no chain, its page has room for that write and those behind it that come to the same page
+abbrev pub HavePlaces : List (Page ChainValue) → Chains → List KeyWrite → Type 0
+HavePlaces ps chains [] = ⊤
+HavePlaces ps chains (w ∷ ws) =
+    HasPlaceAt (count_together w.0 ps (w ∷ ws)) w.0 ps chains × HavePlaces ps chains ws
+
 -- the writes can be installed without memory
 pub record IsPrepared (v : ChainsValue) (ws : List KeyWrite) : Type 0 where
   pub chains : AllByRecursion (λ w. ChainHasRoom (find_chain w.0 v.chains)) ws
-  pub places : AllByRecursion (λ w. HasPlaceAt (length ws) w.0 v.pages v.chains) ws
+  pub places : HavePlaces v.pages v.chains ws
   pub listed : length ws ≤ v.listed_spare
   pub groups : 1 ≤ v.groups_spare
 

@@ -1,11 +1,11 @@
 -- What room there is for writes, and what installing them does to chains and to what is listed.
 use Rattle.std.specs.List.{AllByRecursion}
-use Rattle.std.specs.Prelude.{◌≡◌, ◌≤◌, ◌+◌, ◌-◌, ℕ, List, ◌++◌, length}
+use Rattle.std.specs.Prelude.{◌≡◌, ◌≤◌, ◌+◌, ◌-◌, ℕ, List, ◌++◌, length, Option, Some, None, if◌then◌else◌}
 use Rattle.std.specs.Vec.{vec_len, vec_capacity}
 use Rattle.std.specs.declared.vec.Vec.{Vec}
 use Rattle.model.specs.Map.{Bytes, KeyWrite}
-use Rattle.sorted_pages.specs.Pages.{Page, room_at}
-use Rattle.versions.specs.Chains.{ChainValue, Chains, ChainsValue, HasPlaceAt, ChainHasRoom, IsKept, AreRoomier}
+use Rattle.sorted_pages.specs.Pages.{AreApart, Page, is_together, room_at}
+use Rattle.versions.specs.Chains.{ChainValue, Chains, ChainsValue, ChainHasRoom, HavePlaces, IsKept, AreRoomier}
 use Rattle.versions.specs.Chains.{find_chain}
 use Rattle.versions.specs.Groups.{Listed}
 use Rattle.versions.specs.Listings.{AreSeenFrom, IsFollowed, StayListed}
@@ -16,15 +16,21 @@ use Rattle.versions.specs.Pins.{IsAddedTo}
 pub record HasMoreRoom (old new : ChainsValue) : Type 0 where
   pub chains : AreRoomier old.chains new.chains
   pub rooms : (q : Bytes) → room_at q old.pages ≤ room_at q new.pages
+  pub apart : AreApart old.pages new.pages
   pub listed_spare : new.listed_spare ≡ old.listed_spare
   pub groups_spare : new.groups_spare ≡ old.groups_spare
   pub groups : new.groups ≡ old.groups
   pub last : new.last ≡ old.last
 
+-- how many places a new version at k takes of the room that q has: one, where it makes a chain in the page of q
+abbrev pub places_taken : Option ChainValue → Bytes → Bytes → List (Page ChainValue) → ℕ
+places_taken None k q ps = if is_together k q ps then 1 else 0
+places_taken (Some c) k q ps = 0
+
 -- each of the writes can be added without memory, in the chain of its key or where that would stand
 pub record HaveRoom (pages : List (Page ChainValue)) (chains : Chains) (ws : List KeyWrite) : Type 0 where
   pub rooms : AllByRecursion (λ w. ChainHasRoom (find_chain w.0 chains)) ws
-  pub places : AllByRecursion (λ w. HasPlaceAt (length ws) w.0 pages chains) ws
+  pub places : HavePlaces pages chains ws
 
 -- the list has these versions more, and room for at most one less
 pub record ListsMore {Z : Type 0} (old new : Vec Listed Z) (more : List Listed) : Type 0 where

@@ -5,18 +5,18 @@ ghost use Rattle.std.specs.Cmp.Lexicographic.{slice_cmp};
 ghost use Rattle.std.specs.FinMap.Entries.{is_sorted};
 ghost use Rattle.std.specs.Vec.{vec_len, vec_capacity};
 ghost use Rattle.model.specs.Map.{Bytes};
-ghost use Rattle.sorted_pages.specs.Pages.{entries, room_at};
+ghost use Rattle.sorted_pages.specs.Pages.{AreApart, IsInsertionPoint, entries, is_together, room_at};
 ghost use Rattle.versions.specs.Chains.{HasPlaceAt, ChainHasRoom, IsAddedAt, IsKept, CanAddVersion, AreRoomier};
-ghost use Rattle.versions.specs.Chains.{WhereRoom, find_chain, stamped};
+ghost use Rattle.versions.specs.Chains.{WhereRoom, count_together, find_chain, stamped};
 ghost use Rattle.versions.specs.Listings.{followed};
-ghost use Rattle.versions.specs.Installing.{AddsWrites, HaveRoom, ListsFollowed, ListsMore};
+ghost use Rattle.versions.specs.Installing.{AddsWrites, HaveRoom, ListsFollowed, ListsMore, places_taken};
 
 use crate::chain::Chain;
 use crate::listing::OldVersion;
 use crate::several::Version;
 use crate::value::kept_value;
 use model::{Key, KeyRef, Write};
-use sorted_pages::SortedPages;
+use sorted_pages::{InsertionPoint, SortedPages};
 use std::alloc::{AllocError, Global};
 
 // Lists the version of the key that commit `n` supersedes.
@@ -35,23 +35,43 @@ fn list(listed: &mut Vec<OldVersion>, key: Key, number: u64, n: u64)
     }
 }
 
-// Makes room for a version in the key's chain, or for `n` new chains where it would stand.
+// How many of the first of the writes come to the page where a new key would be inserted.
+fn count_beside(chains: &SortedPages<Chain>, at: InsertionPoint, writes: &[Write]) -> usize
+    ensures { (k : Bytes) → IsInsertionPoint chains.now k at.page at.entry
+        → result ≡ count_together k chains.now writes.now }
+{
+    for (i, write) in writes.iter().enumerate() {
+        if !chains.is_placed_in(at, write.lend_key()) {
+            return i;
+        }
+    }
+    writes.len()
+}
+
+// Makes room for a version in the key's chain, or where it would stand, for a new chain for each of the first of the writes that come to
+// the same page.
 pub(crate) fn make_room(
     alloc: Global,
     chains: &mut SortedPages<Chain>,
     key: KeyRef<'_>,
-    n: usize,
+    writes: &[Write],
 ) -> Result<(), AllocError>
     requires { T (is_sorted (slice_cmp nat_cmp) (entries chains.old)) }
     ensures chains { AreRoomier (entries chains.old) (entries chains.new) }
     ensures rooms { (q : Bytes) → room_at q chains.old ≤ room_at q chains.new }
+    ensures apart { AreApart chains.old chains.new }
     ensures room { OnOk result (ChainHasRoom (find_chain key.entry.bytes.now (entries chains.new))) }
-    ensures place { OnOk result (HasPlaceAt n key.entry.bytes.now chains.new (entries chains.new)) }
-    ensures known { WhereRoom n key.entry.bytes.now chains.old (entries chains.old) (IsOk result) }
+    ensures place { OnOk result (HasPlaceAt (count_together key.entry.bytes.now chains.new writes.now)
+        key.entry.bytes.now chains.new (entries chains.new)) }
+    ensures known { WhereRoom (count_together key.entry.bytes.now chains.old writes.now)
+        key.entry.bytes.now chains.old (entries chains.old) (IsOk result) }
 {
     match chains.find_mut(key) {
         Ok(chain) => chain.reserve(alloc),
-        Err(at) => chains.reserve(at, key, n),
+        Err(at) => {
+            let n = count_beside(chains, at, writes);
+            chains.reserve(at, key, n)
+        }
     }
 }
 
@@ -62,7 +82,9 @@ fn add(chains: &mut SortedPages<Chain>, listed: &mut Vec<OldVersion>, n: u64, wr
     requires place { HasPlaceAt 1 write.0 chains.old (entries chains.old) }
     requires listed_spare { 1 ≤ vec_capacity listed.old - vec_len listed.old }
     ensures chains { IsAddedAt write.0 (stamped n write.1) (entries chains.old) (entries chains.new) }
-    ensures rooms { (q : Bytes) → room_at q chains.old ≤ room_at q chains.new + 1 }
+    ensures rooms { (q : Bytes) → room_at q chains.old
+        ≤ room_at q chains.new + places_taken (find_chain write.0 (entries chains.old)) write.0 q chains.old }
+    ensures together { (j k : Bytes) → is_together j k chains.new ≡ is_together j k chains.old }
     ensures listed { ListsMore listed.old listed.new (followed (find_chain write.0 (entries chains.old)) write.0 n) }
 {
     let (key, value) = write.into_parts();

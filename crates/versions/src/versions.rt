@@ -7,7 +7,7 @@ ghost use Rattle.std.specs.Cmp.Lexicographic.{slice_cmp};
 ghost use Rattle.std.specs.FinMap.Entries.{is_sorted};
 ghost use Rattle.model.specs.KeyBytes.{end_bytes};
 ghost use Rattle.model.specs.Map.{value_at, pairs_in_range};
-ghost use Rattle.versions.specs.Chains.{IsPrepared, HasPlaceAt, ChainHasRoom, WhereRoom, find_chain};
+ghost use Rattle.versions.specs.Chains.{IsPrepared, HasPlaceAt, ChainHasRoom, WhereRoom, count_together, find_chain};
 ghost use Rattle.versions.specs.Meaning.{map_seen, newest_of, versions_kept};
 ghost use Rattle.versions.specs.Meaning.{garbage_of, groups_of, IsSameMeaning, IsInstalled};
 ghost use Rattle.versions.specs.Meaning.{IsReclaimed};
@@ -155,19 +155,22 @@ impl Versions {
         self.chains.places()
     }
 
-    // Makes room for a version in the key's chain, or for `n` new chains where it would stand.
-    fn make_room(&mut self, key: KeyRef<'_>, n: usize) -> Result<(), AllocError>
+    // Makes room for a version in the key's chain, or where it would stand, for a new chain for each of the first of the writes that come
+    // to the same page.
+    fn make_room(&mut self, key: KeyRef<'_>, writes: &[Write]) -> Result<(), AllocError>
         ensures roomier { HasMoreRoom self.old self.new }
         ensures room { OnOk result (ChainHasRoom (find_chain key.entry.bytes.now self.new.chains)) }
-        ensures place { OnOk result (HasPlaceAt n key.entry.bytes.now self.new.pages self.new.chains) }
-        ensures known { WhereRoom n key.entry.bytes.now self.old.pages self.old.chains (IsOk result) }
+        ensures place { OnOk result (HasPlaceAt (count_together key.entry.bytes.now self.new.pages writes.now)
+            key.entry.bytes.now self.new.pages self.new.chains) }
+        ensures known { WhereRoom (count_together key.entry.bytes.now self.old.pages writes.now)
+            key.entry.bytes.now self.old.pages self.old.chains (IsOk result) }
     {
         let alloc = *self.listed.allocator();
-        make_room(alloc, &mut self.chains, key, n)
+        make_room(alloc, &mut self.chains, key, writes)
     }
 
-    /// Makes the room in which these writes can be installed: in the pages of new keys, where a full page is split, once in the chain
-    /// of each other key, and for a list of the keys. What the versions mean stays, also where memory is refused, which is answered by
+    /// Makes the room in which these writes can be installed: in the page of each new key, for it and the writes behind it that come to
+    /// the same page, where a full page is split, once in the chain of each other key, and for a list of the keys. What the versions mean stays, also where memory is refused, which is answered by
     /// `Memory`. Where the room is there already, it takes none and succeeds.
     pub fn prepare(&mut self, writes: &[Write]) -> Result<(), Memory>
         ensures prepared { OnOk result (IsPrepared self.new writes.now) }
@@ -175,8 +178,8 @@ impl Versions {
         ensures same { IsSameMeaning self.old self.new }
         ensures stands { StandForSame self.old self.new }
     {
-        for write in writes {
-            self.make_room(write.lend_key(), writes.len())?;
+        for (i, write) in writes.iter().enumerate() {
+            self.make_room(write.lend_key(), &writes[i..])?;
         }
         reserve_list(&mut self.listed, writes.len())?;
         self.groups.reserve(1)?;

@@ -32,5 +32,7 @@ returns g c =
       order = all.order;
       entries = all.entries;
       rooms = all.rooms;
+      others = all.others;
+      together = all.together;
       tight = tight-set 0 ps i (get_or ps i c.index-pages-at.result) c.insert.new.self here (omega arith);
     }

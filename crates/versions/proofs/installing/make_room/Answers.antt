@@ -1,8 +1,11 @@
 use Rattle.versions.proofs.installing.make_room.Goals as goal
 use Rattle.std.proofs.Common.{arith}
 use Rattle.std.proofs.lemmas.Grind.{common_steps}
+use Rattle.std.proofs.lemmas.Result.{on_ok_weaker}
+use Rattle.sorted_pages.specs.Pages.{room_at}
 use Rattle.sorted_pages.specs.Pages.{entries}
-use Rattle.versions.proofs.Stores.{roomier-refl, roomier-put, find-put_itself, on_ok}
+use Rattle.versions.proofs.Stores.{count-apart, place-any, roomier-refl, roomier-put, find-put_itself, on_ok}
+use Rattle.versions.specs.Chains.{count_together, find_chain}
 
 pub returns-in-Ok-clause-chains : goal.returns-in-Ok-clause-chains
 returns-in-Ok-clause-chains c =
@@ -19,3 +22,14 @@ returns-in-Ok-clause-place c = grind (arith, common_steps, c.in-Ok.ensures.put c
 
 pub returns-in-Err-clause-chains : goal.returns-in-Err-clause-chains
 returns-in-Err-clause-chains c = rw c.reserve-in-Err.ensures.room.roomier.entries (roomier-refl (entries c.args.chains.now))
+
+pub returns-in-Err-clause-place : goal.returns-in-Err-clause-place
+returns-in-Err-clause-place c =
+    let k = c.args.key.bytes.now in
+    let ps = c.args.chains.now in
+    let qs = c.reserve-in-Err.new.self in
+    let n = c.count_beside-n.ensures k c.in-Err.ensures.absent in
+    let fewer = count-apart k ps qs c.args.writes.now c.reserve-in-Err.ensures.room.roomier.apart in
+    on_ok_weaker c.reserve-in-Err.result
+    (λ made. place-any (count_together k qs c.args.writes.now) (room_at k qs) (find_chain k (entries qs)) (omega (arith, made, n, fewer)))
+    c.reserve-in-Err.ensures.made

@@ -2,7 +2,7 @@ use Rattle.sorted_pages.proofs.pages.SortedPages.find_mut.Goals as goal
 use Rattle.std.proofs.Common.{refl, ap, ◌∙◌}
 use Rattle.std.specs.Prelude.{is_some}
 use Rattle.sorted_pages.proofs.Placings.{page_sorted, page_at, find_at}
-use Rattle.sorted_pages.proofs.Values.{entries-with_value, room-with_value}
+use Rattle.sorted_pages.proofs.Values.{entries-with_value, room-with_value, together-with_value}
 
 pub search-requires : goal.search-requires
 search-requires g c =
@@ -21,6 +21,7 @@ returns-in-Ok g c =
         value = found;
         put = λ w. entries-with_value ps k w sorted (ap is_some found);
         rooms = λ w q. room-with_value q ps k w sorted;
+        together = λ w i j. together-with_value i j ps k w sorted;
         absent = tt;
       },
     )
@@ -39,6 +40,7 @@ returns-in-Err g c =
         value = tt;
         put = tt;
         rooms = λ w q. room-with_value q ps k w sorted;
+        together = λ w i j. together-with_value i j ps k w sorted;
         absent = record {
           absent = find_at ps k c.place-page.result c.index.result.now at is ∙ gap.absent;
           page = λ some. at;

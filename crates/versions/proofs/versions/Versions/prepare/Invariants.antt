@@ -1,19 +1,19 @@
 use Rattle.versions.proofs.versions.Versions.prepare.Given as goal
-use Rattle.std.proofs.Common.{◌≡◌, ◌≤◌, length, take}
-use Rattle.std.specs.List.{AllByRecursion}
+use Rattle.std.proofs.Common.{◌≡◌, ℕ, ◌<◌, ◌≤◌, drop}
 use Rattle.model.specs.Map.{Bytes}
-use Rattle.sorted_pages.specs.Pages.{room_at}
+use Rattle.sorted_pages.specs.Pages.{AreApart, room_at}
 use Rattle.versions.proofs.Stores.{IsPlaced}
 use Rattle.versions.specs.Chains.{AreRoomier}
 
 -- the writes so far have room
-abbrev pub invariant-loop-write : goal.invariant-loop-write
-invariant-loop-write l = record {
+abbrev pub invariant-loop-i : goal.invariant-loop-i
+invariant-loop-i l = record {
   roomier : AreRoomier l.initial.self.chains l.self.chains;
   pages : (q : Bytes) → room_at q l.initial.self.pages ≤ room_at q l.self.pages;
   last : l.self.last ≡ l.initial.self.last;
   groups : l.self.groups ≡ l.initial.self.groups;
-  prepared : AllByRecursion (IsPlaced (length l.writes) l.self.chains l.self.pages) (take l.write-index l.writes);
+  apart : AreApart l.initial.self.pages l.self.pages;
+  prepared : (j : ℕ) → j < l.i → IsPlaced l.self.chains l.self.pages (drop j l.writes);
   listed_spare : l.self.listed_spare ≡ l.initial.self.listed_spare;
   groups_spare : l.self.groups_spare ≡ l.initial.self.groups_spare;
 }
