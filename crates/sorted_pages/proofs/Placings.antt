@@ -23,7 +23,8 @@ use Rattle.sorted_pages.proofs.Together.{before_page, behind_page, in_one_page, 
 use Rattle.sorted_pages.proofs.Together.{together-replaced, together-split}
 use Rattle.sorted_pages.specs.Pages.{AreAllFull, AreFull, AreTight, Page, entries, starts_by, last_room, room_at}
 use Rattle.sorted_pages.specs.Pages.{last_page, count_at, page_entries, stands_behind, IsHalved, AreLoose, HasEntry}
-use Rattle.sorted_pages.specs.Pages.{RestHaveEntries, IsInOrder, AreBelow, IsPlace, IsRoomier, StaysTight, is_together}
+use Rattle.sorted_pages.specs.Pages.{RestHaveEntries, IsInOrder, AreBelow, IsPlace, IsRoomier, StaysTight}
+use Rattle.sorted_pages.specs.Pages.{is_together}
 
 -- ---- lists
 
@@ -171,7 +172,8 @@ module _ {X : Type 0} where
       none_behind b c (d ∷ a) h n =
           let at : get_or (b ++ c ∷ d ∷ a) (length b + 1) d ≡ d = next_at b c d a d in
           let first = ap (λ (r : Page X). starts_by q r.0) (sym at) ∙ n d (omega (arith, length-append b (c ∷ d ∷ a))) in
-          let sorted = sorted_right key_cmp c.0 (entries (d ∷ a)) (sorted_right key_cmp (entries b) (c.0 ++ entries (d ∷ a)) (sorted_parts b c (d ∷ a) h.sorted)) in
+          let from = sorted_right key_cmp (entries b) (c.0 ++ entries (d ∷ a)) (sorted_parts b c (d ∷ a) h.sorted) in
+          let sorted = sorted_right key_cmp c.0 (entries (d ∷ a)) from in
           (first, none_from q d a sorted (after_filled b c (d ∷ a) h.filled).1 first)
 
   -- a key by which that page doesn't start, or by which the next does
@@ -454,22 +456,22 @@ module _ {X : Type 0} where
   tight-push n ps new p now few =
       record { tight = λ r le h. subst (λ (l : List (Page X)). AreTight r l) (sym now) (all-append (λ (s : Page X). s.1 ≤ r) ps (p ∷ []) h (omega arith, tt)) }
 
-  -- an entry more in a page with fewer than 384
+  -- an entry more in a page with fewer than 192
   pub loose-set : (ps : List (Page X)) (e : Bytes × X) (i : ℕ) (p r : Page X) (ok : Bool) → p ≡ get_or ps i p → r.0 ≡ (if ok then p.0 ++ e ∷ [] else p.0)
-      → length p.0 + p.1 ≤ length r.0 + r.1 → length p.0 < 384 → AreLoose ps → AreLoose (set ps i r)
+      → length p.0 + p.1 ≤ length r.0 + r.1 → length p.0 < 192 → AreLoose ps → AreLoose (set ps i r)
   loose-set ps e i p r ok is same places lt h = grind (arith, common_steps, length-append, all_set)
 
-  -- a page of one entry, with 512 places
-  pub loose-push : (ps : List (Page X)) (e : Bytes × X) (p q : Page X) → q ≡ ([], 512) → p.0 ≡ q.0 ++ e ∷ [] → length q.0 + q.1 ≤ length p.0 + p.1 → AreLoose ps
+  -- a page of one entry, with 256 places
+  pub loose-push : (ps : List (Page X)) (e : Bytes × X) (p q : Page X) → q ≡ ([], 256) → p.0 ≡ q.0 ++ e ∷ [] → length q.0 + q.1 ≤ length p.0 + p.1 → AreLoose ps
       → AreLoose (ps ++ p ∷ [])
   loose-push ps e p q new same places h = all-append _ ps (p ∷ []) h (grind (arith, common_steps), tt)
 
   -- ---- full pages
 
   -- the last is full too
-  pub all_full : (ps : List (Page X)) (i : ℕ) (q : Page X) → i + 1 ≡ length ps → q ≡ get_or ps i q → 384 ≤ length q.0 → AreFull ps → AreAllFull ps
+  pub all_full : (ps : List (Page X)) (i : ℕ) (q : Page X) → i + 1 ≡ length ps → q ≡ get_or ps i q → 192 ≤ length q.0 → AreFull ps → AreAllFull ps
   all_full [] i q at is le h = tt
-  all_full (p ∷ []) zero q at is le h = (subst (λ (r : Page X). 384 ≤ length r.0) is le, tt)
+  all_full (p ∷ []) zero q at is le h = (subst (λ (r : Page X). 192 ≤ length r.0) is le, tt)
   all_full (p ∷ []) (suc i) q at is le h = absurd (omega arith)
   all_full (p ∷ r ∷ ps) zero q at is le h = absurd (omega arith)
   all_full (p ∷ r ∷ ps) (suc i) q at is le h = (h.0, all_full (r ∷ ps) i q (omega arith) is le h.1)

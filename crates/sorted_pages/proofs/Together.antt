@@ -1,6 +1,6 @@
 -- Keys that stand in the same page.
-use Rattle.std.proofs.Common.{◌≡◌, ℕ, ◌<◌, Bool, true, false, not, ◌&&◌, List, [], ◌∷◌, ◌++◌, length, get_or, zero, suc}
-use Rattle.std.proofs.Common.{refl, sym, ap, ◌∙◌, arith}
+use Rattle.std.proofs.Common.{◌≡◌, ℕ, ◌<◌, Bool, true, false, not, ◌&&◌, List, [], ◌∷◌, ◌++◌, length, get_or, zero}
+use Rattle.std.proofs.Common.{suc, refl, sym, ap, ◌∙◌, arith}
 use Rattle.std.proofs.lemmas.Bool.{and_from, and_left, and_parts, and_right, both_ways, not-true}
 use Rattle.std.proofs.lemmas.Grind.{common_steps}
 use Rattle.std.proofs.lemmas.List.{get_or_at, length-append}
@@ -14,8 +14,8 @@ use Rattle.model.proofs.InOrder.{below_left, below_right, parts, sorted_right}
 use Rattle.model.proofs.KeyOrder.{less_trans, same_keys}
 use Rattle.model.specs.Map.{Bytes, key_cmp}
 use Rattle.sorted_pages.proofs.Keys.{first_of}
-use Rattle.sorted_pages.specs.Pages.{HasEntry, IsInOrder, Page, entries, is_together, last_room, room_at, starts_alike}
-use Rattle.sorted_pages.specs.Pages.{starts_by}
+use Rattle.sorted_pages.specs.Pages.{HasEntry, IsInOrder, Page, entries, is_together, last_room, room_at}
+use Rattle.sorted_pages.specs.Pages.{starts_alike, starts_by}
 
 refuted : (b : Bool) → (b ≡ true → ⊥) → b ≡ false
 refuted true h = absurd (h refl)
@@ -89,7 +89,8 @@ module _ {X : Type 0} where
       let rest = before ++ page ∷ after in
       let lt : length before < length rest = omega (arith, length-append before (page ∷ after)) in
       let at = get_or_at before page after page (length before) refl in
-      let too = λ (q : Bytes) (w : starts_by q page.0 ≡ true). starts_too q b.0 rest (length before) page h f.1 lt (ap (λ (p : Page X). starts_by q p.0) at ∙ w) in
+      let too = λ (q : Bytes) (w : starts_by q page.0 ≡ true).
+      starts_too q b.0 rest (length before) page h f.1 lt (ap (λ (p : Page X). starts_by q p.0) at ∙ w) in
       and_from (starts_alike j k b.0) (Alike j k rest) (both_alike j k b.0 (too j s) (too k t))
       (alike_before j k before page after (sorted_right key_cmp b.0 (entries rest) h) f.1 s t a)
 
@@ -129,6 +130,7 @@ module _ {X : Type 0} where
     where
       e : starts_alike j k next.0 ≡ false
       e = ap (λ b. if b then starts_by k next.0 else not (starts_by k next.0)) s ∙ ap not t
+
       by : (bs : List (Page X)) → is_together j k (bs ++ page ∷ next ∷ after) ≡ false
       by [] = and_left (starts_alike j k next.0) (Alike j k after) e
       by (b ∷ bs) = not_alike_next j k bs page next after e

@@ -20,8 +20,8 @@ use Rattle.model.specs.Map.{Bytes, key_cmp}
 use Rattle.sorted_pages.proofs.Keys.{find_behind, put_behind}
 use Rattle.sorted_pages.proofs.Placings.{page_is, set_is, find_at, grown, inserted}
 use Rattle.sorted_pages.specs.Lent.{with_value, with_value_in}
-use Rattle.sorted_pages.specs.Pages.{Page, entries, starts_by, last_room, room_at, AreBelow, IsPlace, IsInOrder, is_together}
-use Rattle.sorted_pages.specs.Pages.{starts_alike}
+use Rattle.sorted_pages.specs.Pages.{Page, entries, starts_by, last_room, room_at, AreBelow, IsPlace, IsInOrder}
+use Rattle.sorted_pages.specs.Pages.{is_together, starts_alike}
 use Rattle.sorted_pages.specs.Trims.{put_some, changed_at}
 
 module _ {X : Type 0} where

@@ -17,13 +17,13 @@ use model::{Key, KeyRef};
 use std::alloc::AllocError;
 
 // A page of fewer entries isn't split.
-const SPLIT_MIN: usize = 288;
+const SPLIT_MIN: usize = 144;
 
 // How many entries a page is given where all come in by rising key. It has places for more, so that the first keys that come in between
 // don't move it.
-const FILL: usize = 384;
+const FILL: usize = 192;
 
-const FILL_PLACES: usize = 512;
+const FILL_PLACES: usize = 256;
 
 // Adds an entry of a new key where it would stand, in the room that was made for it.
 pub(crate) fn insert<V: Aging>(pages: &mut [Page<V>], at: InsertionPoint, key: Key, value: V)

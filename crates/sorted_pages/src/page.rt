@@ -25,10 +25,10 @@ use std::marker::Model;
 use std::mem;
 
 // A page's places come in steps. They are few and large, since a page that moves leaves a block behind that larger pages don't fit in.
-const STEP: usize = 192;
+const STEP: usize = 96;
 
 // A page that would need more places is split. It is three steps.
-pub(crate) const PAGE_MAX: usize = 576;
+pub(crate) const PAGE_MAX: usize = 288;
 
 // How much room to make beside `len` entries for `n` more, so that the places are whole steps.
 fn room_in_steps(len: usize, n: usize) -> usize

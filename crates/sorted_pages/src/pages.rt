@@ -141,6 +141,13 @@ impl<V: Aging + Drop> SortedPages<V> {
         placing::room(&self.pages, key)
     }
 
+    /// How many more entries fit without memory where a new key would be inserted. The key isn't looked up. Takes no memory.
+    pub fn room_in(&self, at: InsertionPoint) -> usize
+        ensures { (k : Bytes) → IsInsertionPoint self.now k at.page at.entry → result ≡ room_at k self.now }
+    {
+        placing::room_in(&self.pages, at.page)
+    }
+
     /// Does the key stand, or would it, in the page where a new key would be inserted? Looks at the first keys of two pages. Takes no
     /// memory.
     pub fn is_placed_in(&self, at: InsertionPoint, key: KeyRef<'_>) -> bool
@@ -151,9 +158,9 @@ impl<V: Aging + Drop> SortedPages<V> {
     }
 
     /// Makes room for `n` more entries where a new key would be inserted. The entries stay, also where memory is refused, no key has less
-    /// room than before, and none comes to the page of another. Where the room is there already, it takes none and succeeds. A page of 288 entries is split where
-    /// the `n` would make them more than 576: in the middle, or before its last entry where the key stands behind all of them. No other
-    /// page is made, but for the first. No page gets room for more than `n` + 191 entries.
+    /// room than before, and none comes to the page of another. Where the room is there already, it takes none and succeeds. A page of 144
+    /// entries is split where the `n` would make them more than 288: in the middle, or before its last entry where the key stands behind
+    /// all of them. No other page is made, but for the first. No page gets room for more than `n` + 95 entries.
     pub fn reserve(
         &mut self,
         at: InsertionPoint,
@@ -185,8 +192,8 @@ impl<V: Aging + Drop> SortedPages<V> {
         changing::insert(&mut self.pages, at, key, value);
     }
 
-    /// Adds an entry above all others, in pages that are filled one after another up to 384 entries, with places for 512: each page but the
-    /// last has 384. Where memory is refused the entries stay.
+    /// Adds an entry above all others, in pages that are filled one after another up to 192 entries, with places for 256: each page but the
+    /// last has 192. Where memory is refused the entries stay.
     pub fn push(&mut self, key: Key, value: V) -> Result<(), AllocError>
         requires { T (is_sorted (slice_cmp nat_cmp) (entries self.old ++ (key, value) ∷ [])) }
         ensures entries { entries self.new ≡ pushed (is_ok result) (entries self.old) (key, value) }

@@ -51,13 +51,13 @@ fn renew(begins: &mut [u64; 4], n: u64) {
     }
 }
 
-// Are the pages few, each of 288 keys at least and of 576 at most, and have they places for half as many keys more at most?
+// Are the pages few, each of 144 keys at least and of 288 at most, and have they places for half as many keys more at most?
 fn are_small(versions: &Versions, keys: usize) -> bool {
-    let pages = versions.pages().saturating_mul(288);
+    let pages = versions.pages().saturating_mul(144);
     let few = pages <= keys || versions.pages() <= 1;
     let split = keys <= pages.saturating_mul(2);
     let places = versions.places().saturating_mul(2);
-    few && split && (keys < 384 || places <= keys.saturating_mul(3))
+    few && split && (keys < 192 || places <= keys.saturating_mul(3))
 }
 
 /// Random keys are written, and deleted, while old transactions come and go.

@@ -299,10 +299,10 @@ fn blank_values_are_passed_over(rt: HostRuntime) {
     assert!(rt; looks(&pages, 1, &asked).saturating_add(100) < before);
 }
 
-/// Pages have places in whole steps of 192, also where each entry has asked for one.
+/// Pages have places in whole steps of 96, also where each entry has asked for one.
 #[test]
 fn places_are_whole_steps(rt: HostRuntime) {
     let asked = Cell::new(0);
     let pages = filled(&rt, 0, 0, &asked);
-    assert!(rt; pages.places() >= 2_000 && pages.places() % 192 == 0);
+    assert!(rt; pages.places() >= 2_000 && pages.places() % 96 == 0);
 }

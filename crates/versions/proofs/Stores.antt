@@ -26,8 +26,8 @@ use Rattle.versions.proofs.ChainLaws.{tight-reclaimed, rising-seen_by, reclaimed
 use Rattle.versions.proofs.Visibles.{IsMap-visible, value-visible, visible-put, visible-put_same, find_chain-put}
 use Rattle.versions.proofs.Visibles.{sorted-put}
 use Rattle.versions.specs.Chains.{Stamped, ChainValue, Chains, ChainsValue, find_chain, seen, seen_in, value_of}
-use Rattle.versions.specs.Chains.{visible, with_pair, added, stamped, CanAddVersion, HasPlace, HavePlaces, ChainHasRoom}
-use Rattle.versions.specs.Chains.{count_together}
+use Rattle.versions.specs.Chains.{visible, with_pair, added, stamped, CanAddVersion, HasPlace, HavePlaces}
+use Rattle.versions.specs.Chains.{ChainHasRoom, count_together}
 use Rattle.versions.specs.Chains.{reclaimed, IsReclaimedAt, base_chains, IsKept, IsRisingChain, AreRoomier}
 use Rattle.versions.specs.Chains.{IsRoomierChain}
 use Rattle.versions.specs.Installing.{places_taken}

@@ -138,7 +138,7 @@ IsAddedAt k v old new = (room : ℕ) × (new ≡ put (slice_cmp nat_cmp) k (adde
 abbrev pub count_together : Bytes → List (Page ChainValue) → List KeyWrite → ℕ
 count_together k ps ws = prefix_len (λ w. is_together k w.0 ps) ws
 
--- where the key of a write has no chain, its page has room for that write and those behind it that come to the same page
+-- where the key of a write has no chain, its page has room for it and for those right behind it that come there
 abbrev pub HavePlaces : List (Page ChainValue) → Chains → List KeyWrite → Type 0
 HavePlaces ps chains [] = ⊤
 HavePlaces ps chains (w ∷ ws) =

@@ -69,6 +69,10 @@ pub(crate) fn make_room(
     match chains.find_mut(key) {
         Ok(chain) => chain.reserve(alloc),
         Err(at) => {
+            // Where there is room for all of them, it need not be known which of them come here.
+            if writes.len() <= chains.room_in(at) {
+                return Ok(());
+            }
             let n = count_beside(chains, at, writes);
             chains.reserve(at, key, n)
         }

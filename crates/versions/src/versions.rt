@@ -169,9 +169,10 @@ impl Versions {
         make_room(alloc, &mut self.chains, key, writes)
     }
 
-    /// Makes the room in which these writes can be installed: in the page of each new key, for it and the writes behind it that come to
-    /// the same page, where a full page is split, once in the chain of each other key, and for a list of the keys. What the versions mean stays, also where memory is refused, which is answered by
-    /// `Memory`. Where the room is there already, it takes none and succeeds.
+    /// Makes the room in which these writes can be installed: in the page of each new key, for it and the writes right behind it that come
+    /// to the same page, where a full page is split, once in the chain of each other key, and for a list of the keys. What the versions
+    /// mean stays, also where memory is refused, which is answered by `Memory`. Where the room is there already, it takes none and
+    /// succeeds.
     pub fn prepare(&mut self, writes: &[Write]) -> Result<(), Memory>
         ensures prepared { OnOk result (IsPrepared self.new writes.now) }
         ensures known { IsPrepared self.old writes.now → IsOk result }

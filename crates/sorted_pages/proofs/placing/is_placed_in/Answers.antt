@@ -14,11 +14,11 @@ returns-in-Some g c = λ k at.
     let w = at (omega (arith, here.0)) in
     let starts : 0 < c.args.i → starts_by q w.page.0 ≡ true =
     elim c.else-i-ne0.branch [
-      else-i-ne0-via-then-i-ne0+else-not-starts_by v ↦ λ lt.
-        ap (λ (r : Page g.row.V.Denot). starts_by q r.0) (sym (page_is ps k c.args.i v.index-pages-i.result w v.index-pages-i.is))
-        ∙ ap (λ (b : Bytes). starts_by b v.index-pages-i.result.0) (sym c.new-sought.ensures)
-        ∙ sym v.starts_by.ensures ∙ v.if-not-starts_by.false
-    | else-i-ne0-via-else-i-ne0 v ↦ λ lt. absurd (omega (arith, v.if-i-ne0.false))
+      | else-i-ne0-via-then-i-ne0+else-not-starts_by v ↦ λ lt.
+          ap (λ (r : Page g.row.V.Denot). starts_by q r.0) (sym (page_is ps k c.args.i v.index-pages-i.result w v.index-pages-i.is))
+          ∙ ap (λ (b : Bytes). starts_by b v.index-pages-i.result.0) (sym c.new-sought.ensures)
+          ∙ sym v.starts_by.ensures ∙ v.if-not-starts_by.false
+      | else-i-ne0-via-else-i-ne0 v ↦ λ lt. absurd (omega (arith, v.if-i-ne0.false))
     ] in
     ap (λ b. not b) (c.starts_by-in-Some.ensures ∙ ap (λ (b : Bytes). starts_by b next.0) c.new-sought.ensures)
     ∙ placed_by_next ps k q c.args.i next c.requires w starts here.0 here.1
@@ -31,10 +31,10 @@ returns-in-None g c = λ k at.
     let w = at (omega (arith, c.if-pages-i.false)) in
     let starts : 0 < c.args.i → starts_by q w.page.0 ≡ true =
     elim c.else-i-ne0.branch [
-      else-i-ne0-via-then-i-ne0+else-not-starts_by v ↦ λ lt.
-        ap (λ (r : Page g.row.V.Denot). starts_by q r.0) (sym (page_is ps k c.args.i v.index-pages-i.result w v.index-pages-i.is))
-        ∙ ap (λ (b : Bytes). starts_by b v.index-pages-i.result.0) (sym c.new-sought.ensures)
-        ∙ sym v.starts_by.ensures ∙ v.if-not-starts_by.false
-    | else-i-ne0-via-else-i-ne0 v ↦ λ lt. absurd (omega (arith, v.if-i-ne0.false))
+      | else-i-ne0-via-then-i-ne0+else-not-starts_by v ↦ λ lt.
+          ap (λ (r : Page g.row.V.Denot). starts_by q r.0) (sym (page_is ps k c.args.i v.index-pages-i.result w v.index-pages-i.is))
+          ∙ ap (λ (b : Bytes). starts_by b v.index-pages-i.result.0) (sym c.new-sought.ensures)
+          ∙ sym v.starts_by.ensures ∙ v.if-not-starts_by.false
+      | else-i-ne0-via-else-i-ne0 v ↦ λ lt. absurd (omega (arith, v.if-i-ne0.false))
     ] in
     sym (together_at ps k q c.args.i c.requires w starts (λ d lt. absurd (omega (arith, last, lt))))

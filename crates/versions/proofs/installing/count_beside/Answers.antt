@@ -1,5 +1,5 @@
 use Rattle.versions.proofs.installing.count_beside.Goals as goal
-use Rattle.std.proofs.Common.{◌≡◌, ℕ, ◌<◌, false, [], length, get_or, None, sym, ap, ◌∙◌, arith}
+use Rattle.std.proofs.Common.{◌≡◌, false, [], length, get_or, None, sym, ap, ◌∙◌, arith}
 use Rattle.std.proofs.lemmas.List.Sums.{prefix_len_is}
 use Rattle.model.specs.Map.{Bytes, KeyWrite}
 use Rattle.sorted_pages.specs.Pages.{is_together}

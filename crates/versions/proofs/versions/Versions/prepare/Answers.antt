@@ -1,5 +1,5 @@
 use Rattle.versions.proofs.versions.Versions.prepare.Goals as goal
-use Rattle.std.proofs.Common.{rules, ◌≡◌, ℕ, ◌-◌, length, take, drop, sym, ap, subst, ◌∙◌, refl, false, true, arith}
+use Rattle.std.proofs.Common.{rules, ◌≡◌, ◌-◌, length, take, drop, sym, ap, subst, ◌∙◌, refl, false, true, arith}
 use Rattle.std.proofs.lemmas.Bool.{both_ways}
 use Rattle.std.proofs.lemmas.List.{take_rest}
 use Rattle.std.specs.List.{AllByRecursion}
@@ -29,7 +29,8 @@ loop-i-preserved c =
     let inv = c.loop-i.invariant in
     let roomier = roomier-trans c.args.self.now.chains c.loop-i.self.chains c.make_room.new.self.chains inv.roomier e.chains in
     let prepared = preparing c.args.writes.now c.loop-i.i c.index-writes-i.result c.lend_key.result.bytes.now
-    c.loop-i.self.chains c.make_room.new.self.chains c.loop-i.self.pages c.make_room.new.self.pages (take (length c.args.writes.now - c.loop-i.i) (drop c.loop-i.i c.args.writes.now))
+    c.loop-i.self.chains c.make_room.new.self.chains c.loop-i.self.pages c.make_room.new.self.pages
+    (take (length c.args.writes.now - c.loop-i.i) (drop c.loop-i.i c.args.writes.now))
     (omega arith) c.index-writes-i.is c.lend_key.ensures (take_rest c.args.writes.now c.loop-i.i) e.chains e.rooms e.apart c.loop-i.invariant.prepared
     c.in_ok-make_room.ensures.room c.in_ok-make_room.ensures.place in
     let apart = λ (j k : Bytes) (t : is_together j k c.make_room.new.self.pages ≡ true). inv.apart j k (e.apart j k t) in
@@ -74,7 +75,8 @@ returns-in_err-make_room-clause-known c = λ p.
     let es = c.args.self.now.chains in
     let fs = c.loop-i.self.chains in
     let more = c.loop-i.invariant.roomier in
-    let at = placed-at ws c.loop-i.i c.index-writes-i.result k es fs c.args.self.now.pages c.loop-i.self.pages (take (length ws - c.loop-i.i) (drop c.loop-i.i ws))
+    let at = placed-at ws c.loop-i.i c.index-writes-i.result k es fs c.args.self.now.pages c.loop-i.self.pages
+    (take (length ws - c.loop-i.i) (drop c.loop-i.i ws))
     (omega arith) c.index-writes-i.is c.lend_key.ensures (take_rest ws c.loop-i.i) more c.loop-i.invariant.pages c.loop-i.invariant.apart p.chains p.places in
     absurd (both_ways false refl (c.in_err-make_room.ensures.known at.0 at.1))
 
