@@ -1,9 +1,10 @@
 -- What making room does to pages.
-use Rattle.std.specs.Prelude.{◌≡◌, ◌≤◌, ◌<◌, ◌+◌, ◌-◌, ℕ, List, [], length}
+use Rattle.std.specs.Prelude.{◌≡◌, ◌≤◌, ◌<◌, ◌+◌, ◌-◌, ℕ, false, List, [], length}
 use Rattle.std.specs.Vec.{vec_capacity}
 use Rattle.std.specs.declared.vec.Vec.{Vec}
 use Rattle.model.specs.Map.{Bytes}
-use Rattle.sorted_pages.specs.Pages.{IsHalved, IsInOrder, IsPageWanted, IsRoomier, Page, StaysTight}
+use Rattle.sorted_pages.specs.Pages.{IsHalved, IsInOrder, IsPageWanted, IsRoomier, Page, StaysTight, is_together}
+use Rattle.sorted_pages.specs.Pages.{room_at}
 use Rattle.sorted_pages.specs.declared.page.TheConstants.{STEP}
 
 -- the vector is empty, and has places for n
@@ -33,3 +34,10 @@ pub record SplitsPage {X : Type 0} (k : Bytes) (old new : List (Page X)) : Type 
 pub record MakesOnePage {X : Type 0} (k : Bytes) (n : ℕ) (old new : List (Page X)) : Type 0 where
   pub one : length new ≤ length old + 1
   pub wanted : length old < length new → IsPageWanted k n old
+
+-- An entry more stands at k: keys of its page have room for one less, all others for as many, and keys stand in one page
+-- where they did.
+pub record TakesPlace {X : Type 0} (k : Bytes) (old new : List (Page X)) : Type 0 where
+  pub rooms : (q : Bytes) → room_at q old ≤ room_at q new + 1
+  pub others : (q : Bytes) → is_together k q old ≡ false → room_at q new ≡ room_at q old
+  pub together : (i j : Bytes) → is_together i j new ≡ is_together i j old

@@ -1,13 +1,13 @@
 //! Makes room for new entries, splits pages that would grow too large, and adds entries.
-ghost use Rattle.std.specs.Prelude.{◌≡◌, ◌+◌, ◌<◌, ◌≤◌, T, true, false, [], ◌∷◌, ◌++◌, length, is_ok, IsOk, OnOk};
+ghost use Rattle.std.specs.Prelude.{◌≡◌, ◌+◌, ◌<◌, ◌≤◌, T, true, [], ◌∷◌, ◌++◌, length, is_ok, IsOk, OnOk};
 ghost use Rattle.std.specs.Ordering.{nat_cmp};
 ghost use Rattle.std.specs.Cmp.Lexicographic.{slice_cmp};
 ghost use Rattle.std.specs.FinMap.Entries.{put, is_sorted};
 ghost use Rattle.std.specs.Vec.{vec_len};
 ghost use Rattle.model.specs.Map.{Bytes};
 ghost use Rattle.sorted_pages.specs.Pages.{AreAllFull, AreFull, AreLoose, IsCrowded, IsInOrder, IsInsertionPoint};
-ghost use Rattle.sorted_pages.specs.Pages.{StaysTight, count_at, entries, is_together, pushed, room_at};
-ghost use Rattle.sorted_pages.specs.Rooms.{MakesOnePage, MakesRoom, SplitsPage};
+ghost use Rattle.sorted_pages.specs.Pages.{StaysTight, count_at, entries, pushed, room_at};
+ghost use Rattle.sorted_pages.specs.Rooms.{MakesOnePage, MakesRoom, SplitsPage, TakesPlace};
 
 use crate::aging::Aging;
 use crate::insertion_point::InsertionPoint;
@@ -32,9 +32,7 @@ pub(crate) fn insert<V: Aging>(pages: &mut [Page<V>], at: InsertionPoint, key: K
     requires room { 0 < room_at key pages.old }
     ensures order { IsInOrder pages.new }
     ensures entries { entries pages.new ≡ put (slice_cmp nat_cmp) key value (entries pages.old) }
-    ensures rooms { (q : Bytes) → room_at q pages.old ≤ room_at q pages.new + 1 }
-    ensures others { (q : Bytes) → is_together key q pages.old ≡ false → room_at q pages.new ≡ room_at q pages.old }
-    ensures together { (j k : Bytes) → is_together j k pages.new ≡ is_together j k pages.old }
+    ensures place { TakesPlace key pages.old pages.new }
     ensures tight { StaysTight 0 pages.old pages.new }
 {
     pages[at.page].insert(at.entry, key, value);

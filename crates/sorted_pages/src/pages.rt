@@ -1,5 +1,5 @@
 //! The map: look-ups, ranges, room for new keys, and new keys.
-ghost use Rattle.std.specs.Prelude.{◌≡◌, ◌+◌, ◌<◌, ◌≤◌, T, false, [], ◌∷◌, ◌++◌, length, option_copied, is_ok, IsOk};
+ghost use Rattle.std.specs.Prelude.{◌≡◌, ◌+◌, ◌<◌, ◌≤◌, T, [], ◌∷◌, ◌++◌, length, option_copied, is_ok, IsOk};
 ghost use Rattle.std.specs.Prelude.{OnOk};
 ghost use Rattle.std.specs.Ordering.{nat_cmp};
 ghost use Rattle.std.specs.Cmp.Lexicographic.{slice_cmp};
@@ -8,7 +8,7 @@ ghost use Rattle.model.specs.Map.{Bytes};
 ghost use Rattle.sorted_pages.specs.Pages.{AreFull, AreLoose, IsCrowded, StaysTight, entries, places_in, pushed};
 ghost use Rattle.sorted_pages.specs.Pages.{IsInsertionPoint, is_together, room_at};
 ghost use Rattle.sorted_pages.specs.declared.changing.TheConstants.{FILL_PLACES};
-ghost use Rattle.sorted_pages.specs.Rooms.{MakesOnePage, MakesRoom, SplitsPage};
+ghost use Rattle.sorted_pages.specs.Rooms.{MakesOnePage, MakesRoom, SplitsPage, TakesPlace};
 
 use crate::aging::Aging;
 use crate::changing::{self, look_again};
@@ -184,9 +184,7 @@ impl<V: Aging + Drop> SortedPages<V> {
         requires point { IsInsertionPoint self.old key at.page at.entry }
         requires room { 0 < room_at key self.old }
         ensures entries { entries self.new ≡ put (slice_cmp nat_cmp) key value (entries self.old) }
-        ensures rooms { (q : Bytes) → room_at q self.old ≤ room_at q self.new + 1 }
-        ensures others { (q : Bytes) → is_together key q self.old ≡ false → room_at q self.new ≡ room_at q self.old }
-        ensures together { (j k : Bytes) → is_together j k self.new ≡ is_together j k self.old }
+        ensures place { TakesPlace key self.old self.new }
         ensures tight { StaysTight 0 self.old self.new }
     {
         changing::insert(&mut self.pages, at, key, value);

@@ -27,6 +27,11 @@ abbrev pub places_taken : Option ChainValue → Bytes → Bytes → List (Page C
 places_taken None k q ps = if is_together k q ps then 1 else 0
 places_taken (Some c) k q ps = 0
 
+-- the room that a new version at k takes, where this chain was found, and that keys stand in one page where they did
+pub record TakesRoom (found : Option ChainValue) (k : Bytes) (old new : List (Page ChainValue)) : Type 0 where
+  pub rooms : (q : Bytes) → room_at q old ≤ room_at q new + places_taken found k q old
+  pub together : (i j : Bytes) → is_together i j new ≡ is_together i j old
+
 -- each of the writes can be added without memory, in the chain of its key or where that would stand
 pub record HaveRoom (pages : List (Page ChainValue)) (chains : Chains) (ws : List KeyWrite) : Type 0 where
   pub rooms : AllByRecursion (λ w. ChainHasRoom (find_chain w.0 chains)) ws

@@ -5,11 +5,11 @@ ghost use Rattle.std.specs.Cmp.Lexicographic.{slice_cmp};
 ghost use Rattle.std.specs.FinMap.Entries.{is_sorted};
 ghost use Rattle.std.specs.Vec.{vec_len, vec_capacity};
 ghost use Rattle.model.specs.Map.{Bytes};
-ghost use Rattle.sorted_pages.specs.Pages.{AreApart, IsInsertionPoint, entries, is_together, room_at};
+ghost use Rattle.sorted_pages.specs.Pages.{AreApart, IsInsertionPoint, entries, room_at};
 ghost use Rattle.versions.specs.Chains.{HasPlaceAt, ChainHasRoom, IsAddedAt, IsKept, CanAddVersion, AreRoomier};
 ghost use Rattle.versions.specs.Chains.{WhereRoom, count_together, find_chain, stamped};
 ghost use Rattle.versions.specs.Listings.{followed};
-ghost use Rattle.versions.specs.Installing.{AddsWrites, HaveRoom, ListsFollowed, ListsMore, places_taken};
+ghost use Rattle.versions.specs.Installing.{AddsWrites, HaveRoom, ListsFollowed, ListsMore, TakesRoom};
 
 use crate::chain::Chain;
 use crate::listing::OldVersion;
@@ -86,9 +86,7 @@ fn add(chains: &mut SortedPages<Chain>, listed: &mut Vec<OldVersion>, n: u64, wr
     requires place { HasPlaceAt 1 write.0 chains.old (entries chains.old) }
     requires listed_spare { 1 ≤ vec_capacity listed.old - vec_len listed.old }
     ensures chains { IsAddedAt write.0 (stamped n write.1) (entries chains.old) (entries chains.new) }
-    ensures rooms { (q : Bytes) → room_at q chains.old
-        ≤ room_at q chains.new + places_taken (find_chain write.0 (entries chains.old)) write.0 q chains.old }
-    ensures together { (j k : Bytes) → is_together j k chains.new ≡ is_together j k chains.old }
+    ensures places { TakesRoom (find_chain write.0 (entries chains.old)) write.0 chains.old chains.new }
     ensures listed { ListsMore listed.old listed.new (followed (find_chain write.0 (entries chains.old)) write.0 n) }
 {
     let (key, value) = write.into_parts();

@@ -31,8 +31,6 @@ returns g c =
     record {
       order = all.order;
       entries = all.entries;
-      rooms = all.rooms;
-      others = all.others;
-      together = all.together;
+      place = record { rooms = all.rooms; others = all.others; together = all.together };
       tight = tight-set 0 ps i (get_or ps i c.index-pages-at.result) c.insert.new.self here (omega arith);
     }

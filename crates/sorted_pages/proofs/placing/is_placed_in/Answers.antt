@@ -1,5 +1,6 @@
 use Rattle.sorted_pages.proofs.placing.is_placed_in.Goals as goal
-use Rattle.sorted_pages.proofs.placing.is_placed_in.Goals.{else-i-ne0-via-then-i-ne0+else-not-starts_by, else-i-ne0-via-else-i-ne0}
+use Rattle.sorted_pages.proofs.placing.is_placed_in.Goals.{else-i-ne0-via-then-i-ne0+else-not-starts_by}
+use Rattle.sorted_pages.proofs.placing.is_placed_in.Goals.{else-i-ne0-via-else-i-ne0}
 use Rattle.std.proofs.Common.{◌≡◌, ◌<◌, true, not, sym, ap, ◌∙◌, arith}
 use Rattle.model.specs.Map.{Bytes}
 use Rattle.sorted_pages.proofs.Placings.{page_is, placed_by_next, together_at}

@@ -14,4 +14,4 @@ pub loop-write-preserved : goal.loop-write-preserved
 loop-write-preserved c =
     installing-step c.args.n (entries c.args.chains.now) (entries c.loop-write.chains) (entries c.add.new.chains) _ _ _ _ _ _ _ _ _ c.in-Some.write
     c.add.ensures.chains.0 c.in-Some.ensures.steps.0 c.loop-write.invariant
-    c.add.ensures.chains.1 c.add.ensures.rooms c.add.ensures.together c.add.ensures.listed.items c.add.ensures.listed.room
+    c.add.ensures.chains.1 c.add.ensures.places.rooms c.add.ensures.places.together c.add.ensures.listed.items c.add.ensures.listed.room
