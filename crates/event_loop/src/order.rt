@@ -115,8 +115,8 @@ fn key_behind(last: usize, places: usize) -> usize
     }
 }
 
-// Of those of a kind that wait, the key of the first behind this one, round the table; where none waits, this one still.
-fn first_behind<D: Sectors>(
+// The key of the next in turn: of those of a kind that wait, the first behind this one, round the table; where none waits, this one still.
+fn next_in_turn<D: Sectors>(
     hub: &Hub<D>,
     table: &Slab<Entry<BufferedStream<Socket>>>,
     kind: Kind,
@@ -146,7 +146,7 @@ pub(crate) fn next_turns<D: Sectors>(
     ensures next { AreNext hub.now (slot_at table.now.slots) last result }
     ensures places { (result.next < SESSIONS_MAX) × (result.beside < SESSIONS_MAX) }
 {
-    let next = first_behind(hub, table, Kind::Any, last.next);
+    let next = next_in_turn(hub, table, Kind::Any, last.next);
     let kind = if writes_at(hub, table, next) {
         Kind::Reader
     } else {
@@ -155,7 +155,7 @@ pub(crate) fn next_turns<D: Sectors>(
     Turns {
         next,
         kind,
-        beside: first_behind(hub, table, kind, last.beside),
+        beside: next_in_turn(hub, table, kind, last.beside),
     }
 }
 

@@ -1,4 +1,4 @@
-use Rattle.event_loop.proofs.order.first_behind.Given as goal
+use Rattle.event_loop.proofs.order.next_in_turn.Given as goal
 use Rattle.event_loop.proofs.Ordering.{NoneWithin}
 use Rattle.event_loop.specs.Order.{waits_as}
 use Rattle.event_loop.specs.Tables.{slot_at}
