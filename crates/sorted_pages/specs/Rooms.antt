@@ -35,8 +35,8 @@ pub record MakesOnePage {X : Type 0} (k : Bytes) (n : ℕ) (old new : List (Page
   pub one : length new ≤ length old + 1
   pub wanted : length old < length new → IsPageWanted k n old
 
--- An entry more stands at k: keys of its page have room for one less, all others for as many, and keys stand in one page
--- where they did.
+-- An entry more stands at k: keys of its page have room for one less, all others for as many, and keys stand in one
+-- page where they did.
 pub record TakesPlace {X : Type 0} (k : Bytes) (old new : List (Page X)) : Type 0 where
   pub rooms : (q : Bytes) → room_at q old ≤ room_at q new + 1
   pub others : (q : Bytes) → is_together k q old ≡ false → room_at q new ≡ room_at q old
