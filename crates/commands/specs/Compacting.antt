@@ -20,7 +20,7 @@ use Rattle.commands.specs.Notices.{copying_line}
 use Rattle.commands.specs.Printing.{IsReportedAs, EndsAs}
 use Rattle.commands.specs.declared.faults.Fault.{Fault}
 use Rattle.commands.specs.declared.faults.Fault.TheVariants.{File, LogFull}
-use Rattle.commands.specs.declared.system.Around.{Around}
+use Rattle.commands.specs.declared.system.Environment.{Environment}
 use Rattle.commands.specs.declared.system.DataFiles.{Ghosts as DataFiles}
 use Rattle.commands.specs.declared.system.Lines.{Ghosts as Lines}
 
@@ -92,7 +92,7 @@ pub data ReadsFile {F D : Type 0} (g : Ghosts D) (files : DataFiles F D) (name :
 -- written, and closed. The first of these that fails ends it, with its fault, and nothing but closing is done behind
 -- it.
 pub data Compacting {F P D O E : Type 0} (g : Ghosts D) (files : DataFiles F D) (out : Lines O) (err : Lines E)
-    (from to : List ℕ) (asked : Option ℕ) (old : Around F P O E) : Result (Unit {0}) Fault → Around F P O E
+    (from to : List ℕ) (asked : Option ℕ) (old : Environment F P O E) : Result (Unit {0}) Fault → Environment F P O E
     → Type 0 where
   NotRead : (fault : Fault) (read : F) → ReadsFile g files from old.files (Err fault) read
       → Compacting g files out err from to asked old (Err fault) (record old { files = read })

@@ -15,7 +15,7 @@ use Rattle.commands.specs.Making.{Creating}
 use Rattle.commands.specs.Serving.{EndsServing}
 use Rattle.commands.specs.declared.endings.Reported.{Reported}
 use Rattle.commands.specs.declared.faults.Fault.{Fault}
-use Rattle.commands.specs.declared.system.Around.{Around}
+use Rattle.commands.specs.declared.system.Environment.{Environment}
 use Rattle.commands.specs.declared.system.DataFiles.{Ghosts as DataFiles}
 use Rattle.commands.specs.declared.system.Lines.{Ghosts as Lines}
 use Rattle.commands.specs.declared.system.Ports.{Ghosts as Ports}
@@ -31,7 +31,7 @@ module _ {F P S O E D V : Type 0} {g : Ghosts D} (files : DataFiles F D) (ports 
     (server : Turns V (Hub D g)) where
   module _ (player : Scripts S O) (out : Lines O) (err : Lines E) where
     -- what was asked for is done, and nothing else is called
-    abbrev pub Does : S → Around F P O E → Asked → Result (Unit {0}) Fault → Around F P O E → Type 0
+    abbrev pub Does : S → Environment F P O E → Asked → Result (Unit {0}) Fault → Environment F P O E → Type 0
     Does scripts old (Create name sectors) ended new =
         Creating g files name.now sectors old.files ended new.files × (new ≡ record old { files = new.files })
     Does scripts old (Serve name listen) ended new =
@@ -47,18 +47,18 @@ module _ {F P S O E D V : Type 0} {g : Ghosts D} (files : DataFiles F D) (ports 
         × (new ≡ record old { out = new.out })
 
     -- how a command line ended: what was asked for was done, if its words ask for a command, and the ending is reported
-    abbrev pub EndsLine : S → Around F P O E → Result Asked Refusal → Reported → Around F P O E → Type 0
+    abbrev pub EndsLine : S → Environment F P O E → Result Asked Refusal → Reported → Environment F P O E → Type 0
     EndsLine scripts old (Err refusal) reported new =
         ReportsEnding out.writes err.writes (of_refusal refusal) old.out old.err reported new.out new.err
         × (new ≡ record old { out = new.out; err = new.err })
     EndsLine scripts old (Ok asked) reported new =
-        (ended : Result (Unit {0}) Fault) × (done : Around F P O E) × Does scripts old asked ended done
+        (ended : Result (Unit {0}) Fault) × (done : Environment F P O E) × Does scripts old asked ended done
         × ReportsEnding out.writes err.writes (of_outcome ended) done.out done.err reported new.out new.err
         × (new ≡ record done { out = new.out; err = new.err })
 
     -- A command line is run: the words say what is asked, and the status is that of the ending.
-    abbrev pub RunsAsked : {W : Type 0} → (W → Result Asked Refusal → Type 0) → W → S → Around F P O E → ℕ
-        → Around F P O E → Type 0
+    abbrev pub RunsAsked : {W : Type 0} → (W → Result Asked Refusal → Type 0) → W → S → Environment F P O E → ℕ
+        → Environment F P O E → Type 0
     RunsAsked asks words scripts old status new =
         (asked : Result Asked Refusal) × (reported : Reported) × asks words asked
         × EndsLine scripts old asked reported new

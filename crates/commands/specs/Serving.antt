@@ -15,7 +15,7 @@ use Rattle.commands.specs.Notices.{listening_line, stopped_line}
 use Rattle.commands.specs.Printing.{IsReportedAs, Prints}
 use Rattle.commands.specs.declared.faults.Fault.{Fault}
 use Rattle.commands.specs.declared.faults.Fault.TheVariants.{File, Listen, Poll}
-use Rattle.commands.specs.declared.system.Around.{Around}
+use Rattle.commands.specs.declared.system.Environment.{Environment}
 use Rattle.commands.specs.declared.system.DataFiles.{Ghosts as DataFiles}
 use Rattle.commands.specs.declared.system.Lines.{Ghosts as Lines}
 use Rattle.commands.specs.declared.system.Ports.{Ghosts as Ports}
@@ -113,8 +113,8 @@ pub data RunsServer {V H O E : Type 0} (server : Turns V H) (out : Lines O) (err
 -- Serving: a file is opened and an address listened at, the server runs, and once that has ended, the hub is taken back
 -- and the file closed as the hub left it. Nothing is done behind it.
 pub data EndsServing {F P D V O E : Type 0} {g : Ghosts D} (files : DataFiles F D) (ports : Ports P (Hub D g) V)
-    (server : Turns V (Hub D g)) (out : Lines O) (err : Lines E) (name listen : List ℕ) (old : Around F P O E)
-    : Result (Unit {0}) Fault → Around F P O E → Type 0 where
+    (server : Turns V (Hub D g)) (out : Lines O) (err : Lines E) (name listen : List ℕ) (old : Environment F P O E)
+    : Result (Unit {0}) Fault → Environment F P O E → Type 0 where
   NotOpened : (fault : Fault) (opened : F) (listened : P)
       → Opening files ports.listens name listen old.files old.ports (Err fault) opened listened
       → EndsServing files ports server out err name listen old (Err fault)

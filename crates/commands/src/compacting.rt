@@ -10,7 +10,7 @@ ghost use Rattle.commands.specs.Notices.{copying_line};
 
 use crate::data::{LogCounts, print_counts};
 use crate::faults::Fault;
-use crate::system::{Around, DataFiles, Lines};
+use crate::system::{DataFiles, Environment, Lines};
 use commit_log::{LogFault, copy_into, copy_sectors, read_map};
 use model::Map;
 use sector::Sectors;
@@ -31,23 +31,23 @@ use std::{io, mem};
 pub fn compact<C: Clock, F: DataFiles, P, O: Lines, E: Lines>(
     clock: &C,
     alloc: Global,
-    around: &mut Around<F, P, O, E>,
+    environment: &mut Environment<F, P, O, E>,
     from: &str,
     to: &str,
     sectors: Option<u64>,
 ) -> Result<(), Fault>
-    ensures { Compacting F.Device.Sectors F.DataFiles O.Lines E.Lines from.now to.now sectors around.old result
-        around.new }
+    ensures { Compacting F.Device.Sectors F.DataFiles O.Lines E.Lines from.now to.now sectors environment.old result
+        environment.new }
 {
     let begun = Instant::now(clock).ok();
-    let found = read_file(alloc, &mut around.files, from)?;
+    let found = read_file(alloc, &mut environment.files, from)?;
     let (map, old_count) = found;
     let needed = copy_sectors(&map);
     let count = copy_count(old_count, sectors, needed)?;
-    let mut device = around.files.create(to, count)?;
-    may_report(clock, begun, around.is_terminal, &mut around.err);
-    let copied = copy_device(alloc, &mut device, &map, &mut around.out);
-    around.files.close(device);
+    let mut device = environment.files.create(to, count)?;
+    may_report(clock, begun, environment.is_terminal, &mut environment.err);
+    let copied = copy_device(alloc, &mut device, &map, &mut environment.out);
+    environment.files.close(device);
     mem::forget(map);
     copied
 }

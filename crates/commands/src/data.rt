@@ -8,6 +8,7 @@ ghost use Rattle.commands.specs.Checking.{Checking, Checks, Counting, IfHolds, I
 ghost use Rattle.commands.specs.LogCounts.{counts_line};
 ghost use Rattle.commands.specs.Faults.{IsFromOutput, IsFromOutside, DeviceIs};
 ghost use Rattle.commands.specs.Making.{Creating};
+ghost use Rattle.commands.specs.declared.data.TheConstants.{FILE_SECTORS_MAX};
 ghost use Rattle.commit_log.specs.LogState.{HoldsLog};
 
 use crate::faults::Fault;
@@ -18,6 +19,9 @@ use sector::Sectors;
 use std::alloc::Global;
 use std::io;
 
+/// The most sectors that a data file is made with, which are 2 GiB.
+const FILE_SECTORS_MAX: u64 = 4_194_304;
+
 /// Makes a data file of so many sectors, 2 to 4,194,304, formats it, and closes it. The name must be free. Prints nothing, and calls
 /// nothing else: its contract names each call of the files, and what the file holds that is closed.
 ///
@@ -25,7 +29,7 @@ use std::io;
 /// `Device`, after which the file stays. Takes no memory.
 pub fn create<F: DataFiles>(files: &mut F, data: &str, sectors: u64) -> Result<(), Fault>
     requires at_least { 2 ≤ sectors }
-    requires at_most { sectors ≤ 4194304 }
+    requires at_most { sectors ≤ FILE_SECTORS_MAX }
     ensures faults { IfErr result IsFromOutside }
     ensures creates { Creating F.Device.Sectors F.DataFiles data.now sectors files.old result files.new }
 {

@@ -20,7 +20,7 @@ pub use running::run_command;
 pub use serving::{serve, serve_turns};
 pub use streams::{NullDevice, Opener, keep_standard};
 pub use system::{
-    Around, CommandLine, DataFiles, Lines, Ports, Scripts, SystemFiles, Turns, Unserved, Words,
+    CommandLine, DataFiles, Environment, Lines, Ports, Scripts, SystemFiles, Turns, Unserved, Words,
 };
 
 /// The status of a command that was done, or of help that was asked for.

@@ -8,7 +8,7 @@ use crate::data::{check, create};
 use crate::endings::{Ending, finish};
 use crate::faults::Fault;
 use crate::serving::serve;
-use crate::system::{Around, DataFiles, Lines, Ports, Scripts, Words};
+use crate::system::{DataFiles, Environment, Lines, Ports, Scripts, Words};
 use command_line::Asked;
 use sessions::Hub;
 use std::alloc::Global;
@@ -28,17 +28,27 @@ pub fn run_command<
     S: Scripts<O> + Drop,
     O: Lines,
     E: Lines,
->(clock: &C, alloc: Global, words: &W, around: &mut Around<F, P, O, E>, scripts: S) -> u8
+>(clock: &C, alloc: Global, words: &W, environment: &mut Environment<F, P, O, E>, scripts: S) -> u8
     requires { TakesOpened P.takes }
-    ensures { RunsAsked F.DataFiles P.Ports P.Server.Turns S.Scripts O.Lines E.Lines W.asks words.now scripts around.old
-        result around.new }
+    ensures { RunsAsked F.DataFiles P.Ports P.Server.Turns S.Scripts O.Lines E.Lines W.asks words.now scripts
+        environment.old result environment.new }
 {
     match words.asked(alloc) {
         Ok(asked) => {
-            let done = execute(clock, alloc, asked, around, scripts);
-            finish(&Ending::from(done), &mut around.out, &mut around.err).status
+            let done = execute(clock, alloc, asked, environment, scripts);
+            finish(
+                &Ending::from(done),
+                &mut environment.out,
+                &mut environment.err,
+            )
+            .status
         }
-        Err(refusal) => finish(&Ending::from(refusal), &mut around.out, &mut around.err).status,
+        Err(refusal) => finish(
+            &Ending::from(refusal),
+            &mut environment.out,
+            &mut environment.err,
+        )
+        .status,
     }
 }
 
@@ -54,21 +64,28 @@ fn execute<
     clock: &C,
     alloc: Global,
     asked: Asked<'_>,
-    around: &mut Around<F, P, O, E>,
+    environment: &mut Environment<F, P, O, E>,
     scripts: S,
 ) -> Result<(), Fault>
     requires opened { TakesOpened P.takes }
     requires range { IsInRange asked }
-    ensures { Does F.DataFiles P.Ports P.Server.Turns S.Scripts O.Lines E.Lines scripts around.old asked.entry result
-        around.new }
+    ensures { Does F.DataFiles P.Ports P.Server.Turns S.Scripts O.Lines E.Lines scripts environment.old asked.entry
+        result environment.new }
 {
     match asked {
-        Asked::Create { data, sectors } => create(&mut around.files, data, sectors),
-        Asked::Serve { data, listen } => serve(alloc, around, data, listen),
-        Asked::Check { data } => check(alloc, &mut around.files, data, &mut around.out),
-        Asked::Compact { from, to, sectors } => compact(clock, alloc, around, from, to, sectors),
+        Asked::Create { data, sectors } => create(&mut environment.files, data, sectors),
+        Asked::Serve { data, listen } => serve(alloc, environment, data, listen),
+        Asked::Check { data } => check(alloc, &mut environment.files, data, &mut environment.out),
+        Asked::Compact { from, to, sectors } => compact(
+            clock,
+            alloc,
+            environment,
+            from,
+            to,
+            sectors,
+        ),
         Asked::Play { sectors } => scripts
-            .play(alloc, sectors, &mut around.out)
+            .play(alloc, sectors, &mut environment.out)
             .map_err(Fault::from),
     }
 }

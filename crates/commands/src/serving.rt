@@ -4,7 +4,7 @@ ghost use Rattle.commands.specs.Printing.{Prints};
 ghost use Rattle.commands.specs.Serving.{EndsServing, EndsTurns, Opening, ReportsStop, RunsServer, TakesOpened};
 
 use crate::faults::{Fault, or_memory};
-use crate::system::{Around, DataFiles, Lines, Ports, Turns};
+use crate::system::{DataFiles, Environment, Lines, Ports, Turns};
 use sessions::Hub;
 use std::alloc::Global;
 use std::io;
@@ -19,17 +19,28 @@ use std::net::SocketAddr;
 /// It takes the memory of the log's map and of the sessions and their requests.
 pub fn serve<F: DataFiles, P: Ports<Hub<F::Device>>, O: Lines, E: Lines>(
     alloc: Global,
-    around: &mut Around<F, P, O, E>,
+    environment: &mut Environment<F, P, O, E>,
     data: &str,
     listen: &str,
 ) -> Result<(), Fault>
     requires { TakesOpened P.takes }
-    ensures { EndsServing F.DataFiles P.Ports P.Server.Turns O.Lines E.Lines data.now listen.now around.old result
-        around.new }
+    ensures { EndsServing F.DataFiles P.Ports P.Server.Turns O.Lines E.Lines data.now listen.now environment.old result
+        environment.new }
 {
-    let mut server = open(alloc, &mut around.files, &mut around.ports, data, listen)?;
-    let served = run_server(alloc, &mut server, &mut around.out, &mut around.err);
-    around.files.close(server.into_hub().into_device());
+    let mut server = open(
+        alloc,
+        &mut environment.files,
+        &mut environment.ports,
+        data,
+        listen,
+    )?;
+    let served = run_server(
+        alloc,
+        &mut server,
+        &mut environment.out,
+        &mut environment.err,
+    );
+    environment.files.close(server.into_hub().into_device());
     served
 }
 

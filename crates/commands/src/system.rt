@@ -152,15 +152,16 @@ pub trait Ports<H> {
 pub trait Scripts<O> {
     ghost use Rattle.std.specs.Prelude.{⊤, ◌≤◌, ℕ, Result};
     ghost use Rattle.scripts.specs.declared.faults.ScriptFault.{ScriptFault};
+    ghost use Rattle.scripts.specs.declared.playing.TheConstants.{MEMORY_SECTORS_MAX};
 
     /// `plays script sectors out result after`: one call of `play`, with the output before and after it.
     ghost plays: { Self → ℕ → O → Result (Unit {0}) ScriptFault → O → Type 0 } = { λ _ _ _ _ _. ⊤ };
 
-    /// Plays a script over a device in memory of so many sectors.
+    /// Plays a script over a device in memory of so many sectors, `MEMORY_SECTORS_MAX` at most.
     fn play(self, alloc: Global, sectors: u64, out: &mut O) -> Result<(), ScriptFault>
     where
         Self: Sized,
-        requires { sectors ≤ 65536 }
+        requires { sectors ≤ MEMORY_SECTORS_MAX }
         ensures { plays self sectors out.old result out.new };
 }
 
@@ -179,7 +180,7 @@ pub trait Lines {
 
 /// What a command calls: files, ports, the output and the error output.
 #[derive(Drop)]
-pub struct Around<F, P, O, E> {
+pub struct Environment<F, P, O, E> {
     /// What opens and makes data files.
     pub files: F,
     /// What listens at addresses.

@@ -9,4 +9,4 @@ mod lines;
 mod playing;
 
 pub use faults::ScriptFault;
-pub use playing::play;
+pub use playing::{MEMORY_SECTORS_MAX, play};

@@ -6,6 +6,7 @@ ghost use Rattle.scripts.specs.Faults.{IsFromReading, IsOpening};
 ghost use Rattle.scripts.specs.Transcript.{opening, place_of, received, PlaysKnown};
 ghost use Rattle.scripts.specs.Calls.{IsAtScene, AtScene, LooksUp, ReadsNext, ServesOrNot, WritesOrFails, RunsText};
 ghost use Rattle.scripts.specs.Calls.{RunsLine};
+ghost use Rattle.scripts.specs.declared.playing.TheConstants.{MEMORY_SECTORS_MAX};
 
 use crate::faults::ScriptFault;
 use crate::lines::{Line, write_reply};
@@ -15,6 +16,9 @@ use sector::{MemSectors, Sectors};
 use sessions::{Event, Hub, Outcome, SESSIONS_MAX, Status};
 use std::alloc::Global;
 use std::io::{BufRead, BufReader, ErrorKind, Read, Write};
+
+/// The most sectors that the device in memory of a script has, which are 32 MiB.
+pub const MEMORY_SECTORS_MAX: u64 = 65_536;
 
 /// Runs the lines of a reader over a formatted device in memory, which has so many sectors, and prints each reply.
 ///
@@ -31,7 +35,7 @@ pub fn play<R: Read + Drop, O: Write>(
     reader: R,
     out: &mut O,
 ) -> Result<(), ScriptFault>
-    requires { sectors ≤ 65536 }
+    requires { sectors ≤ MEMORY_SECTORS_MAX }
     ensures { PlaysKnown (opening sectors) (R.remaining reader) result (O.contents out.old) (O.contents out.new) }
 {
     let mut script = open(alloc, sectors)?;

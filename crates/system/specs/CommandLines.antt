@@ -5,7 +5,7 @@ use Rattle.sector.specs.declared.device.Sectors.{Ghosts}
 use Rattle.sessions.specs.declared.hub.Hub.{Hub}
 use Rattle.commands.specs.Running.{RunsAsked}
 use Rattle.commands.specs.Words.{AnswersTo}
-use Rattle.commands.specs.declared.system.Around.{Around}
+use Rattle.commands.specs.declared.system.Environment.{Environment}
 use Rattle.commands.specs.declared.system.DataFiles.{Ghosts as DataFiles}
 use Rattle.commands.specs.declared.system.Lines.{Ghosts as Lines}
 use Rattle.commands.specs.declared.system.Ports.{Ghosts as Ports}
@@ -18,6 +18,6 @@ module _ {F P S O E D V : Type 0} {g : Ghosts D} (files : DataFiles F D) (ports 
     -- what the words ask for is done, the outputs were these before, and the status is that of the ending
     abbrev pub RunsWords : List (Bor (List ℕ)) → S → O → E → ℕ → Type 0
     RunsWords words reader o e status =
-        (old : Around F P (MutBor O) (MutBor E)) × (new : Around F P (MutBor O) (MutBor E))
+        (old : Environment F P (MutBor O) (MutBor E)) × (new : Environment F P (MutBor O) (MutBor E))
         × RunsAsked files ports server player out err AnswersTo (map (λ word. word.now) words) reader old status new
         × (old.out.now ≡ o) × (old.err.now ≡ e)

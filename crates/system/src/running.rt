@@ -3,7 +3,7 @@ ghost use Rattle.system.specs.CommandLines.{RunsWords};
 
 use crate::ports::{SystemPorts, SystemServer};
 use commands::{
-    Around, CommandLine, DataFiles, Lines, Ports, Scripts, SystemFiles, Turns, run_command,
+    CommandLine, DataFiles, Environment, Lines, Ports, Scripts, SystemFiles, Turns, run_command,
 };
 use sector::FileSectors;
 use sessions::Hub;
@@ -47,12 +47,18 @@ pub fn run_watched<'a, R: Files<File = File> + Net + Clock, I: Read + Drop, O: W
         ⟦<SystemServer as Turns>⟧ ⟦<I as Scripts<&'a mut O>>⟧ ⟦<&'a mut O as Lines>⟧ ⟦<&'a mut E as Lines>⟧ words.now
         reader out.old err.old result }
 {
-    let mut around = Around {
+    let mut environment = Environment {
         files: SystemFiles::new(rt),
         ports: SystemPorts::new(rt),
         out,
         err,
         is_terminal,
     };
-    run_command(rt, alloc, &CommandLine::new(words), &mut around, reader)
+    run_command(
+        rt,
+        alloc,
+        &CommandLine::new(words),
+        &mut environment,
+        reader,
+    )
 }

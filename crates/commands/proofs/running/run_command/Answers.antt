@@ -9,9 +9,10 @@ returns-in-Ok g c = (
   c.in-Ok.ensures.asks,
   (
     c.execute-done.result,
-    c.execute-done.new.around,
+    c.execute-done.new.environment,
     c.execute-done.ensures,
-    subst (λ e. ReportsEnding g.O.Lines.writes g.E.Lines.writes e c.execute-done.new.around.out c.execute-done.new.around.err c.finish.result c.finish.new.out
+    subst (λ e. ReportsEnding g.O.Lines.writes g.E.Lines.writes e c.execute-done.new.environment.out c.execute-done.new.environment.err c.finish.result
+        c.finish.new.out
         c.finish.new.err) c.from.ensures c.finish.ensures,
     refl,
   ),
