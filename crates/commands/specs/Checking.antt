@@ -13,7 +13,7 @@ use Rattle.commit_log.specs.declared.formats.LogFormat.{LogFormat}
 use Rattle.commit_log.specs.declared.formats.LogFormat.TheVariants.{One}
 use Rattle.commands.specs.Faults.{of_log, IsFromDevice, IsFromOutside}
 use Rattle.commands.specs.LogCounts.{counts_of, counts_line, log_line}
-use Rattle.commands.specs.Printing.{IsReportedAs, EndsAs}
+use Rattle.commands.specs.Printing.{IsReportedAs, ReportsPrinting}
 use Rattle.commands.specs.declared.data.LogCounts.{LogCounts}
 use Rattle.commands.specs.declared.faults.Fault.{Fault}
 use Rattle.commands.specs.declared.faults.Fault.TheVariants.{File}
@@ -63,7 +63,7 @@ pub data Checks {D O : Type 0} (g : Ghosts D) (writes : O → List ℕ → Resul
       → Checks g writes device out (Err (of_log fault)) after out
   Counted : (counts : LogCounts) (outcome : Result (Unit {0}) Error) (result : Result (Unit {0}) Fault) (after : D)
       (printed : O) → Counting g device (Ok counts) after
-      → writes out (counts_line counts) outcome printed → EndsAs outcome result
+      → writes out (counts_line counts) outcome printed → ReportsPrinting outcome result
       → Checks g writes device out result after printed
 
 -- Checking a data file: it is opened to be checked, counted, its line printed, and it is closed. Nothing else is

@@ -17,7 +17,7 @@ use Rattle.commit_log.specs.declared.faults.LogFault.TheVariants.{Full}
 use Rattle.commands.specs.Faults.{of_log}
 use Rattle.commands.specs.LogCounts.{log_line}
 use Rattle.commands.specs.Notices.{copying_line}
-use Rattle.commands.specs.Printing.{IsReportedAs, EndsAs}
+use Rattle.commands.specs.Printing.{IsReportedAs, ReportsPrinting}
 use Rattle.commands.specs.declared.faults.Fault.{Fault}
 use Rattle.commands.specs.declared.faults.Fault.TheVariants.{File, LogFull}
 use Rattle.commands.specs.declared.system.Environment.{Environment}
@@ -65,7 +65,7 @@ pub data Copies {D O : Type 0} (g : Ghosts D) (out : Lines O) (device : D) (map 
       → Copies g out device map old (Err (of_log fault)) after old
   Copied : (done : Unit {0}) (outcome : Result (Unit {0}) Error) (result : Result (Unit {0}) Fault) (after : D)
       (printed : O) → CopiesMap g device map (Ok done) after
-      → out.writes old (log_line (write_sets_of map) (g.size device)) outcome printed → EndsAs outcome result
+      → out.writes old (log_line (write_sets_of map) (g.size device)) outcome printed → ReportsPrinting outcome result
       → Copies g out device map old result after printed
 
 -- where the error output is a terminal, one line may say there that the copy is being written

@@ -13,9 +13,9 @@ IsReportedAs error fault reported =
     ((error_kind error ≡ OutOfMemory) × (reported ≡ Memory)) ⊎ ((error_kind error ≢ OutOfMemory) × (reported ≡ fault))
 
 -- an outcome of printing is the command's: an error is reported as one of a file
-abbrev pub EndsAs : Result (Unit {0}) Error → Result (Unit {0}) Fault → Type 0
-EndsAs (Ok done) result = result ≡ Ok done
-EndsAs (Err error) result = IsErrAnd result (IsReportedAs error File)
+abbrev pub ReportsPrinting : Result (Unit {0}) Error → Result (Unit {0}) Fault → Type 0
+ReportsPrinting (Ok done) result = result ≡ Ok done
+ReportsPrinting (Err error) result = IsErrAnd result (IsReportedAs error File)
 
 -- a line that takes memory to lay out is printed: it was taken, or there was no memory for it and nothing was
 abbrev pub Prints : {O : Type 0} → (O → List ℕ → Result (Unit {0}) Error → O → Type 0) → List ℕ → O

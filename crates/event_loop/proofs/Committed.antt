@@ -25,7 +25,8 @@ use Rattle.model.specs.declared.refusals.Refusal.{Refusal}
 use Rattle.sessions.proofs.FoundMapLaws.{CommitsBy, commits_in_event}
 use Rattle.sessions.proofs.FoundMapLaws.CommitsBy.{Fails, NoMore, OneMore}
 use Rattle.sessions.specs.SessionStreams.{HubState, HubEvent, Choice, Effect, Head, SessionState, SessionStream}
-use Rattle.sessions.specs.SessionStreams.{Joins, Receives, Serves, Sends, Whole, More, Bad, asks, depart, hub_step}
+use Rattle.sessions.specs.SessionStreams.{Joins, Receives, Serves, Sends, Whole, More, Bad, asks, disconnect}
+use Rattle.sessions.specs.SessionStreams.{hub_step}
 use Rattle.sessions.specs.SessionStreams.{is_open, may_serve, new_stream, receive, room, run, send, serve_choice}
 use Rattle.sessions.specs.SessionStreams.{serve_head, serve_session, stream_of, Leaves}
 use Rattle.sessions.specs.declared.events.Outcome.{Outcome}
@@ -169,7 +170,7 @@ in_step h (Sends s n) c a = elim (stream_of h s) as (λ o. stream_of h s ≡ o �
   | Some st ↦ λ e. by_if After (nat_le n (length st.now.pending)) _ _
       (All-values-set_value (is_at (nat_cmp s)) (Has h.machine.history) h.present _ a (found h s st a e)) a
 ] refl
-in_step h (Leaves s) c a = elim (stream_of h s) as (λ o. After (depart o h s)) [
+in_step h (Leaves s) c a = elim (stream_of h s) as (λ o. After (disconnect o h s)) [
   | None ↦ a
   | Some st ↦ All-map-remove_entry (is_at (nat_cmp s)) (λ e. e.1) (Has h.machine.history) h.present a
 ]

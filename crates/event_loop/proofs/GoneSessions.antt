@@ -9,11 +9,11 @@ use Rattle.model.specs.Map.{Bytes}
 use Rattle.sessions.specs.Laws.{IsSessionStream}
 use Rattle.sessions.specs.SessionStreams.{HubState, HubEvent, Choice, Joins, Leaves, Receives, Sends, Serves}
 use Rattle.sessions.specs.SessionStreams.{SessionStream}
-use Rattle.sessions.specs.SessionStreams.{depart, hub_step, is_open, receive, requests_text, room, run, send}
+use Rattle.sessions.specs.SessionStreams.{disconnect, hub_step, is_open, receive, requests_text, room, run, send}
 use Rattle.sessions.specs.SessionStreams.{serve_session, stream_of}
 use Rattle.sessions.specs.declared.events.Outcome.{Outcome}
 use Rattle.stream_driver.proofs.Carry.{one_history}
-use Rattle.stream_driver.specs.Drives.{Departs, LeavesIfGone}
+use Rattle.stream_driver.specs.Drives.{Disconnects, LeavesIfGone}
 use Rattle.stream_driver.specs.Entries.{DrivenAll, DrivenIn, DrivenSlot, entry_state_after}
 use Rattle.stream_driver.specs.Sessions.{Adds, Point}
 use Rattle.stream_driver.specs.Traffic.{IsBeginning, Traffic}
@@ -53,9 +53,9 @@ send_grows None h s n = grows_not h h refl
 send_grows (Some st) h s n =
     by_if (λ (r : HubState × Outcome). Grows h r.0) (nat_le n (length st.now.pending)) _ _ ([], sym (append-nil h.gone)) (grows_not h h refl)
 
-depart_grows : (o : Option SessionStream) (h : HubState) (s : ℕ) → Grows h (depart o h s).0
-depart_grows None h s = grows_not h h refl
-depart_grows (Some st) h s = ((s, st) ∷ [], refl)
+disconnect_grows : (o : Option SessionStream) (h : HubState) (s : ℕ) → Grows h (disconnect o h s).0
+disconnect_grows None h s = grows_not h h refl
+disconnect_grows (Some st) h s = ((s, st) ∷ [], refl)
 
 step_grows : (h : HubState) (e : HubEvent) (c : Choice) → Grows h (hub_step h e c).0
 unfolding hub_step
@@ -63,12 +63,12 @@ step_grows h (Joins s) c = join_step h s c (λ (r : HubState × Outcome). Grows 
 step_grows h (Receives s piece) c = receive_grows (stream_of h s) h s piece
 step_grows h (Serves s) c = serve_grows (stream_of h s) h s c
 step_grows h (Sends s n) c = send_grows (stream_of h s) h s n
-step_grows h (Leaves s) c = depart_grows (stream_of h s) h s
+step_grows h (Leaves s) c = disconnect_grows (stream_of h s) h s
 
 -- a session that was there is one that has left
 departed : (h : HubState) (s : ℕ) (st : SessionStream) (c : Choice) → stream_of h s ≡ Some st → Contains (hub_step h (Leaves s) c).0.gone (s, st)
 unfolding hub_step
-departed h s st c is = subst (λ (o : Option SessionStream). Contains (depart o h s).0.gone (s, st)) (sym is) (Contains-push h.gone (s, st))
+departed h s st c is = subst (λ (o : Option SessionStream). Contains (disconnect o h s).0.gone (s, st)) (sym is) (Contains-push h.gone (s, st))
 
 -- ---- any number of events
 
@@ -102,12 +102,12 @@ ends_grow s last new Gone ends = adds_grow last ((Leaves s, ends.choice) ∷ [])
 ends_grow s last new Waiting same = subst (λ (p : Point). Grows last.hub p.hub) (sym same) (grows_not last.hub last.hub refl)
 ends_grow s last new Again same = subst (λ (p : Point). Grows last.hub p.hub) (sym same) (grows_not last.hub last.hub refl)
 
-departs_if : (s : ℕ) (last new : Point) (answer : Progress) → entry_state_after answer ≡ EntryGone → LeavesIfGone s last new answer → Departs s last new
+departs_if : (s : ℕ) (last new : Point) (answer : Progress) → entry_state_after answer ≡ EntryGone → LeavesIfGone s last new answer → Disconnects s last new
 departs_if s last new Gone is ends = ends
 departs_if s last new Waiting is ends = absurd (let bad : Idle ≡ EntryGone = is in cc)
 departs_if s last new Again is ends = absurd (let bad : Ready ≡ EntryGone = is in cc)
 
-departs_left : (s : ℕ) (last new : Point) (st : SessionStream) → stream_of last.hub s ≡ Some st → Departs s last new → Contains new.hub.gone (s, st)
+departs_left : (s : ℕ) (last new : Point) (st : SessionStream) → stream_of last.hub s ≡ Some st → Disconnects s last new → Contains new.hub.gone (s, st)
 departs_left s last new st is d = subst (λ (h : HubState). Contains h.gone (s, st)) (sym d.adds.run_is) (departed last.hub s st d.choice is)
 
 module _ {T : Type 0} (reports : Type 0) (traffic : T → Traffic) where
@@ -139,7 +139,7 @@ module _ {T : Type 0} (reports : Type 0) (traffic : T → Traffic) where
       let runs = d.drove.carried.runs in
       let own = has (λ before. (let bad : Ready ≡ EntryGone = sym was ∙ before in cc)) in
       let same : own.0 ≡ runs.first = one_history own.0 runs.first (sym own.1 ∙ runs.first_is) in
-      let departs : Departs old.session d.drove.last later = departs_if old.session d.drove.last later d.answer (sym d.state ∙ gone) d.drove.ends in
+      let departs : Disconnects old.session d.drove.last later = departs_if old.session d.drove.last later d.answer (sym d.state ∙ gone) d.drove.ends in
       let received : (traffic new.stream).received ≡ runs.last.received =
       d.drove.carried.received t ∙ ap (λ (l : List ℕ). l ++ runs.history.received) ((own.2 t).0 ∙ ap (λ (x : SessionStream). x.received) same)
       ∙ sym runs.history.received_is in

@@ -35,7 +35,7 @@ use Rattle.sessions.specs.Readings.{HasOneReading, HaveOneReading, RunsHaveOneRe
 use Rattle.sessions.specs.SessionStreams.{asks, or_faulty, HubState, SessionStream, HubEvent, Joins, Receives, Serves}
 use Rattle.sessions.specs.SessionStreams.{Sends, Effect, SessionState, serve_choice, serve_head, served_with}
 use Rattle.sessions.specs.SessionStreams.{out_of_memory, no_effect, may_serve, IsChoiceFor, IsHead, receive, send}
-use Rattle.sessions.specs.SessionStreams.{depart, serve_session, join, stream_of, IsServePossible, is_above}
+use Rattle.sessions.specs.SessionStreams.{disconnect, serve_session, join, stream_of, IsServePossible, is_above}
 use Rattle.sessions.specs.SessionStreams.{new_stream, with_stream, Outcome, Leaves, Choice, IsPossible, ArePossible}
 use Rattle.sessions.specs.SessionStreams.{hub_step, run, hub_over, Head, Whole, More, Bad}
 use Rattle.sessions.specs.StandsFor.{Ghosts, Hub}
@@ -202,7 +202,7 @@ module _ (h : HubState) (w : IsFitHub h) where
   sent_fits s n None is = w
   sent_fits s n (Some st) is = grind (arith, common_steps, with_same, stream_sendable s st is)
 
-  left_fits : (s : ℕ) (o : Option SessionStream) → stream_of h s ≡ o → IsFitHub (depart o h s).0
+  left_fits : (s : ℕ) (o : Option SessionStream) → stream_of h s ≡ o → IsFitHub (disconnect o h s).0
   left_fits s None is = w
   left_fits s (Some st) is = record {
     machine = leave_fits h.machine w.machine s;

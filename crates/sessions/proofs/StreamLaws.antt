@@ -30,7 +30,8 @@ use Rattle.sessions.specs.SessionStreams.{HubEvent, Joins, Receives, Serves, Sen
 use Rattle.sessions.specs.SessionStreams.{Choice, Effect, IsHead, IsChoiceFor, IsPossible, hub_step, stream_of}
 use Rattle.sessions.specs.SessionStreams.{new_stream, is_open, may_serve, serve_choice, serve_head, out_of_memory}
 use Rattle.sessions.specs.SessionStreams.{broken_frame, served_with, no_effect, asks, replies_text, receive}
-use Rattle.sessions.specs.SessionStreams.{serve_session, send, depart, IsReachedHub, Begun, Continued, with_stream}
+use Rattle.sessions.specs.SessionStreams.{serve_session, send, disconnect, IsReachedHub, Begun, Continued}
+use Rattle.sessions.specs.SessionStreams.{with_stream}
 
 -- ---- the machine of a hub
 
@@ -313,7 +314,7 @@ invariant_step h (Sends s n) c invariant = sent (stream_of h s) refl
     sent : (o : Option SessionStream) → stream_of h s ≡ o → Invariant (send o h s n).0
     sent o is = grind (arith, common_steps, by_if, nat_le, same_session)
 invariant_step h (Leaves s) c invariant =
-    elim (stream_of h s) as (λ o. stream_of h s ≡ o → Invariant (depart o h s).0) [ None ↦ λ e. invariant | Some st ↦ λ e. parted h invariant s st e ] refl
+    elim (stream_of h s) as (λ o. stream_of h s ≡ o → Invariant (disconnect o h s).0) [ None ↦ λ e. invariant | Some st ↦ λ e. parted h invariant s st e ] refl
 
 pub always : (h : HubState) → IsReachedHub h → Invariant h
 always h (Begun m r none) = grind (arith, common_steps)

@@ -235,9 +235,9 @@ send (Some st) h s n =
     )
     else (h, BadCount)
 
-abbrev pub depart : Option SessionStream → HubState → ℕ → HubState × Outcome
-depart None h s = (h, Unknown)
-depart (Some st) h s = (
+abbrev pub disconnect : Option SessionStream → HubState → ℕ → HubState × Outcome
+disconnect None h s = (h, Unknown)
+disconnect (Some st) h s = (
   record {
     machine = leave h.machine s;
     present = remove_entry (is_at (nat_cmp s)) h.present;
@@ -253,7 +253,7 @@ hub_step h (Joins s) c = join h s c.refused
 hub_step h (Receives s piece) c = receive (stream_of h s) h s piece
 hub_step h (Serves s) c = serve_session (stream_of h s) h s c
 hub_step h (Sends s n) c = send (stream_of h s) h s n
-hub_step h (Leaves s) c = depart (stream_of h s) h s
+hub_step h (Leaves s) c = disconnect (stream_of h s) h s
 
 -- the request at the head takes memory, and the machine's reply to it would be no refusal, the device's failure aside
 abbrev pub MayWantMemory : State → ℕ → Head → Type 0

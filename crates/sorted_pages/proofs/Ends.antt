@@ -19,7 +19,7 @@ use Rattle.sorted_pages.proofs.Seen.{all-shown, below-shown, shown-append}
 use Rattle.sorted_pages.proofs.Tails.{In, from_above, none_above}
 use Rattle.sorted_pages.specs.Blanks.{shown}
 use Rattle.sorted_pages.specs.Pages.{AreBelow, HasEntry, IsInOrder, IsPlace, Page, RestHaveEntries, entries}
-use Rattle.sorted_pages.specs.Ranges.{AreFrom, EndsAs, IsLeastFrom, first_key}
+use Rattle.sorted_pages.specs.Ranges.{AreFrom, IsCutAlike, IsLeastFrom, first_key}
 
 take_whole : {Y : Type 0} (xs : List Y) (y : Y) (ys : List Y) → take (length xs + 1) (xs ++ y ∷ ys) ≡ xs ++ y ∷ []
 take_whole [] y ys = refl
@@ -93,7 +93,7 @@ module _ {X : Type 0} where
       }
 
   pub ends_as : (ps : List (Page X)) (hi : Bytes) (i : ℕ) (p : Page X) (least : Option Bytes) → IsPlace ps hi i → p ≡ get_or ps i p → IsInOrder ps
-      → IsLeastFrom p.0 hi least → EndsAs ps hi (take (i + 1) ps) least
+      → IsLeastFrom p.0 hi least → IsCutAlike ps hi (take (i + 1) ps) least
   ends_as ps hi i p least w is h t = λ hides lo.
       let qs = take (i + 1) ps in
       let before : List (Bytes × X) = entries w.before ++ t.from.before in

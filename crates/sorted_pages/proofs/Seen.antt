@@ -133,11 +133,11 @@ module _ {X : Type 0} (hides : ℕ → X → Bool) (shows : X → Bool) where
 
   -- ---- whole summaries
 
-  pub none_seen : (s : Summary) → s.live ≡ 0 → IsSummary hides shows [] s
+  pub none_seen : (s : Summary) → s.showing ≡ 0 → IsSummary hides shows [] s
   none_seen s e = record {
     before = λ n lt. tt;
     after = λ n le. tt;
-    live = sym e;
+    showing = sym e;
     gap = λ n a b. tt;
     older = record { first = λ n a b. tt; second = λ n a b. tt; third = λ n a b. tt };
   }
@@ -158,7 +158,7 @@ module _ {X : Type 0} (hides : ℕ → X → Bool) (shows : X → Bool) where
   is_rest es s i e h = subst (λ (o : Option ℕ). IsSummary hides shows (all_but o es) s) e h.rest
 
   -- the same fields but for the entry that is left out
-  same_summary : (es : List (Bytes × X)) (s t : Summary) → t.first ≡ s.first → t.last ≡ s.last → t.live ≡ s.live → t.gap ≡ s.gap → t.older ≡ s.older
+  same_summary : (es : List (Bytes × X)) (s t : Summary) → t.first ≡ s.first → t.last ≡ s.last → t.showing ≡ s.showing → t.gap ≡ s.gap → t.older ≡ s.older
       → IsSummary hides shows es s → IsSummary hides shows es t
   same_summary es s t f l v g o h = grind (arith, common_steps)
 
@@ -185,19 +185,20 @@ module _ {X : Type 0} (hides : ℕ → X → Bool) (shows : X → Bool) where
       → IsSummary hides shows (remove es i) s
       → t.first ≡ min s.first f → ((n : ℕ) → n < f → hides n e.1 ≡ true)
       → t.last ≡ max s.last l → ((n : ℕ) → l ≤ n → shows e.1 ≡ false → hides n e.1 ≡ true)
-      → t.live ≡ s.live + one e.1 → IsBeside hides shows latest e.1 s.gap t.gap → AreBeside hides shows latest e.1 s.older t.older → IsSummary hides shows es t
-  taken_in latest es s t i f l e lt is h first below last above live gap older = record {
+      → t.showing ≡ s.showing + one e.1 → IsBeside hides shows latest e.1 s.gap t.gap → AreBeside hides shows latest e.1 s.older t.older
+      → IsSummary hides shows es t
+  taken_in latest es s t i f l e lt is h first below last above showing gap older = record {
     before = λ n b. all-restored (λ (d : Bytes × X). hides n d.1 ≡ true) es i e lt is (below n (omega arith)) (h.before n (omega arith));
     after = λ n a. all-restored (λ (d : Bytes × X). (shows d.1 || hides n d.1)
         ≡ true) es i e lt is (grind (arith, above n (omega arith))) (h.after n (omega arith));
-    live = sym (sum_by-remove (λ (d : Bytes × X). one d.1) es i e lt)
-        ∙ ap (λ (d : Bytes × X). count_by (λ (d : Bytes × X). shows d.1) (remove es i) + one d.1) (sym is) ∙ ap (λ n. n + one e.1) h.live ∙ sym live;
+    showing = sym (sum_by-remove (λ (d : Bytes × X). one d.1) es i e lt)
+        ∙ ap (λ (d : Bytes × X). count_by (λ (d : Bytes × X). shows d.1) (remove es i) + one d.1) (sym is) ∙ ap (λ n. n + one e.1) h.showing ∙ sym showing;
     gap = beside latest es s.gap t.gap i e lt is h.gap gap;
     older = all_beside latest es s.older t.older i e lt is h.older older;
   }
 
   -- the first entries and one more, which is left out yet
-  pub next_taken : (es : List (Bytes × X)) (i : ℕ) (s t : Summary) → i < length es → t.first ≡ s.first → t.last ≡ s.last → t.live ≡ s.live → t.gap ≡ s.gap
+  pub next_taken : (es : List (Bytes × X)) (i : ℕ) (s t : Summary) → i < length es → t.first ≡ s.first → t.last ≡ s.last → t.showing ≡ s.showing → t.gap ≡ s.gap
       → t.older ≡ s.older → t.left_out ≡ Some i → IsSummary hides shows (take i es) s → IsSummaryBut hides shows (take (i + 1) es) t
   next_taken es i s t lt f l v g r o h =
       let rest : remove (take (i + 1) es) i ≡ take i es = grind (arith, common_steps) in
@@ -205,11 +206,12 @@ module _ {X : Type 0} (hides : ℕ → X → Bool) (shows : X → Bool) where
 
   -- an entry that has come in is left out yet
   pub inserted_but : (es ds : List (Bytes × X)) (i : ℕ) (e : Bytes × X) (s t : Summary) → ds ≡ insert es i e → i ≤ length es → t.first ≡ s.first
-      → t.last ≡ s.last → t.live ≡ s.live → t.gap ≡ s.gap → t.older ≡ s.older → t.left_out ≡ Some i → IsSummary hides shows es s → IsSummaryBut hides shows ds t
+      → t.last ≡ s.last → t.showing ≡ s.showing → t.gap ≡ s.gap → t.older ≡ s.older → t.left_out ≡ Some i → IsSummary hides shows es s
+      → IsSummaryBut hides shows ds t
   inserted_but es ds i e s t is le f l v g r o h = grind (arith, common_steps, but_some, length-insert, remove-insert, same_summary)
 
   pub pushed_but : (es ds : List (Bytes × X)) (n : ℕ) (e : Bytes × X) (s t : Summary) → ds ≡ es ++ e ∷ [] → n ≡ length es → t.first ≡ s.first → t.last ≡ s.last
-      → t.live ≡ s.live → t.gap ≡ s.gap → t.older ≡ s.older → t.left_out ≡ Some n → IsSummary hides shows es s → IsSummaryBut hides shows ds t
+      → t.showing ≡ s.showing → t.gap ≡ s.gap → t.older ≡ s.older → t.left_out ≡ Some n → IsSummary hides shows es s → IsSummaryBut hides shows ds t
   pushed_but es ds n e s t is at f l v g r o h = grind (arith, common_steps, but_some, length-append, remove-last, same_summary)
 
   -- ---- an entry less
@@ -221,14 +223,14 @@ module _ {X : Type 0} (hides : ℕ → X → Bool) (shows : X → Bool) where
   all_without es o i h = record { first = without es o.first i h.first; second = without es o.second i h.second; third = without es o.third i h.third }
 
   pub left_out : (es : List (Bytes × X)) (s t : Summary) (i : ℕ) (e : Bytes × X) → i < length es → e ≡ get_or es i e → IsSummary hides shows es s
-      → t.first ≡ s.first → t.last ≡ s.last → t.live ≡ s.live - one e.1 → t.gap ≡ s.gap → t.older ≡ s.older → IsSummary hides shows (remove es i) t
-  left_out es s t i e lt is h first last live gap older = record {
+      → t.first ≡ s.first → t.last ≡ s.last → t.showing ≡ s.showing - one e.1 → t.gap ≡ s.gap → t.older ≡ s.older → IsSummary hides shows (remove es i) t
+  left_out es s t i e lt is h first last showing gap older = record {
     before = λ n below. all-remove (λ (d : Bytes × X). hides n d.1 ≡ true) es i (h.before n (omega (arith, first)));
     after = λ n above. all-remove (λ (d : Bytes × X). (shows d.1 || hides n d.1) ≡ true) es i (h.after n (omega (arith, last)));
-    live =
+    showing =
         let all = ap (λ (d : Bytes × X). count_by (λ (d : Bytes × X). shows d.1) (remove es i) + one d.1) is
         ∙ sum_by-remove (λ (d : Bytes × X). one d.1) es i e lt in
-        omega (arith, all, h.live, live);
+        omega (arith, all, h.showing, showing);
     gap = rw (← gap) at (without es s.gap i h.gap);
     older = rw (← older) at (all_without es s.older i h.older);
   }
@@ -251,10 +253,10 @@ module _ {X : Type 0} (hides : ℕ → X → Bool) (shows : X → Bool) where
 
   -- nothing is seen of what is known to be hidden
   pub rest_hidden : (n : ℕ) (es : List (Bytes × X)) (s : Summary) → IsSummary hides shows es s → is_known n s ≡ true → AreHidden (hides n) es
-  rest_hidden n es s h t = elim (or_cases (nat_lt n s.first || (nat_le s.last n && s.live == 0)) (is_within n s.gap || is_in_some n s.older) t) [
-    | inl a ↦ elim (or_cases (nat_lt n s.first) (nat_le s.last n && s.live == 0) a) [
+  rest_hidden n es s h t = elim (or_cases (nat_lt n s.first || (nat_le s.last n && s.showing == 0)) (is_within n s.gap || is_in_some n s.older) t) [
+    | inl a ↦ elim (or_cases (nat_lt n s.first) (nat_le s.last n && s.showing == 0) a) [
       | inl b ↦ h.before n (grind (arith, nat_tests))
-      | inr b ↦ let p = and_parts (nat_le s.last n) (s.live == 0) b in none_shows n es (h.live
+      | inr b ↦ let p = and_parts (nat_le s.last n) (s.showing == 0) b in none_shows n es (h.showing
           ∙ grind (arith, nat_tests)) (h.after n (grind (arith, nat_tests)))
     ]
     | inr a ↦ elim (or_cases (is_within n s.gap) (is_in_some n s.older) a) [
@@ -287,8 +289,8 @@ module _ {X : Type 0} (hides : ℕ → X → Bool) (shows : X → Bool) where
   -- ---- a gap begins
 
   -- none shows, so from the last number on nothing is seen
-  opened : (es : List (Bytes × X)) (s : Summary) → s.live ≡ 0 → IsSummary hides shows es s → (n : ℕ) → s.last ≤ n → AreHidden (hides n) es
-  opened es s none h n le = none_shows n es (h.live ∙ none) (h.after n le)
+  opened : (es : List (Bytes × X)) (s : Summary) → s.showing ≡ 0 → IsSummary hides shows es s → (n : ℕ) → s.last ≤ n → AreHidden (hides n) es
+  opened es s none h n le = none_shows n es (h.showing ∙ none) (h.after n le)
 
   abbrev with_first : Gap → Older → Older
   with_first g o = cond (is_empty_gap o.first) (record o { first = g }) (cond (is_empty_gap o.second) (record o { second = g }) (record o { third = g }))
@@ -306,12 +308,12 @@ module _ {X : Type 0} (hides : ℕ → X → Bool) (shows : X → Bool) where
         ]
   ]
 
-  pub opened_gap : (es : List (Bytes × X)) (s t : Summary) → s.live ≡ 0 → t.first ≡ s.first → t.last ≡ s.last → t.live ≡ s.live → t.gap.from ≡ s.last
+  pub opened_gap : (es : List (Bytes × X)) (s t : Summary) → s.showing ≡ 0 → t.first ≡ s.first → t.last ≡ s.last → t.showing ≡ s.showing → t.gap.from ≡ s.last
       → t.older ≡ with_gap s.gap s.older → IsSummary hides shows es s → IsSummary hides shows es t
   opened_gap es s t none f l v from older h = record {
     before = λ n lt. h.before n (omega (arith, f));
     after = λ n le. h.after n (omega (arith, l));
-    live = h.live ∙ sym v;
+    showing = h.showing ∙ sym v;
     gap = λ n low high. opened es s none h n (omega (arith, from));
     older = rw (← older) at (one_more es s.gap s.older h.gap h.older);
   }
@@ -322,12 +324,12 @@ module _ {X : Type 0} (hides : ℕ → X → Bool) (shows : X → Bool) where
   still_hidden ns es g h =
       elim (list_any (λ n. is_within n g) ns) as (λ b. AreHiddenIn hides es (cond b g no_gap)) [ true ↦ h | false ↦ λ n low high. absurd (omega arith) ]
 
-  pub active_gaps : (ns : List ℕ) (es : List (Bytes × X)) (s t : Summary) → t.first ≡ s.first → t.last ≡ s.last → t.live ≡ s.live → t.gap ≡ s.gap
+  pub active_gaps : (ns : List ℕ) (es : List (Bytes × X)) (s t : Summary) → t.first ≡ s.first → t.last ≡ s.last → t.showing ≡ s.showing → t.gap ≡ s.gap
       → t.older ≡ are_active_or_none ns s.older → IsSummary hides shows es s → IsSummary hides shows es t
   active_gaps ns es s t f l v gap older h = record {
     before = λ n lt. h.before n (omega (arith, f));
     after = λ n le. h.after n (omega (arith, l));
-    live = h.live ∙ sym v;
+    showing = h.showing ∙ sym v;
     gap = rw (← gap) at h.gap;
     older =
         let all : AreAllHiddenIn hides es (are_active_or_none ns s.older) =
@@ -367,7 +369,7 @@ module _ {X : Type 0} (hides : ℕ → X → Bool) (shows : X → Bool) where
 
   pub known_on : (n : ℕ) (s t : Summary) → t.older ≡ with_gap s.gap s.older → is_within n s.gap ≡ true → is_known n t ≡ true
   known_on n s t same within =
-      or_right (nat_lt n t.first || (nat_le t.last n && t.live == 0)) (is_within n t.gap
+      or_right (nat_lt n t.first || (nat_le t.last n && t.showing == 0)) (is_within n t.gap
       || is_in_some n t.older) (or_right (is_within n t.gap) (is_in_some n t.older) (ap (is_in_some n) same ∙ in_some n s.gap s.older within))
 
   pub kept_gap : (last : X → ℕ) (es : List (Bytes × X)) (s t w : Summary) (j : ℕ) (d : Bytes × X) → s.left_out ≡ Some j → j < length es → d ≡ get_or es j d

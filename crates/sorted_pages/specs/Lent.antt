@@ -8,7 +8,7 @@ use Rattle.model.specs.Map.{Bytes}
 use Rattle.sorted_pages.specs.Pages.{Page, entries}
 use Rattle.sorted_pages.specs.contracts.page.Page.{the_row as page_row}
 use Rattle.sorted_pages.specs.contracts.pages.SortedPages.{the_row as pages_row}
-use Rattle.sorted_pages.specs.declared.aging.Aging.{Ghosts}
+use Rattle.sorted_pages.specs.declared.versioned.Versioned.{Ghosts}
 
 -- the page with this value at a key that it has
 abbrev pub with_value_in : {X : Type 0} → Page X → Bytes → X → Page X

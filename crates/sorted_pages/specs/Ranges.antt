@@ -63,6 +63,6 @@ pub record IsLeastFrom {X : Type 0} (es : List (Bytes × X)) (k : Bytes) (least 
   pub is : least ≡ first_key tail
 
 -- a range that goes up to hi has of these pages, up to this bound, what it has of those
-abbrev pub EndsAs : {X : Type 0} → List (Page X) → Bytes → List (Page X) → Option Bytes → Type 0
-EndsAs {X} ps hi qs bound =
+abbrev pub IsCutAlike : {X : Type 0} → List (Page X) → Bytes → List (Page X) → Option Bytes → Type 0
+IsCutAlike {X} ps hi qs bound =
     (hides : X → Bool) (lo : Bytes) → shown_in hides qs lo bound ≡ shown_in hides ps lo (Some hi)

@@ -30,7 +30,7 @@ pub record IsSummary {X : Type 0} (hides : ℕ → X → Bool) (shows : X
     → Bool) (es : List (Bytes × X)) (s : Summary) : Type 0 where
   pub before : (n : ℕ) → n < s.first → AreHidden (hides n) es
   pub after : (n : ℕ) → s.last ≤ n → AreOver (hides n) shows es
-  pub live : count_by (λ e. shows e.1) es ≡ s.live
+  pub showing : count_by (λ e. shows e.1) es ≡ s.showing
   pub gap : AreHiddenIn hides es s.gap
   pub older : AreAllHiddenIn hides es s.older
 
@@ -51,7 +51,7 @@ pub record IsSummaryBut {X : Type 0} (hides : ℕ → X → Bool) (shows : X
 
 -- it is known of the number that it sees nothing of the entries but the one that is left out
 abbrev pub is_known : ℕ → Summary → Bool
-is_known n s = (nat_lt n s.first || (nat_le s.last n && s.live == 0)) || (is_within n s.gap || is_in_some n s.older)
+is_known n s = (nat_lt n s.first || (nat_le s.last n && s.showing == 0)) || (is_within n s.gap || is_in_some n s.older)
 
 -- nothing is seen of the entry, if there is one
 abbrev pub hides_some : {X : Type 0} → (X → Bool) → Option (Bytes × X) → Bool

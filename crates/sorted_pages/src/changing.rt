@@ -9,10 +9,10 @@ ghost use Rattle.sorted_pages.specs.Pages.{AreAllFull, AreFull, AreLoose, IsCrow
 ghost use Rattle.sorted_pages.specs.Pages.{StaysTight, count_at, entries, pushed, room_at};
 ghost use Rattle.sorted_pages.specs.Rooms.{MakesOnePage, MakesRoom, SplitsPage, TakesPlace};
 
-use crate::aging::Aging;
 use crate::insertion_point::InsertionPoint;
 use crate::page::{PAGE_MAX, Page};
 use crate::placing::{count_in, place, room_in};
+use crate::versioned::Versioned;
 use model::{Key, KeyRef};
 use std::alloc::AllocError;
 
@@ -26,7 +26,7 @@ const FILL: usize = 192;
 const FILL_PLACES: usize = 256;
 
 // Adds an entry of a new key where it would stand, in the room that was made for it.
-pub(crate) fn insert<V: Aging>(pages: &mut [Page<V>], at: InsertionPoint, key: Key, value: V)
+pub(crate) fn insert<V: Versioned>(pages: &mut [Page<V>], at: InsertionPoint, key: Key, value: V)
     requires order { IsInOrder pages.old }
     requires point { IsInsertionPoint pages.old key at.page at.entry }
     requires room { 0 < room_at key pages.old }
@@ -39,7 +39,7 @@ pub(crate) fn insert<V: Aging>(pages: &mut [Page<V>], at: InsertionPoint, key: K
 }
 
 // Has the page at `i`, where there is one, look at the value that was lent for writing last.
-pub(crate) fn look_again<V: Aging>(pages: &mut Vec<Page<V>>, i: usize)
+pub(crate) fn look_again<V: Versioned>(pages: &mut Vec<Page<V>>, i: usize)
     ensures { pages.new.items ≡ pages.old.items }
 {
     if i < pages.len() {
@@ -48,7 +48,7 @@ pub(crate) fn look_again<V: Aging>(pages: &mut Vec<Page<V>>, i: usize)
 }
 
 // Makes room for `n` more entries in the page where the key would stand.
-fn grow<V: Aging>(pages: &mut Vec<Page<V>>, key: KeyRef<'_>, n: usize) -> Result<(), AllocError>
+fn grow<V: Versioned>(pages: &mut Vec<Page<V>>, key: KeyRef<'_>, n: usize) -> Result<(), AllocError>
     requires order { IsInOrder pages.old.items }
     requires some { 0 < vec_len pages.old }
     ensures room { MakesRoom n pages.old.items pages.new.items }
@@ -61,7 +61,7 @@ fn grow<V: Aging>(pages: &mut Vec<Page<V>>, key: KeyRef<'_>, n: usize) -> Result
 }
 
 // Splits the page where the key would stand, and gives both parts room for `n` entries.
-fn split<V: Aging + Drop>(
+fn split<V: Versioned + Drop>(
     pages: &mut Vec<Page<V>>,
     key: KeyRef<'_>,
     n: usize,
@@ -90,7 +90,7 @@ fn split<V: Aging + Drop>(
 }
 
 // Splits the page where the key would stand, and makes room for `n` more entries in the part where it stands then.
-fn divide<V: Aging + Drop>(
+fn divide<V: Versioned + Drop>(
     pages: &mut Vec<Page<V>>,
     key: KeyRef<'_>,
     n: usize,
@@ -118,7 +118,7 @@ fn is_crowded(len: usize, n: usize) -> bool
 }
 
 // Makes the first page.
-fn start<V: Aging + Drop>(pages: &mut Vec<Page<V>>, n: usize) -> Result<(), AllocError>
+fn start<V: Versioned + Drop>(pages: &mut Vec<Page<V>>, n: usize) -> Result<(), AllocError>
     requires { pages.old.items ≡ [] }
     ensures room { MakesRoom n pages.old.items pages.new.items }
     ensures made { OnOk result ((k : Bytes) → n ≤ room_at k pages.new.items) }
@@ -130,7 +130,7 @@ fn start<V: Aging + Drop>(pages: &mut Vec<Page<V>>, n: usize) -> Result<(), Allo
 }
 
 // Makes room for `n` more entries in the page where the key would stand. A page that they would make too large is split.
-pub(crate) fn reserve<V: Aging + Drop>(
+pub(crate) fn reserve<V: Versioned + Drop>(
     pages: &mut Vec<Page<V>>,
     at: InsertionPoint,
     key: KeyRef<'_>,
@@ -158,7 +158,7 @@ pub(crate) fn reserve<V: Aging + Drop>(
 }
 
 // Adds a page of one entry.
-fn push_page<V: Aging + Drop>(
+fn push_page<V: Versioned + Drop>(
     pages: &mut Vec<Page<V>>,
     key: Key,
     value: V,
@@ -179,7 +179,7 @@ fn push_page<V: Aging + Drop>(
 }
 
 // Adds an entry above all others.
-pub(crate) fn push<V: Aging + Drop>(
+pub(crate) fn push<V: Versioned + Drop>(
     pages: &mut Vec<Page<V>>,
     key: Key,
     value: V,

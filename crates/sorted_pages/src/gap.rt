@@ -1,7 +1,7 @@
 //! A gap: an interval of begin numbers that see nothing of a page.
 ghost use Rattle.std.specs.Prelude.{◌≡◌};
 
-use crate::aging::Aging;
+use crate::versioned::Versioned;
 
 // The numbers from the one on and below the other.
 #[derive(Clone, Copy)]
@@ -55,7 +55,7 @@ impl Gap {
 
     // What is left of the gap for a page with this value as well: its last numbers that see nothing of the value, up to the value's last
     // change where it shows.
-    pub(crate) fn beside<V: Aging>(self, value: &V) -> Gap
+    pub(crate) fn beside<V: Versioned>(self, value: &V) -> Gap
         ensures { IsBeside V.hides V.shows V.last value.now self result }
     {
         let to = if value.shows() {

@@ -1,8 +1,7 @@
-//! A sorted map in pages, of values with several versions (`Aging`): a list of pages, each a sorted `Vec` of entries, so that a new key
+//! A sorted map in pages, of values with several versions (`Versioned`): a list of pages, each a sorted `Vec` of entries, so that a new key
 //! moves the entries of one page and not all.
 #![tactic(auto)]
 
-mod aging;
 mod changing;
 mod flagging;
 mod gap;
@@ -16,8 +15,9 @@ mod range;
 mod ranging;
 mod summary;
 mod trimming;
+mod versioned;
 
-pub use aging::Aging;
 pub use insertion_point::InsertionPoint;
 pub use pages::SortedPages;
 pub use range::Entries;
+pub use versioned::Versioned;

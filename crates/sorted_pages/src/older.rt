@@ -1,6 +1,6 @@
 //! Three earlier gaps of a page, which are kept with its last one.
-use crate::aging::Aging;
 use crate::gap::Gap;
+use crate::versioned::Versioned;
 
 // Three gaps, of which some may have no number.
 #[derive(Clone, Copy)]
@@ -31,7 +31,7 @@ impl Older {
     }
 
     // What is left of each gap for a page with this value as well.
-    pub(crate) fn beside<V: Aging>(self, value: &V) -> Older
+    pub(crate) fn beside<V: Versioned>(self, value: &V) -> Older
         ensures { AreBeside V.hides V.shows V.last value.now self result }
     {
         Older {

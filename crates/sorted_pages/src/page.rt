@@ -13,10 +13,10 @@ ghost use Rattle.sorted_pages.specs.Blanks.{IsBlankTo, shown};
 ghost use Rattle.sorted_pages.specs.Rooms.{HasRoomFor, IsEmptyFor};
 ghost use Rattle.sorted_pages.specs.Trims.{changed_at, passes};
 
-use crate::aging::Aging;
 use crate::flagging::{copied_flags, next_flagged};
 use crate::heads::{SoughtKey, first_head, renewed_head};
 use crate::summary::Summary;
+use crate::versioned::Versioned;
 use model::{Key, KeyRef};
 use std::alloc::{AllocError, Global};
 use std::boxed::Box;
@@ -83,7 +83,7 @@ fn deal<V: Drop>(
 
 // The summary of no entries, in memory of its own.
 fn new_summary(alloc: Global) -> Result<Box<Summary>, AllocError>
-    ensures live { IfOk result (λ s. s.value.live ≡ 0) }
+    ensures showing { IfOk result (λ s. s.value.showing ≡ 0) }
     ensures whole { IfOk result (λ s. s.value.left_out ≡ None) }
 {
     match Box::new(alloc, Summary::new()) {
@@ -94,7 +94,7 @@ fn new_summary(alloc: Global) -> Result<Box<Summary>, AllocError>
 
 // Entries by rising key. A clause sees them, and how many more fit without memory. Each place takes a byte beside the entry's own.
 #[derive(Drop)]
-pub(crate) struct Page<V: Aging> {
+pub(crate) struct Page<V: Versioned> {
     entries: Vec<(Key, V)>,
     // for each entry whether its value may show
     flags: Vec<bool>,
@@ -105,7 +105,7 @@ pub(crate) struct Page<V: Aging> {
     summary: Box<Summary>,
 }
 
-impl<V: Aging> Model for Page<V> {
+impl<V: Versioned> Model for Page<V> {
     ghost use Rattle.std.specs.Prelude.{ℕ, List, ◌-◌};
     ghost use Rattle.std.specs.Vec.{vec_len, vec_capacity};
     ghost use Rattle.sorted_pages.specs.Blanks.{IsBlankTo};
@@ -130,7 +130,7 @@ fn compare<V>(entry: &(Key, V), key: KeyRef<'_>) -> Ordering
     entry.0.lend().order(key)
 }
 
-impl<V: Aging> Page<V> {
+impl<V: Versioned> Page<V> {
     ghost use Rattle.model.specs.KeyBytes.{end_bytes};
     ghost use Rattle.sorted_pages.specs.Ranges.{IsFirstShown, IsLeastFrom};
     ghost use Rattle.sorted_pages.specs.Lent.{lends_in_page};
@@ -294,7 +294,7 @@ impl<V: Aging> Page<V> {
     // Lends the key's value for writing, which stands at `i`.
     pub(crate) fn value_at(&mut self, key: KeyRef<'_>, i: usize) -> &mut V
         requires { IsAt self.old.0 key.bytes.now i }
-        ensures* writes_back { sem 𝓛 (lends_in_page V.row V.Aging self.entry key.entry.bytes.now result) }
+        ensures* writes_back { sem 𝓛 (lends_in_page V.row V.Versioned self.entry key.entry.bytes.now result) }
         ensures value { find (slice_cmp nat_cmp) key.entry.bytes.now self.old.0 ≡ Some result.now }
     {
         self.look_again();
@@ -311,7 +311,7 @@ impl<V: Aging> Page<V> {
     {
         if let Some(i) = self.summary.as_ref().left_out {
             self.flags[i] = self.entries[i].1.shows();
-            *self.summary.as_mut() = self.summary.as_ref().take_in(&self.entries);
+            *self.summary.as_mut() = self.summary.as_ref().with_left_out(&self.entries);
         }
     }
 
@@ -340,7 +340,7 @@ impl<V: Aging> Page<V> {
     {
         self.look_again();
         self.blank = self.blank.min(i);
-        let mut summary = self.summary.as_ref().take_in(&self.entries);
+        let mut summary = self.summary.as_ref().with_left_out(&self.entries);
         let shows = value.shows();
         match self.entries.insert(i, (key, value)) {
             Ok(()) => {}
@@ -352,11 +352,11 @@ impl<V: Aging> Page<V> {
         }
         self.head = renewed_head(&self.entries, i, self.head);
         summary.left_out = Some(i);
-        *self.summary.as_mut() = summary.take_in(&self.entries);
+        *self.summary.as_mut() = summary.with_left_out(&self.entries);
     }
 }
 
-impl<V: Aging + Drop> Page<V> {
+impl<V: Versioned + Drop> Page<V> {
     // Adds an entry at the end.
     pub(crate) fn push(&mut self, key: Key, value: V) -> Result<(), AllocError>
         ensures entries { self.new.0 ≡ (if is_ok result then self.old.0 ++ (key, value) ∷ [] else self.old.0) }
@@ -366,13 +366,13 @@ impl<V: Aging + Drop> Page<V> {
         self.reserve(1)?;
         self.look_again();
         let last = self.entries.len();
-        let mut summary = self.summary.as_ref().take_in(&self.entries);
+        let mut summary = self.summary.as_ref().with_left_out(&self.entries);
         let shows = value.shows();
         self.entries.push_reserved((key, value));
         self.flags.push_reserved(shows);
         self.head = renewed_head(&self.entries, last, self.head);
         summary.left_out = Some(last);
-        *self.summary.as_mut() = summary.take_in(&self.entries);
+        *self.summary.as_mut() = summary.with_left_out(&self.entries);
         Ok(())
     }
 
@@ -390,7 +390,7 @@ impl<V: Aging + Drop> Page<V> {
         let lower_flags = copied_flags(alloc, &self.flags[..at], lower.capacity())?;
         let flags = copied_flags(alloc, &self.flags[at..], upper.capacity())?;
         let mut summary = new_summary(alloc)?;
-        let gaps = self.summary.as_ref().take_in(&self.entries).gaps();
+        let gaps = self.summary.as_ref().with_left_out(&self.entries).gaps();
         let entries = mem::replace(&mut self.entries, Vec::new(alloc));
         deal(entries, at, &mut lower, &mut upper);
         self.blank = self.blank.min(at);
@@ -409,7 +409,7 @@ impl<V: Aging + Drop> Page<V> {
     }
 }
 
-impl<V: Aging> Page<V> {
+impl<V: Versioned> Page<V> {
     // Trims the key's value, where it has one. Does it keep something of this number then?
     pub(crate) fn trim_at(&mut self, key: KeyRef<'_>, numbers: &[u64], number: u64) -> bool
         requires { T (is_sorted (slice_cmp nat_cmp) self.old.0) }
@@ -426,7 +426,7 @@ impl<V: Aging> Page<V> {
                 let left = entry.1.has(number);
                 self.flags[i] = entry.1.shows();
                 self.blank = blank_from(&self.entries, self.blank.min(i));
-                let summary = self.summary.as_ref().take_in(&self.entries);
+                let summary = self.summary.as_ref().with_left_out(&self.entries);
                 *self.summary.as_mut() = summary.active(&self.entries, numbers);
                 left
             }
@@ -436,7 +436,7 @@ impl<V: Aging> Page<V> {
 }
 
 // How many of the first entries no number sees anything of, where `from` of them are known.
-fn blank_from<V: Aging>(entries: &[(Key, V)], from: usize) -> usize
+fn blank_from<V: Versioned>(entries: &[(Key, V)], from: usize) -> usize
     requires { IsBlankTo V.hides entries.now from }
     ensures { IsBlankTo V.hides entries.now result }
 {

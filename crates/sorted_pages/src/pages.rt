@@ -10,7 +10,6 @@ ghost use Rattle.sorted_pages.specs.Pages.{IsInsertionPoint, is_together, room_a
 ghost use Rattle.sorted_pages.specs.declared.changing.TheConstants.{FILL_PLACES};
 ghost use Rattle.sorted_pages.specs.Rooms.{MakesOnePage, MakesRoom, SplitsPage, TakesPlace};
 
-use crate::aging::Aging;
 use crate::changing::{self, look_again};
 use crate::insertion_point::InsertionPoint;
 use crate::page::Page;
@@ -18,6 +17,7 @@ use crate::placing::{self, place};
 use crate::range::Entries;
 use crate::ranging::{RangeEnd, up_to, within};
 use crate::trimming;
+use crate::versioned::Versioned;
 use model::{Key, KeyRef, RangeRef};
 use std::alloc::{AllocError, Global};
 use std::marker::Model;
@@ -25,13 +25,13 @@ use std::marker::Model;
 /// A map from keys to values of `V`, in pages. A clause sees the pages, each its entries and its room; `entries` of them is the map's
 /// entries by strictly rising key. Each place takes what an entry does and a byte, which says whether its value may show.
 #[derive(Drop)]
-pub struct SortedPages<V: Aging> {
+pub struct SortedPages<V: Versioned> {
     pub(crate) pages: Vec<Page<V>>,
     // the page of the value that was lent for writing last
     lent: usize,
 }
 
-impl<V: Aging> Model for SortedPages<V> {
+impl<V: Versioned> Model for SortedPages<V> {
     ghost use Rattle.std.specs.Prelude.{ℕ, List};
     ghost use Rattle.sorted_pages.specs.Pages.{IsInOrder};
 
@@ -42,7 +42,7 @@ impl<V: Aging> Model for SortedPages<V> {
     ghost invariant = { λ s. IsInOrder s.pages.items };
 }
 
-impl<V: Aging> SortedPages<V> {
+impl<V: Versioned> SortedPages<V> {
     /// An empty map. Takes no memory.
     pub fn new(alloc: Global) -> SortedPages<V>
         ensures { result ≡ [] }
@@ -65,7 +65,7 @@ impl<V: Aging> SortedPages<V> {
     }
 }
 
-impl<V: Aging> SortedPages<V> {
+impl<V: Versioned> SortedPages<V> {
     ghost use Rattle.std.specs.Prelude.{IfErr, IfOk, Some, slice_index_or};
     ghost use Rattle.std.specs.Borrow.{sem};
     ghost use Rattle.model.specs.Entries.{IsAt};
@@ -76,7 +76,7 @@ impl<V: Aging> SortedPages<V> {
     fn value_at(&mut self, key: KeyRef<'_>, i: usize, j: usize) -> &mut V
         requires page { IsPlace self.old key.bytes.now i }
         requires entry { (p : Page V) → IsAt (slice_index_or self.old i p).0 key.bytes.now j }
-        ensures* writes_back { sem 𝓛 (lends_value V.row V.Aging self.entry key.entry.bytes.now result) }
+        ensures* writes_back { sem 𝓛 (lends_value V.row V.Versioned self.entry key.entry.bytes.now result) }
         ensures value { find (slice_cmp nat_cmp) key.entry.bytes.now (entries self.old) ≡ Some result.now }
     {
         look_again(&mut self.pages, self.lent);
@@ -87,7 +87,7 @@ impl<V: Aging> SortedPages<V> {
     /// Lends the key's value for writing, and says where it would be inserted if it has none: the map ends with what is written, and no
     /// key's page or room changes. The key is looked up once. Takes no memory.
     pub fn find_mut(&mut self, key: KeyRef<'_>) -> Result<&mut V, InsertionPoint>
-        ensures* writes_back { sem 𝓛 (lends_if_present V.row V.Aging self.entry key.entry.bytes.now result) }
+        ensures* writes_back { sem 𝓛 (lends_if_present V.row V.Versioned self.entry key.entry.bytes.now result) }
         ensures value { IfOk result
             (λ v. find (slice_cmp nat_cmp) key.entry.bytes.now (entries self.old) ≡ Some v.now) }
         ensures put { OnOk result (PutsAt self.old key.entry.bytes.now) }
@@ -108,7 +108,7 @@ impl<V: Aging> SortedPages<V> {
     }
 }
 
-impl<V: Aging> SortedPages<V> {
+impl<V: Versioned> SortedPages<V> {
     ghost use Rattle.model.specs.KeyBytes.{end_bytes};
     ghost use Rattle.sorted_pages.specs.Ranges.{entries_left, shown_in};
 
@@ -133,7 +133,7 @@ impl<V: Aging> SortedPages<V> {
     }
 }
 
-impl<V: Aging + Drop> SortedPages<V> {
+impl<V: Versioned + Drop> SortedPages<V> {
     /// How many more entries fit without memory where the key stands or would stand.
     pub fn room(&self, key: KeyRef<'_>) -> usize
         ensures { result ≡ room_at key.entry.bytes.now self.now }
@@ -203,7 +203,7 @@ impl<V: Aging + Drop> SortedPages<V> {
     }
 }
 
-impl<V: Aging> SortedPages<V> {
+impl<V: Versioned> SortedPages<V> {
     ghost use Rattle.sorted_pages.specs.Trims.{changed_at, passes};
 
     /// How many pages there are. Takes no memory.

@@ -4,13 +4,13 @@ ghost use Rattle.sorted_pages.specs.Blanks.{shown};
 ghost use Rattle.sorted_pages.specs.Pages.{entries};
 ghost use Rattle.sorted_pages.specs.Ranges.{entries_from};
 
-use crate::aging::Aging;
 use crate::page::Page;
+use crate::versioned::Versioned;
 use model::KeyRef;
 use std::alloc::AllocError;
 
 /// The entries of a range of which a number sees something, by rising key, lent one by one. Its calls take no memory.
-pub struct Entries<'a, V: Aging> {
+pub struct Entries<'a, V: Versioned> {
     // the pages that are left, and a place of the first of them: the entries before it aren't
     pub(crate) pages: &'a [Page<V>],
     pub(crate) at: usize,
@@ -20,7 +20,7 @@ pub struct Entries<'a, V: Aging> {
 }
 
 // Where a range that has all keys of the pages begins in the first of them, where there is one.
-fn start<V: Aging>(pages: &[Page<V>], number: u64) -> usize
+fn start<V: Versioned>(pages: &[Page<V>], number: u64) -> usize
     ensures { shown (V.hides number) (entries_from result pages.now) ≡ shown (V.hides number) (entries pages.now) }
 {
     match pages.first() {
@@ -29,7 +29,7 @@ fn start<V: Aging>(pages: &[Page<V>], number: u64) -> usize
     }
 }
 
-impl<'a, V: Aging> Clone for Entries<'a, V> {
+impl<'a, V: Versioned> Clone for Entries<'a, V> {
     ghost use Rattle.std.specs.Prelude.{◌≡◌, ⊤};
 
     ghost is_clone = { λ x y. y ≡ x };
@@ -41,9 +41,9 @@ impl<'a, V: Aging> Clone for Entries<'a, V> {
     }
 }
 
-impl<'a, V: Aging> Copy for Entries<'a, V> {}
+impl<'a, V: Versioned> Copy for Entries<'a, V> {}
 
-impl<'a, V: Aging> Entries<'a, V> {
+impl<'a, V: Versioned> Entries<'a, V> {
     ghost use Rattle.std.specs.Prelude.{◌≡◌};
     ghost use Rattle.model.specs.Map.{is_below};
     ghost use Rattle.model.specs.KeyBytes.{end_bytes};
@@ -59,7 +59,7 @@ impl<'a, V: Aging> Entries<'a, V> {
     }
 }
 
-impl<'a, V: Aging> Iterator for Entries<'a, V> {
+impl<'a, V: Versioned> Iterator for Entries<'a, V> {
     type Item = (KeyRef<'a>, &'a V);
 
     ghost use Rattle.std.specs.Iterator.{YieldsFirstBy, item_count};

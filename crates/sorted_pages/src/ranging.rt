@@ -2,23 +2,23 @@
 ghost use Rattle.std.specs.Prelude.{◌≡◌};
 ghost use Rattle.model.specs.KeyBytes.{end_bytes};
 ghost use Rattle.sorted_pages.specs.Pages.{IsInOrder};
-ghost use Rattle.sorted_pages.specs.Ranges.{EndsAs, entries_left, shown_in};
+ghost use Rattle.sorted_pages.specs.Ranges.{IsCutAlike, entries_left, shown_in};
 
-use crate::aging::Aging;
 use crate::page::Page;
 use crate::placing::place;
 use crate::range::Entries;
+use crate::versioned::Versioned;
 use model::KeyRef;
 
 // The end of a range: the pages up to the one where it stands, and the least key from it on in that page. What has no such key is below
 // the end.
-pub(crate) struct RangeEnd<'a, V: Aging> {
+pub(crate) struct RangeEnd<'a, V: Versioned> {
     pub(crate) pages: &'a [Page<V>],
     pub(crate) least: Option<KeyRef<'a>>,
 }
 
 // Lends the entries from one key on, up to another, of which the number sees something.
-pub(crate) fn within<'a, V: Aging>(
+pub(crate) fn within<'a, V: Versioned>(
     pages: &'a [Page<V>],
     lo: KeyRef<'_>,
     hi: Option<KeyRef<'a>>,
@@ -46,10 +46,10 @@ pub(crate) fn within<'a, V: Aging>(
 }
 
 // Where a range ends that goes up to the key.
-pub(crate) fn up_to<'a, V: Aging>(pages: &'a [Page<V>], hi: KeyRef<'_>) -> RangeEnd<'a, V>
+pub(crate) fn up_to<'a, V: Versioned>(pages: &'a [Page<V>], hi: KeyRef<'_>) -> RangeEnd<'a, V>
     requires { IsInOrder pages.now }
     ensures order { IsInOrder result.pages.now }
-    ensures same { EndsAs pages.now hi.entry.bytes.now result.pages.now (end_bytes result.least) }
+    ensures same { IsCutAlike pages.now hi.entry.bytes.now result.pages.now (end_bytes result.least) }
 {
     if pages.is_empty() {
         return RangeEnd { pages, least: None };

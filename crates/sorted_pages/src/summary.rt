@@ -1,16 +1,16 @@
 //! The summary of a page: which begin numbers see nothing of all its values.
-use crate::aging::Aging;
 use crate::gap::Gap;
 use crate::older::Older;
+use crate::versioned::Versioned;
 use model::Key;
 
 // What numbers see of the values of entries: below `first` nothing, from `last` on something of those that show alone, of which there
-// are `live`, and in the gaps nothing. It says nothing of the entry that is left out: its value was lent for writing last.
+// are `showing`, and in the gaps nothing. It says nothing of the entry that is left out: its value was lent for writing last.
 #[derive(Clone, Copy)]
 pub(crate) struct Summary {
     pub(crate) first: u64,
     pub(crate) last: u64,
-    pub(crate) live: usize,
+    pub(crate) showing: usize,
     // the last time at which no value showed, which goes on where none does, and three from before
     pub(crate) gap: Gap,
     pub(crate) older: Older,
@@ -25,13 +25,13 @@ impl Summary {
 
     // The summary of no entries.
     pub(crate) fn new() -> Summary
-        ensures live { result.live ≡ 0 }
+        ensures showing { result.showing ≡ 0 }
         ensures whole { result.left_out ≡ None }
     {
         Summary {
             first: u64::MAX,
             last: 0,
-            live: 0,
+            showing: 0,
             gap: Gap {
                 from: 0,
                 to: u64::MAX,
@@ -42,27 +42,27 @@ impl Summary {
     }
 
     // The summary with the entry that it left out.
-    pub(crate) fn take_in<V: Aging>(self, entries: &[(Key, V)]) -> Summary
+    pub(crate) fn with_left_out<V: Versioned>(self, entries: &[(Key, V)]) -> Summary
         requires { IsSummaryBut V.hides V.shows entries.now self }
         ensures summary { IsSummary V.hides V.shows entries.now result }
         ensures whole { result.left_out ≡ None }
         ensures kept { KeepsGap V.hides V.shows V.last entries.now self result }
-        ensures open { self.left_out ≢ None → result.live ≡ 0 → result.gap.to ≡ 2 ^ 64 - 1 }
+        ensures open { self.left_out ≢ None → result.showing ≡ 0 → result.gap.to ≡ 2 ^ 64 - 1 }
     {
         match self.left_out {
             None => self,
             Some(i) => {
-                prove!(self.live < entries.len());
+                prove!(self.showing < entries.len());
                 let value = &entries[i].1;
-                let live = if value.shows() {
-                    self.live + 1
+                let showing = if value.shows() {
+                    self.showing + 1
                 } else {
-                    self.live
+                    self.showing
                 };
                 let whole = Summary {
                     first: self.first.min(value.first()),
                     last: self.last.max(value.last()),
-                    live,
+                    showing,
                     gap: self.gap.beside(value),
                     older: self.older.beside(value),
                     left_out: None,
@@ -73,14 +73,14 @@ impl Summary {
     }
 
     // Where no value shows, a gap begins with the last number, unless one has begun before. The entries are named for the contract alone.
-    fn with_open_gap<V: Aging>(self, _entries: &[(Key, V)]) -> Summary
+    fn with_open_gap<V: Versioned>(self, _entries: &[(Key, V)]) -> Summary
         requires { IsSummary V.hides V.shows _entries.now self }
         ensures summary { IsSummary V.hides V.shows _entries.now result }
-        ensures open { result.live ≡ 0 → result.gap.to ≡ 2 ^ 64 - 1 }
+        ensures open { result.showing ≡ 0 → result.gap.to ≡ 2 ^ 64 - 1 }
         ensures known { (n : ℕ) → is_within n self.gap ≡ true → is_known n result ≡ true }
         ensures left_out { result.left_out ≡ self.left_out }
     {
-        if self.live == 0 && self.gap.to < u64::MAX {
+        if self.showing == 0 && self.gap.to < u64::MAX {
             Summary {
                 gap: Gap {
                     from: self.last,
@@ -95,7 +95,7 @@ impl Summary {
     }
 
     // Forgets the older gaps in which none of these active numbers is. The entries are named for the contract alone.
-    pub(crate) fn active<V: Aging>(self, _entries: &[(Key, V)], numbers: &[u64]) -> Summary
+    pub(crate) fn active<V: Versioned>(self, _entries: &[(Key, V)], numbers: &[u64]) -> Summary
         requires { IsSummary V.hides V.shows _entries.now self }
         ensures summary { IsSummary V.hides V.shows _entries.now result }
         ensures gap { result.gap ≡ self.gap }
@@ -109,20 +109,20 @@ impl Summary {
     }
 
     // Leaves out this entry, and no other.
-    pub(crate) fn leave_out<V: Aging>(self, entries: &[(Key, V)], i: usize) -> Summary
+    pub(crate) fn leave_out<V: Versioned>(self, entries: &[(Key, V)], i: usize) -> Summary
         requires within { i < length entries.now }
         requires summary { IsSummaryBut V.hides V.shows entries.now self }
         ensures summary { IsSummaryBut V.hides V.shows entries.now result }
         ensures left_out { result.left_out ≡ Some i }
     {
-        let whole = self.take_in(entries);
-        let live = if entries[i].1.shows() {
-            whole.live - 1
+        let whole = self.with_left_out(entries);
+        let showing = if entries[i].1.shows() {
+            whole.showing - 1
         } else {
-            whole.live
+            whole.showing
         };
         Summary {
-            live,
+            showing,
             left_out: Some(i),
             ..whole
         }
@@ -130,9 +130,9 @@ impl Summary {
 
     // What it knows of times at which no value showed, as the older gaps of a part of its entries.
     pub(crate) fn gaps(self) -> Older
-        ensures { result ≡ (if self.live == 0 then self.older else with_gap self.gap self.older) }
+        ensures { result ≡ (if self.showing == 0 then self.older else with_gap self.gap self.older) }
     {
-        if self.live == 0 {
+        if self.showing == 0 {
             self.older
         } else {
             self.older.with(self.gap)
@@ -140,7 +140,7 @@ impl Summary {
     }
 
     // The summary of these entries, with what is left for them of these older gaps: those of a page that they were a part of.
-    pub(crate) fn of<V: Aging>(entries: &[(Key, V)], older: Older) -> Summary
+    pub(crate) fn of<V: Versioned>(entries: &[(Key, V)], older: Older) -> Summary
         ensures summary { IsSummary V.hides V.shows entries.now result }
         ensures whole { result.left_out ≡ None }
     {
@@ -150,13 +150,13 @@ impl Summary {
         };
         for i in 0..entries.len() {
             summary.left_out = Some(i);
-            summary = summary.take_in(&entries[..i + 1]);
+            summary = summary.with_left_out(&entries[..i + 1]);
         }
         summary
     }
 
     // Does the number see nothing of the entries, for all that is known?
-    pub(crate) fn hides<V: Aging>(self, entries: &[(Key, V)], number: u64) -> bool
+    pub(crate) fn hides<V: Versioned>(self, entries: &[(Key, V)], number: u64) -> bool
         requires { IsSummaryBut V.hides V.shows entries.now self }
         ensures hidden { result ≡ true → AreHidden (V.hides number) entries.now }
         ensures known { result ≡ (is_known number self && hides_but (V.hides number) self.left_out entries.now) }
@@ -175,7 +175,7 @@ impl Summary {
         ensures { result ≡ is_known number self }
     {
         number < self.first
-            || self.last <= number && self.live == 0
+            || self.last <= number && self.showing == 0
             || self.gap.has(number)
             || self.older.have(number)
     }

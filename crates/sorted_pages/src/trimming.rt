@@ -6,13 +6,13 @@ ghost use Rattle.std.specs.FinMap.Entries.{find};
 ghost use Rattle.sorted_pages.specs.Pages.{IsInOrder, entries};
 ghost use Rattle.sorted_pages.specs.Trims.{changed_at, passes};
 
-use crate::aging::Aging;
 use crate::page::Page;
 use crate::placing::place;
+use crate::versioned::Versioned;
 use model::KeyRef;
 
 // Trims the key's value, where it has one. Does it keep something of this number then?
-pub(crate) fn trim_at<V: Aging>(
+pub(crate) fn trim_at<V: Versioned>(
     pages: &mut [Page<V>],
     key: KeyRef<'_>,
     numbers: &[u64],

@@ -16,7 +16,7 @@ use Rattle.engine.specs.Meaning.{has_risen}
 use Rattle.sessions.specs.Laws.{failures_in}
 use Rattle.sessions.specs.SessionStreams.{HubState, SessionState, SessionStream, HubEvent, Receives, Serves, Sends}
 use Rattle.sessions.specs.SessionStreams.{Leaves, Head, IsHead, Choice, Effect, IsPossible, IsServePossible}
-use Rattle.sessions.specs.SessionStreams.{hub_step, stream_of, with_stream, with_effect, depart, may_serve}
+use Rattle.sessions.specs.SessionStreams.{hub_step, stream_of, with_stream, with_effect, disconnect, may_serve}
 use Rattle.sessions.specs.SessionStreams.{serve_head, room}
 use Rattle.sessions.specs.StandsFor.{status_in}
 use Rattle.sessions.specs.declared.events.Outcome.{Outcome}
@@ -216,4 +216,4 @@ module _ {s : ℕ} {p : Point} {c : Choice} {count : ℕ} {st : SessionStream} (
 pub leaves_others : (h : HubState) (s : ℕ) (c : Choice) (t : ℕ) → t ≢ s → stream_of (hub_step h (Leaves s) c).0 t ≡ stream_of h t
 unfolding hub_step
 leaves_others h s c t apart =
-    elim (stream_of h s) as (λ o. stream_of (depart o h s).0 t ≡ stream_of h t) [ None ↦ refl | Some st ↦ remove-other h.present t s apart ]
+    elim (stream_of h s) as (λ o. stream_of (disconnect o h s).0 t ≡ stream_of h t) [ None ↦ refl | Some st ↦ remove-other h.present t s apart ]

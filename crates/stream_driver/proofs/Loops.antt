@@ -23,7 +23,7 @@ use Rattle.stream_driver.proofs.Sends.{reports_step, reports_still, reports_thre
 use Rattle.stream_driver.proofs.States.{Follow, seen_after}
 use Rattle.stream_driver.specs.Calls.{Moves, WritesSome, ReadsSome, WritesOut, Exchanges, WhyExchanged, WhyFlushed}
 use Rattle.stream_driver.specs.Calls.{WrittenSoFar, ReadSoFar, DrivenSoFar, DrivenOut, served_in}
-use Rattle.stream_driver.specs.Drives.{Carried, Departs, Drove, LeavesIfGone, Why}
+use Rattle.stream_driver.specs.Drives.{Carried, Disconnects, Drove, LeavesIfGone, Why}
 use Rattle.stream_driver.specs.Sends.{LeadsAnswering}
 use Rattle.stream_driver.specs.Sessions.{Ghosts, Hub, Leads, Stands, Point, RunsOneSession, AwaitsMore, status_at}
 use Rattle.stream_driver.specs.Sessions.{pending_at, inbox_room, inbox_at, inbox_in, IsPresentIn}
@@ -246,13 +246,13 @@ module _ {s : ℕ} {reports : Type 0} where
         drove (driven_flushed p.driven q.moves) (omega arith) Again refl
         (moved_then before between after p.moved q.why.0, served_still q.moves is_open ∙ all, is_open, q.why.1)
 
-    pub gone_writing : count ≤ 64 → WritesOut s reports mid between FlushFailed new after → {gone : Point} → Departs s new gone
+    pub gone_writing : count ≤ 64 → WritesOut s reports mid between FlushFailed new after → {gone : Point} → Disconnects s new gone
         → Drove s reports old before Gone gone after
     gone_writing le q departs =
         drove (driven_flushed p.driven q.moves) le Gone departs (inr (inl (ends_then (Write WriteFailed) before between after p.moved q.why.0, q.why.1)))
 
     -- nothing is pending, and the session is no longer open
-    pub gone_closed : count ≤ 64 → WritesOut s reports mid between Empty new after → status_at new.hub s ≢ Open → {gone : Point} → Departs s new gone
+    pub gone_closed : count ≤ 64 → WritesOut s reports mid between Empty new after → status_at new.hub s ≢ Open → {gone : Point} → Disconnects s new gone
         → Drove s reports old before Gone gone after
     gone_closed le q is_closed departs =
         let closed = closed_kinds (status_at new.hub s) q.moves.carried.runs.present is_closed q.why.1 in
@@ -291,7 +291,7 @@ module _ {s : ℕ} {reports : Type 0} where
       waits_to_read lt q = drove (on q) (omega arith) Waiting refl (inr (ends_then (Read Blocked) before between after p.0.moved q.why.0, q.why.1))
 
       pub gone_serving : count < 64 → (answer : Exchange) → answer ≢ Replied → answer ≢ ExchangeBlocked
-          → Exchanges s reports mid between answer new after → {gone : Point} → Departs s new gone → Drove s reports old before Gone gone after
+          → Exchanges s reports mid between answer new after → {gone : Point} → Disconnects s new gone → Drove s reports old before Gone gone after
       gone_serving lt answer a b q departs =
           let why : Why s new.hub before after 0 Gone =
           grind (
@@ -332,8 +332,8 @@ module _ {D : Type 0} {g : Ghosts D} (follow : Follow D g) {a b c : Hub D g} {s 
 
   -- the session leaves after a write of the output
   pub leaves : {d : Hub D g} {answer : Progress} {flush : OutputState} → answer ≡ Gone
-      → LeadsAnswering s reports b between c behind (λ k l. WritesOut s reports k between flush l behind) → Leads c d (λ l m. Departs s l m)
-      → ((h k l m : Point) → StandsFor c l.hub → DrivenOut s reports h before k between count → WritesOut s reports k between flush l behind → Departs s l m
+      → LeadsAnswering s reports b between c behind (λ k l. WritesOut s reports k between flush l behind) → Leads c d (λ l m. Disconnects s l m)
+      → ((h k l m : Point) → StandsFor c l.hub → DrivenOut s reports h before k between count → WritesOut s reports k between flush l behind → Disconnects s l m
       → Drove s reports h before Gone m behind)
       → LeadsAnswering s reports a before d behind (λ h m. Drove s reports h before answer m behind)
   leaves is q left f = rw is (reports_three follow p q (reports_still left) (λ h k x. x.driven.carried) (λ k l y. y.moves.carried) f)

@@ -33,7 +33,7 @@ Why s last before after served Gone =
     × ((status_at last s ≡ Refused) ⊎ ((status_at last s ≡ Ending) × (pending_at last s ≡ []))))))
 
 -- the session leaves
-pub record Departs (s : ℕ) (last new : Point) : Type 0 where
+pub record Disconnects (s : ℕ) (last new : Point) : Type 0 where
   pub choice : Choice
   pub adds : Adds last ((Leaves s, choice) ∷ []) new
   pub counted : last.failures ≤ new.failures
@@ -43,7 +43,7 @@ pub record Departs (s : ℕ) (last new : Point) : Type 0 where
 abbrev pub LeavesIfGone : ℕ → Point → Point → Progress → Type 0
 LeavesIfGone s last new Waiting = new ≡ last
 LeavesIfGone s last new Again = new ≡ last
-LeavesIfGone s last new Gone = Departs s last new
+LeavesIfGone s last new Gone = Disconnects s last new
 
 -- one drive: at most 64 requests were served
 pub record Drove (s : ℕ) (reports : Type 0) (old : Point) (before : Traffic) (answer : Progress) (new : Point)

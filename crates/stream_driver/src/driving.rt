@@ -4,7 +4,7 @@ ghost use Rattle.sessions.specs.StandsFor.{pending_of, records_of, status_of};
 ghost use Rattle.stream_driver.specs.Sessions.{IsPresent, Leads, Stands};
 ghost use Rattle.stream_driver.specs.Appends.{AppendsOnce, KeepsShare, ServesOnce, SpendsShare};
 ghost use Rattle.stream_driver.specs.Sends.{LeadsAs};
-ghost use Rattle.stream_driver.specs.Drives.{Drove, Departs};
+ghost use Rattle.stream_driver.specs.Drives.{Drove, Disconnects};
 ghost use Rattle.stream_driver.specs.Calls.{ReadsInTurn, WritesSome, WritesOut, Exchanges, MayBeServed};
 ghost use Rattle.stream_driver.specs.Traffic.{IsShareEnded, ReadsWithin, WritesWithin};
 ghost use Rattle.stream_driver.specs.Waits.{StaysSound};
@@ -167,7 +167,7 @@ fn serve_in_share<D: Sectors, S: Stream>(
 // The session leaves.
 fn disconnect<D: Sectors>(hub: &mut Hub<D>, s: u64) -> Progress
     ensures answer { result ≡ Progress.Gone }
-    ensures left { Leads hub.old hub.new (λ h k. Departs s h k) }
+    ensures left { Leads hub.old hub.new (λ h k. Disconnects s h k) }
     ensures records { Stands hub.old → records_of hub.new ≡ records_of hub.old }
 {
     let _ = hub.step(&Event::Left(s));

@@ -1,7 +1,7 @@
 //! Pages of entries: how many values are looked at for a begin number to which none of them is visible.
 use crate::helpers::key;
 use model::{Key, KeyRef, RangeRef};
-use sorted_pages::{Aging, SortedPages};
+use sorted_pages::{SortedPages, Versioned};
 use std::cell::Cell;
 use std::process::Abort;
 
@@ -17,7 +17,7 @@ struct Watched<'a> {
     newest: u64,
 }
 
-impl Aging for Watched<'_> {
+impl Versioned for Watched<'_> {
     ghost use Rattle.std.specs.Prelude.{◌||◌, ◌&&◌, nat_le, nat_lt, false, not, if◌then◌else◌};
 
     ghost trimmed = { λ _ value. value };

@@ -10,7 +10,7 @@ use Rattle.versions.proofs.Groups.{all-between}
 use Rattle.versions.proofs.Listings.{left-part}
 use Rattle.versions.specs.Chains.{Chains}
 use Rattle.versions.specs.Groups.{Listed, GroupValue}
-use Rattle.versions.specs.Listings.{AreIn, AreKept, AreSeenFrom, IsCollected, IsTakenIn, IsPartReclaimed, is_of}
+use Rattle.versions.specs.Listings.{AreIn, AreKept, AreSeenFrom, IsCollected, IsRepinned, IsPartReclaimed, is_of}
 use Rattle.versions.specs.Listings.{versions_in}
 use Rattle.versions.specs.Meaning.{is_among, garbage_for}
 
@@ -53,7 +53,7 @@ kept-twice bs now new ls us vs ws found part one two k n high t =
 
 -- ---- what is garbage
 
-pub garbage-taken : (bs : List ℕ) (g : GroupValue) → IsTakenIn bs g → garbage_for bs g ≡ g.garbage
+pub garbage-taken : (bs : List ℕ) (g : GroupValue) → IsRepinned bs g → garbage_for bs g ≡ g.garbage
 garbage-taken bs g t = grind arith
 
 pub no-versions : {Z : Type 0} (P : Listed → Type 0) (xs : List (Vec Listed Z)) → length xs ≡ 0 → AllByRecursion P (versions_in xs)

@@ -102,8 +102,8 @@ AreAmong bs ns = AllByRecursion (λ n. IsTrue (is_among bs n)) ns
 -- ---- what is to be looked at
 
 -- the pin is one of the numbers, or no list counts as seen from it
-abbrev pub IsTakenIn : List ℕ → GroupValue → Type 0
-IsTakenIn bs g = IsTrue (is_among bs g.pin) ⊎ (g.seen ≡ 0)
+abbrev pub IsRepinned : List ℕ → GroupValue → Type 0
+IsRepinned bs g = IsTrue (is_among bs g.pin) ⊎ (g.seen ≡ 0)
 
 -- the pin is one of the numbers, and sees each version of the unclassified lists
 abbrev pub sees_unclassified : List ℕ → GroupValue → Bool

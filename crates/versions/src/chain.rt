@@ -8,7 +8,7 @@ ghost use Rattle.versions.specs.Listings.{has_version};
 
 use crate::several::{Several, Version};
 use crate::value::KeptValue;
-use sorted_pages::Aging;
+use sorted_pages::Versioned;
 use std::alloc::{AllocError, Global};
 use std::boxed::Box;
 use std::marker::Model;
@@ -147,7 +147,7 @@ impl Chain {
     }
 }
 
-impl Aging for Chain {
+impl Versioned for Chain {
     ghost trimmed = { reclaimed };
 
     ghost has = { λ n c. has_version n (Some c) };

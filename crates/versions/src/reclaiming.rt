@@ -9,7 +9,7 @@ ghost use Rattle.std.specs.Vec.{vec_len};
 ghost use Rattle.sorted_pages.specs.Pages.{entries};
 ghost use Rattle.versions.specs.Chains.{IsKept, IsReclaimedAt, find_chain};
 ghost use Rattle.versions.specs.Pins.{GroupStaysUnder};
-ghost use Rattle.versions.specs.Listings.{AreApart, ListsAreFilled, AreIn, CanJoin, IsListed, IsTakenIn};
+ghost use Rattle.versions.specs.Listings.{AreApart, ListsAreFilled, AreIn, CanJoin, IsListed, IsRepinned};
 ghost use Rattle.versions.specs.Listings.{IsTrulyUnclassified, has_version, lists_in, versions_in, pin_for, pins};
 ghost use Rattle.versions.specs.Reclaiming.{AreLookedAt, DropsFromGroup, DropsUnseen, IsLookedAfter, KeepsListed};
 ghost use Rattle.versions.specs.Reclaiming.{ReclaimsChains, ReclaimsStep, StaysApart, TakesGroup, TakesLists};
@@ -129,10 +129,10 @@ fn collect_lists(
 impl Group {
     // Takes in which numbers are active. Where the pin is none of them, the greatest of them below it becomes the pin, or 0 where there is
     // none, and the lists that it saw are garbage, before those that already were.
-    fn take_in(&mut self, begins: &[u64])
+    fn repin(&mut self, begins: &[u64])
         ensures found { AreIn self.old.versions self.new.versions }
         ensures garbage { self.new.garbage ≡ garbage_for begins.now self.old }
-        ensures taken_in { IsTakenIn begins.now self.new }
+        ensures repinned { IsRepinned begins.now self.new }
         ensures pin { self.new.pin ≡ pin_for begins.now self.old.pin }
         ensures lists { self.new.lists ≡ self.old.lists }
         ensures each { GroupStaysUnder self.old self.new }
@@ -155,10 +155,10 @@ impl Group {
     fn keep(&mut self, lists: LinkedList<Vec<OldVersion>>, begins: &[u64])
         requires fits { self.old.lists + length lists < 2 ^ 63 }
         requires filled { ListsAreFilled lists }
-        requires taken_in { IsTakenIn begins.now self.old }
+        requires repinned { IsRepinned begins.now self.old }
         ensures versions { TakesVersions begins.now self.old (versions_in lists) self.new }
         ensures lists { TakesLists self.old (length lists) self.new }
-        ensures taken_in { IsTakenIn begins.now self.new }
+        ensures repinned { IsRepinned begins.now self.new }
         ensures truly { self.old.unclassified ≡ [] → IsTrulyUnclassified begins.now self.new }
     {
         if is_among(begins, self.pin) && are_seen_from(&lists, self.pin) {
@@ -171,12 +171,12 @@ impl Group {
     // Looks at the first `count` of the garbage lists.
     fn look_at_garbage(&mut self, chains: &mut SortedPages<Chain>, begins: &[u64], count: usize)
         requires count { count ≤ self.old.garbage }
-        requires taken_in { IsTakenIn begins.now self.old }
+        requires repinned { IsRepinned begins.now self.old }
         requires kept { (last : ℕ) × IsKept (entries chains.old) last }
         ensures chains { ReclaimsChains begins.now (entries chains.old) (entries chains.new) }
         ensures group { DropsFromGroup (entries chains.new) self.old.pin self.old self.new }
         ensures garbage { self.new.garbage + count ≡ self.old.garbage }
-        ensures taken_in { IsTakenIn begins.now self.new }
+        ensures repinned { IsRepinned begins.now self.new }
     {
         if count == 0 {
             return;
@@ -190,7 +190,7 @@ impl Group {
     // Looks at the unclassified lists, and puts them under the pin where it now sees all of them. If no list is garbage, the whole group
     // was then looked at.
     fn look_at_unclassified(&mut self, chains: &mut SortedPages<Chain>, begins: &[u64])
-        requires taken_in { IsTakenIn begins.now self.old }
+        requires repinned { IsRepinned begins.now self.old }
         requires kept { (last : ℕ) × IsKept (entries chains.old) last }
         ensures chains { ReclaimsChains begins.now (entries chains.old) (entries chains.new) }
         ensures group { DropsFromGroup (entries chains.new) self.old.pin self.old self.new }
@@ -215,7 +215,7 @@ impl Group {
         ensures group { DropsFromGroup (entries chains.new) (pin_for begins.now self.old.pin) self.old self.new }
         ensures looked_after { IsLookedAfter begins.now (entries chains.new) self.new }
     {
-        self.take_in(begins);
+        self.repin(begins);
         let count = self.garbage().min(most);
         self.look_at_garbage(chains, begins, count);
         self.look_at_unclassified(chains, begins);

@@ -3,7 +3,7 @@ use Rattle.std.proofs.Common.{length, ◌-◌}
 use Rattle.sorted_pages.specs.Blanks.{IsBlankTo}
 
 abbrev pub invariant-loop-count : goal.invariant-loop-count
-invariant-loop-count g l = IsBlankTo g.V.Aging.hides l.entries l.count
+invariant-loop-count g l = IsBlankTo g.V.Versioned.hides l.entries l.count
 
 abbrev pub decreases-loop-count : goal.decreases-loop-count
 decreases-loop-count g l = length l.entries - l.count

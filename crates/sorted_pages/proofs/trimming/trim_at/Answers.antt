@@ -19,7 +19,7 @@ returns g c =
     let ps = c.args.pages.now in
     let i = c.place-i.result in
     let k = c.args.key.bytes.now in
-    let f = g.V.Aging.trimmed c.args.numbers.now in
+    let f = g.V.Versioned.trimmed c.args.numbers.now in
     let page = get_or ps i c.index-pages-i.result in
     let here = ap (λ d. get_or ps i d) c.index-pages-i.is in
     let is = c.trim_at.ensures in
@@ -29,7 +29,7 @@ returns g c =
       entries = all.entries;
       -- both are f of the key's value before
       left = is.left
-          ∙ ap (passes (g.V.Aging.has c.args.number)) (ap (find key_cmp k) is.entries ∙ find-changed f k page.0
+          ∙ ap (passes (g.V.Versioned.has c.args.number)) (ap (find key_cmp k) is.entries ∙ find-changed f k page.0
           ∙ ap (option_map f) (sym (find_at ps k i page c.place-i.ensures here))
           ∙ sym (ap (find key_cmp k) all.entries ∙ find-changed f k (entries ps)));
     }

@@ -6,7 +6,7 @@ use Rattle.sorted_pages.specs.Pages.{Page}
 -- from the page's last change on, nothing is seen of a value that doesn't show
 pub returns-clause-shown : goal.returns-clause-shown
 returns-clause-shown g c =
-    let hides = g.V.Aging.hides c.args.number in
+    let hides = g.V.Versioned.hides c.args.number in
     let es = c.self.inside.entries.items in
     let fs = c.self.inside.flags.items in
     let s = c.self.inside.summary.value in
@@ -15,6 +15,6 @@ returns-clause-shown g c =
     let passed = rw c.deref.ensures.value at c.next_flagged.ensures.passed in
     let same = ap (λ (p : Page g.row.V.Denot). p.0) c.self.view_is in
     rw same
-    at (passed_over hides g.V.Aging.shows es fs c.args.from c.next_flagged.result flags.count
-    (hidden_by hides g.V.Aging.shows es fs s.left_out flags.left_out flags.clear over)
+    at (passed_over hides g.V.Versioned.shows es fs c.args.from c.next_flagged.result flags.count
+    (hidden_by hides g.V.Versioned.shows es fs s.left_out flags.left_out flags.clear over)
     c.next_flagged.ensures.from passed)

@@ -3,7 +3,7 @@ use Rattle.std.proofs.Common.{◌≡◌, drop, length, ◌-◌}
 use Rattle.sorted_pages.specs.Blanks.{shown}
 
 abbrev pub invariant-loop-at : goal.invariant-loop-at
-invariant-loop-at g l = shown (g.V.Aging.hides l.number) (drop l.at l.self.0) ≡ shown (g.V.Aging.hides l.number) (drop l.from l.self.0)
+invariant-loop-at g l = shown (g.V.Versioned.hides l.number) (drop l.at l.self.0) ≡ shown (g.V.Versioned.hides l.number) (drop l.from l.self.0)
 
 abbrev pub decreases-loop-at : goal.decreases-loop-at
 decreases-loop-at g l = length l.self.0 - l.at

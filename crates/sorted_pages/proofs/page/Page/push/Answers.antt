@@ -12,16 +12,16 @@ renewed_head-self-inside-requires g c = λ later.
     let long : c.len-last.result ≡ length es = (let w = c.self.inside.entries.ok.0 in omega arith) in
     rw (c.deref-2.ensures.value, c.push_reserved.ensures.items) (head-push es c.self.inside.head _ (omega (arith, long, later)) c.self.invariant.2)
 
-pub take_in-requires : goal.take_in-requires
-take_in-requires g c =
+pub with_left_out-requires : goal.with_left_out-requires
+with_left_out-requires g c =
     let es = c.self.inside.entries.items in
-    let s = c.take_in-summary.result in
+    let s = c.with_left_out-summary.result in
     let long : c.len-last.result ≡ length es = (let w = c.self.inside.entries.ok.0 in omega arith) in
-    pushed_but g.V.Aging.hides g.V.Aging.shows es c.deref-3.result.now c.len-last.result (
+    pushed_but g.V.Versioned.hides g.V.Versioned.shows es c.deref-3.result.now c.len-last.result (
       c.args.key,
       c.args.value,
     ) s _ (c.deref-3.ensures.value ∙ c.push_reserved.ensures.items) long refl refl refl refl refl refl
-    (rw c.deref.ensures.value at c.take_in-summary.ensures.summary)
+    (rw c.deref.ensures.value at c.with_left_out-summary.ensures.summary)
 
 pub invariant_of-self : goal.invariant_of-self
 invariant_of-self g c =
@@ -30,17 +30,17 @@ invariant_of-self g c =
     let e : Bytes × g.row.V.Denot = (c.args.key, c.args.value) in
     let f = c.shows-shows.result in
     let flags = c.self.invariant.3 in
-    let s = c.take_in.result in (
-      rw c.push_reserved.ensures.items (blank-push g.V.Aging.hides c.self.inside.entries.items c.self.inside.blank _ c.self.invariant.0),
-      but_none g.V.Aging.hides g.V.Aging.shows c.push_reserved.new.self.items s c.take_in.ensures.whole
-          (rw c.deref-3.ensures.value at c.take_in.ensures.summary),
+    let s = c.with_left_out.result in (
+      rw c.push_reserved.ensures.items (blank-push g.V.Versioned.hides c.self.inside.entries.items c.self.inside.blank _ c.self.invariant.0),
+      but_none g.V.Versioned.hides g.V.Versioned.shows c.push_reserved.new.self.items s c.with_left_out.ensures.whole
+          (rw c.deref-3.ensures.value at c.with_left_out.ensures.summary),
       rw c.deref-2.ensures.value at c.renewed_head-self-inside.ensures,
       record {
         count = rw (c.push_reserved-2.ensures.items, c.push_reserved.ensures.items)
             (omega (arith, flags.count, length-append fs (f ∷ []), length-append es (e ∷ [])));
         clear = rw (c.push_reserved-2.ensures.items, c.push_reserved.ensures.items)
-            (flagged-push g.V.Aging.shows es fs e f flags.count (λ t. sym c.shows-shows.ensures ∙ t) flags.clear);
-        left_out = none_left_out s.left_out c.push_reserved-2.new.self.items c.take_in.ensures.whole;
+            (flagged-push g.V.Versioned.shows es fs e f flags.count (λ t. sym c.shows-shows.ensures ∙ t) flags.clear);
+        left_out = none_left_out s.left_out c.push_reserved-2.new.self.items c.with_left_out.ensures.whole;
         places = omega (arith, flags.places);
       },
     )

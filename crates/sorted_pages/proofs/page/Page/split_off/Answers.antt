@@ -18,13 +18,13 @@ invariant_of-self g c =
     let dealt : gs ≡ take c.args.at fs = c.in_ok-lower_flags.ensures.same ∙ ap (take c.args.at) c.deref.ensures.value in
     let within : c.args.at ≤ length es = rw (← (c.self.view_is ∙ c.look_again.ensures)) at c.requires in (
       rw (← lower)
-          at (blank-take g.V.Aging.hides es c.self.inside.blank c.min-self-inside.result c.args.at within (omega arith) (omega arith) c.self.invariant.0),
-      but_none g.V.Aging.hides g.V.Aging.shows c.deal.new.lower.items s c.of.ensures.whole
+          at (blank-take g.V.Versioned.hides es c.self.inside.blank c.min-self-inside.result c.args.at within (omega arith) (omega arith) c.self.invariant.0),
+      but_none g.V.Versioned.hides g.V.Versioned.shows c.deal.new.lower.items s c.of.ensures.whole
           (rw c.deref-4.ensures.value at c.of.ensures.summary),
       rw (← lower) at (head-take c.args.at c.self.inside.head es c.self.invariant.2),
       record {
         count = rw (lower, dealt) (omega (arith, length-take c.args.at fs, length-take c.args.at es, flags.count));
-        clear = rw (lower, dealt) (flagged-take g.V.Aging.shows es fs c.args.at flags.clear);
+        clear = rw (lower, dealt) (flagged-take g.V.Versioned.shows es fs c.args.at flags.clear);
         left_out = none_left_out s.left_out gs c.of.ensures.whole;
         places = omega (arith, c.in_ok-lower_flags.ensures.places);
       },
@@ -41,12 +41,12 @@ invariant_of-result g c =
     let whole = take_rest c.deref-2.result.now c.args.at in
     let dealt : gs ≡ drop c.args.at fs = c.in_ok-flags.ensures.same ∙ whole ∙ ap (drop c.args.at) c.deref-2.ensures.value in (
       record { within = omega arith; blank = λ m. tt },
-      but_none g.V.Aging.hides g.V.Aging.shows c.deal.new.upper.items s c.of-2.ensures.whole
+      but_none g.V.Versioned.hides g.V.Versioned.shows c.deal.new.upper.items s c.of-2.ensures.whole
           (rw c.deref-5.ensures.value at c.of-2.ensures.summary),
       rw c.deref-6.ensures.value at c.first_head-head.ensures,
       record {
         count = rw (upper, dealt) (omega (arith, length-drop c.args.at fs, length-drop c.args.at es, flags.count));
-        clear = rw (upper, dealt) (flagged-drop g.V.Aging.shows es fs c.args.at flags.clear);
+        clear = rw (upper, dealt) (flagged-drop g.V.Versioned.shows es fs c.args.at flags.clear);
         left_out = none_left_out s.left_out gs c.of-2.ensures.whole;
         places = omega (arith, c.in_ok-flags.ensures.places);
       },

@@ -12,14 +12,14 @@ use Rattle.sorted_pages.specs.Trims.{changed_at, passes}
 pub blank_from-self-inside-requires : goal.blank_from-self-inside-requires
 blank_from-self-inside-requires g c =
     rw c.deref-in-Ok.ensures.value
-    (blank-set g.V.Aging.hides c.self.inside.entries.items c.self.inside.blank c.min.result c.in-Ok.i _ (omega arith) (omega arith) c.self.invariant.0)
+    (blank-set g.V.Versioned.hides c.self.inside.entries.items c.self.inside.blank c.min.result c.in-Ok.i _ (omega arith) (omega arith) c.self.invariant.0)
 
-pub take_in-summary-requires : goal.take_in-summary-requires
-take_in-summary-requires g c =
+pub with_left_out-summary-requires : goal.with_left_out-summary-requires
+with_left_out-summary-requires g c =
     let es = c.self.inside.entries.items in
     let s = c.leave_out.result in
     rw (c.deref-in-Ok-2.ensures.value, c.as_ref-in-Ok.ensures)
-    (rest-set g.V.Aging.hides g.V.Aging.shows es s c.in-Ok.i _ c.leave_out.ensures.left_out
+    (rest-set g.V.Versioned.hides g.V.Versioned.shows es s c.in-Ok.i _ c.leave_out.ensures.left_out
     (rw c.deref.ensures.value at c.leave_out.ensures.summary))
 
 pub invariant_of-self : goal.invariant_of-self
@@ -32,13 +32,13 @@ invariant_of-self g c =
     let f = c.shows.result in
     let flags = c.self.invariant.3 in
     let s = c.active.result in
-    let whole = c.active.ensures.left_out ∙ c.take_in-summary.ensures.whole in (
+    let whole = c.active.ensures.left_out ∙ c.with_left_out-summary.ensures.whole in (
       rw c.deref-in-Ok.ensures.value at c.blank_from-self-inside.ensures,
-      but_none g.V.Aging.hides g.V.Aging.shows (set es i e) s whole (rw c.deref-in-Ok-3.ensures.value at c.active.ensures.summary),
+      but_none g.V.Versioned.hides g.V.Versioned.shows (set es i e) s whole (rw c.deref-in-Ok-3.ensures.value at c.active.ensures.summary),
       head-set es i c.self.inside.head e d c.index_mut-entry.ensures.value refl c.self.invariant.2,
       record {
         count = length-set fs i f ∙ flags.count ∙ sym (length-set es i e);
-        clear = flagged-set g.V.Aging.shows es fs i e f (λ t. sym c.shows.ensures ∙ t) flags.clear;
+        clear = flagged-set g.V.Versioned.shows es fs i e f (λ t. sym c.shows.ensures ∙ t) flags.clear;
         left_out = none_left_out s.left_out (set fs i f) whole;
         places = flags.places;
       },
@@ -46,7 +46,7 @@ invariant_of-self g c =
 
 pub returns-in-Ok : goal.returns-in-Ok
 returns-in-Ok g c =
-    let f = g.V.Aging.trimmed c.args.numbers.now in
+    let f = g.V.Versioned.trimmed c.args.numbers.now in
     let k = c.args.key.bytes.now in
     let es = c.self.inside.entries.items in
     let e = c.index_mut-entry.result.now in
@@ -56,5 +56,5 @@ returns-in-Ok g c =
     record {
       entries = written_changed f k es c.in-Ok.i e c.trim.new.self at is c.trim.ensures ∙ ap (λ (p : Page g.row.V.Denot). changed_at f k p.0) same;
       room = search rules;
-      left = c.has-left.ensures ∙ sym (ap (passes (g.V.Aging.has c.args.number)) (find-written f k es c.in-Ok.i e c.trim.new.self at is));
+      left = c.has-left.ensures ∙ sym (ap (passes (g.V.Versioned.has c.args.number)) (find-written f k es c.in-Ok.i e c.trim.new.self at is));
     }

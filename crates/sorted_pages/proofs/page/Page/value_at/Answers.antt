@@ -20,13 +20,13 @@ invariant_of-self-lent g c = λ w.
     let s = c.leave_out.result in
     let d = c.index_mut-entry.result.now in
     let e : Bytes × g.row.V.Denot = (d.0, w) in (
-      blank-set g.V.Aging.hides es c.self.inside.blank c.min-self-inside.result c.args.i e (omega arith) (omega arith) c.self.invariant.0,
-      rest-set g.V.Aging.hides g.V.Aging.shows es s c.args.i e c.leave_out.ensures.left_out
+      blank-set g.V.Versioned.hides es c.self.inside.blank c.min-self-inside.result c.args.i e (omega arith) (omega arith) c.self.invariant.0,
+      rest-set g.V.Versioned.hides g.V.Versioned.shows es s c.args.i e c.leave_out.ensures.left_out
           (rw c.deref.ensures.value at c.leave_out.ensures.summary),
       head-set es c.args.i c.self.inside.head e d c.index_mut-entry.ensures.value refl c.self.invariant.2,
       record {
         count = length-set fs c.args.i true ∙ flags.count ∙ sym (length-set es c.args.i e);
-        clear = flagged-set g.V.Aging.shows es fs c.args.i e true (λ t. absurd (true≢false t)) flags.clear;
+        clear = flagged-set g.V.Versioned.shows es fs c.args.i e true (λ t. absurd (true≢false t)) flags.clear;
         left_out = lent_flagged s.left_out fs c.args.i c.leave_out.ensures.left_out;
         places = flags.places;
       },

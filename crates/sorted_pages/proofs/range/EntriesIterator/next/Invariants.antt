@@ -4,7 +4,7 @@ use Rattle.sorted_pages.specs.Ranges.{entries_left}
 
 -- pages are taken of which nothing is left
 abbrev pub invariant-loop-page : goal.invariant-loop-page
-invariant-loop-page g l = entries_left g.V.Aging.hides l.self ≡ entries_left g.V.Aging.hides l.fn.self
+invariant-loop-page g l = entries_left g.V.Versioned.hides l.self ≡ entries_left g.V.Versioned.hides l.fn.self
 
 abbrev pub decreases-loop-page : goal.decreases-loop-page
 decreases-loop-page g l = length l.self.pages.now

@@ -6,7 +6,7 @@ use Rattle.std.specs.List.{AllByRecursion}
 use Rattle.sorted_pages.specs.Pages.{entries}
 use Rattle.versions.proofs.Parts.{all-parts, all-three, garbage-taken, no-versions, parts-collected}
 use Rattle.versions.specs.Groups.{GroupValue}
-use Rattle.versions.specs.Listings.{IsCollected, IsTakenIn, versions_in}
+use Rattle.versions.specs.Listings.{IsCollected, IsRepinned, versions_in}
 use Rattle.versions.specs.Pins.{IsUnderPin}
 
 pub returns-clause-group : goal.returns-clause-group
@@ -35,8 +35,8 @@ returns-clause-looked_after c =
     let put = c.keep.ensures.versions in
     record {
       collected = λ zero. (
-          let active = subst (IsTakenIn bs) (sym c.self.view_is) c.requires.taken_in in
-          let no_garbage = sym c.keep.ensures.lists.garbage ∙ sym (garbage-taken bs c.keep.new.self c.keep.ensures.taken_in) ∙ zero in
+          let active = subst (IsRepinned bs) (sym c.self.view_is) c.requires.repinned in
+          let no_garbage = sym c.keep.ensures.lists.garbage ∙ sym (garbage-taken bs c.keep.new.self c.keep.ensures.repinned) ∙ zero in
           put.collected es
           (parts-collected bs es c.self.inside.pin c.self.inside.lists c.self.inside.garbage c.replace-unclassified.new.dest active c.self.invariant.0
           no_garbage none)
@@ -52,8 +52,8 @@ returns-then-is_empty-clause-looked_after c =
     let unclassified = no-versions (IsCollected bs es) c.self.inside.unclassified (eqb-true _ _ (sym c.if-is_empty.ensures)) in
     record {
       collected = λ zero. (
-          let active = subst (IsTakenIn bs) (sym c.self.view_is) c.requires.taken_in in
-          let no_garbage = ap (λ (g : GroupValue). g.garbage) c.self.view_is ∙ sym (garbage-taken bs c.args.self.now c.requires.taken_in) ∙ zero in
+          let active = subst (IsRepinned bs) (sym c.self.view_is) c.requires.repinned in
+          let no_garbage = ap (λ (g : GroupValue). g.garbage) c.self.view_is ∙ sym (garbage-taken bs c.args.self.now c.requires.repinned) ∙ zero in
           subst (λ (g : GroupValue). AllByRecursion (IsCollected bs es) g.versions) c.self.view_is
           (parts-collected bs es c.self.inside.pin c.self.inside.lists c.self.inside.garbage c.self.inside.unclassified active c.self.invariant.0 no_garbage
           unclassified));

@@ -26,10 +26,10 @@ returns-clause-group c =
       pin = search rules;
       lists = grind (arith, common_steps);
       left = kept-twice c.args.begins.now (entries c.look_at_garbage.new.chains) (entries c.look_at_unclassified.new.chains) c.args.self.now.versions
-          c.take_in.new.self.versions c.look_at_garbage.new.self.versions c.look_at_unclassified.new.self.versions
-          c.take_in.ensures.found c.look_at_unclassified.ensures.chains.part first.left second.left;
+          c.repin.new.self.versions c.look_at_garbage.new.self.versions c.look_at_unclassified.new.self.versions
+          c.repin.ensures.found c.look_at_unclassified.ensures.chains.part first.left second.left;
       each = λ active v w h hm. (
-          let one = c.take_in.ensures.each active v w h hm in
+          let one = c.repin.ensures.each active v w h hm in
           let two = first.each active v w one.0 one.1 in
           second.each active v w two.0 two.1);
     }

@@ -1,4 +1,4 @@
-use Rattle.versions.proofs.listing.Group.take_in.Goals as goal
+use Rattle.versions.proofs.listing.Group.repin.Goals as goal
 use Rattle.std.proofs.Common.{length, ◌≡◌, ◌++◌, ap, sym, subst, ◌∙◌}
 use Rattle.std.specs.List.{AllByRecursion}
 use Rattle.versions.proofs.Lists.{in-append}

@@ -1,4 +1,4 @@
-use Rattle.versions.proofs.chain.ChainAging.first.Goals as goal
+use Rattle.versions.proofs.chain.ChainVersioned.first.Goals as goal
 use Rattle.std.proofs.Common.{◌≡◌, ℕ, ◌<◌, rules, subst}
 use Rattle.versions.proofs.Visibles.{first_hides}
 use Rattle.versions.specs.Chains.{first_shown}

@@ -1,7 +1,7 @@
 //! The trait of values with several versions: which begin numbers see something of one, and what can be dropped of it.
 
 /// A value that keeps things for numbers, and of which less is needed once fewer numbers are left.
-pub trait Aging {
+pub trait Versioned {
     ghost use Rattle.std.specs.Prelude.{◌≡◌, ℕ, ◌<◌, ◌≤◌, Bool, true, false, List};
 
     // what is left of it for these numbers

@@ -1,4 +1,4 @@
-use Rattle.test_layers.proofs.pages.WatchedAging.hidden_from.Goals as goal
+use Rattle.test_layers.proofs.pages.WatchedVersioned.hidden_from.Goals as goal
 use Rattle.std.proofs.Common.{◌<◌, min, arith}
 use Rattle.test_layers.proofs.Watches.{before_seen}
 
