@@ -1,9 +1,10 @@
 -- Whose turn it is.
-use Rattle.std.proofs.Common.{◌≡◌, ◌⊎◌, inl, inr, ℕ, zero, suc, ◌<◌, ◌≤◌, Bool, true, false, cond, List, []}
-use Rattle.std.proofs.Common.{◌∷◌, Option, Some, None, refl, sym, ap, subst, ◌∙◌, arith, ◌==◌}
+use Rattle.std.proofs.Common.{◌≡◌, ◌⊎◌, inl, inr, ℕ, zero, suc, ◌<◌, ◌≤◌, ◌-◌, Bool, true, false, cond, not, List, []}
+use Rattle.std.proofs.Common.{◌∷◌, ◌+◌, ◌≢◌, Option, Some, None, set, refl, sym, ap, subst, ◌∙◌, arith, ◌==◌}
 use Rattle.std.proofs.lemmas.Bool.{cases_eq, cases_Bool}
 use Rattle.std.proofs.lemmas.Bool.Decides.{nat_tests}
 use Rattle.std.proofs.lemmas.Grind.{common_steps}
+use Rattle.std.proofs.lemmas.List.{get_or-set_other}
 use Rattle.std.specs.Prelude.{nat_lt, ◌&&◌, ◌||◌}
 use Rattle.mio.specs.Events.{items}
 use Rattle.mio.specs.declared.event.event.Event.{Event}
@@ -15,8 +16,10 @@ use Rattle.sessions.specs.StandsFor.{device}
 use Rattle.sessions.specs.declared.hub.Hub.{Hub}
 use Rattle.socket_calls.specs.declared.counted.AcceptedSocket.{AcceptedSocket}
 use Rattle.stream_driver.proofs.States.{seen_after}
-use Rattle.stream_driver.specs.Buffers.{has_had_share, is_flushed_or_failed, traffic_through}
-use Rattle.stream_driver.specs.Entries.{DrivenAll, KeepSessions, DrivenIn, DrivenSlot, is_gone, is_over, state_at_end}
+use Rattle.stream_driver.specs.Buffers.{Finishes, fresh, has_had_share, is_flushed_or_failed, is_heavy, passed_over}
+use Rattle.stream_driver.specs.Buffers.{traffic_through}
+use Rattle.stream_driver.specs.Entries.{DrivenAll, DrivenIn, DrivenSlot, EndsIn, KeepSessions, is_gone, is_over}
+use Rattle.stream_driver.specs.Entries.{state_at_end}
 use Rattle.stream_driver.specs.Sessions.{Point}
 use Rattle.stream_driver.specs.Traffic.{Traffic, untouched}
 use Rattle.stream_driver.specs.declared.buffered.BufferedStream.{BufferedStream}
@@ -24,19 +27,18 @@ use Rattle.stream_driver.specs.declared.entries.Entry.{Entry}
 use Rattle.stream_driver.specs.declared.entries.EntryState.{EntryState}
 use Rattle.stream_driver.specs.declared.entries.EntryState.TheVariants.{Idle, Gone, Ready}
 use Rattle.event_loop.proofs.Entries.{Remain, no_entry}
-use Rattle.event_loop.proofs.Polled.{answered_as_it_was, IsSome, TakesTurns}
+use Rattle.event_loop.proofs.Polled.{IsSome, TakesTurns, answered_as_it_was, put_there}
 use Rattle.event_loop.proofs.Slots.{Slots}
 use Rattle.event_loop.specs.Numbers.{HasTablePlace, HavePlaces, WasRegisteredAs}
-use Rattle.event_loop.specs.Order.{after_turn, behind, has_turn, is_ready_slot, share_at, waits_as, AreNext}
-use Rattle.event_loop.specs.Order.{HasNextTurn}
-use Rattle.event_loop.specs.Order.{ComesNearer}
-use Rattle.event_loop.specs.Order.{in_turn, is_of_kind, writes_in}
+use Rattle.event_loop.specs.Order.{AreNext, ComesNearer, HasNextTurn, after_turn, behind, has_turn, in_turn, is_of_kind}
+use Rattle.event_loop.specs.Order.{is_ready_slot, light_below, light_in, share_at, share_in_turn, share_of_slot, takes_none}
+use Rattle.event_loop.specs.Order.{takes_turns, waits_as, writes_in}
 use Rattle.event_loop.specs.declared.order.Kind.TheVariants.{Any, Reader, Writer}
 use Rattle.event_loop.specs.declared.order.Turns.{Turns}
 use Rattle.event_loop.specs.Sockets.{IsNewSocket}
 use Rattle.event_loop.specs.Tables.{AdmitsEach, EndsTurn, after_poll, slot_at, is_ready}
 use Rattle.event_loop.specs.Tables.AdmitsEach.{Nobody, OneMore}
-use Rattle.event_loop.specs.Turns.{Accepted, IsDrivenSoon, IsTurn, accepts_now}
+use Rattle.event_loop.specs.Turns.{Accepted, IsDrivenSoon, IsPutOff, IsTurn, accepts_now}
 use Rattle.event_loop.specs.declared.server.EventLoop.{EventLoop}
 use Rattle.event_loop.specs.declared.socket.Socket.{Socket}
 
@@ -45,28 +47,97 @@ abbrev pub NoneWithin : (ℕ → Bool) → ℕ → ℕ → Type 0
 NoneWithin waits last places = (key : ℕ) → key < 128 → behind last key ≤ places → waits key ≡ false
 
 -- a share is a light one at least
-share_some : (takes has : Bool) → IsSome (cond {A = Option ℕ} takes (cond has (Some 262144) None) (Some 32768))
-share_some true true = omega arith
-share_some true false = tt
-share_some false has = omega arith
+share_some : (takes has within : Bool)
+    → IsSome (cond {A = Option ℕ} takes (cond has (Some 262144) None) (cond within (Some 32768) None))
+share_some true true within = omega arith
+share_some true false within = tt
+share_some false has true = omega arith
+share_some false has false = tt
+
+-- some may be driven still exactly where fewer are below than the turn is wide
+some_left : (width below left : ℕ) → left ≡ width - below → nat_lt 0 left ≡ nat_lt below width
+some_left width below left is = grind (arith, nat_tests)
+
+less_both : (width a b : ℕ) → (width - a) - b ≡ width - (a + b)
+less_both width a b = omega arith
+
+not_below : (n : ℕ) → nat_lt n n ≡ false
+not_below n = grind (arith, nat_tests)
+
+is_below : (n : ℕ) → true ≡ nat_lt n (n + 1)
+is_below n = grind (arith, nat_tests)
+
+same_below : (m n : ℕ) → m ≢ n → nat_lt m n ≡ nat_lt m (n + 1)
+same_below m n differs = grind (arith, common_steps, nat_tests)
 
 module _ {T D : Type 0} {g : Ghosts D} (hub : Hub D g) (turns : Turns) where
-  abbrev pub turned_slot : ℕ → Option (Entry (BufferedStream T)) → Option (Entry (BufferedStream T))
-  turned_slot key slot = after_turn (share_at hub turns key slot) slot
+  abbrev pub turned_slot : (ℕ → Option (Entry (BufferedStream T))) → ℕ → Option (Entry (BufferedStream T))
+  turned_slot slots key = after_turn (share_at hub turns slots key) (slots key)
 
-  slot_some : (key : ℕ) (slot : Option (Entry (BufferedStream T))) → IsSome (share_at hub turns key slot)
-  slot_some key None = tt
-  slot_some key (Some entry) = share_some (is_of_kind hub Any entry) (has_turn hub turns key entry)
+  slot_some : (within : Bool) (key : ℕ) (slot : Option (Entry (BufferedStream T)))
+      → IsSome (share_of_slot hub turns within key slot)
+  slot_some within key None = tt
+  slot_some within key (Some entry) = share_some (is_of_kind hub Any entry) (has_turn hub turns key entry) within
 
   -- so each slot has a share of the turn, or is passed over
   pub turns_taken : (old ready : Slots (BufferedStream T)) (events : List Event)
-      → ((key : ℕ) → slot_at ready key ≡ turned_slot key (after_poll events key (slot_at old key))) → TakesTurns old ready events
+      → ((key : ℕ) → slot_at ready key ≡ turned_slot (λ other. after_poll events other (slot_at old other)) key)
+      → TakesTurns old ready events
   turns_taken old ready events turned key =
-      let slot = after_poll events key (slot_at old key) in (share_at hub turns key slot, turned key, slot_some key slot)
+      let slots : ℕ → Option (Entry (BufferedStream T)) = λ other. after_poll events other (slot_at old other) in
+      (share_at hub turns slots key, turned key, slot_some (nat_lt (light_below hub slots key) turns.width) key (slots key))
 
-  -- those below this key have taken their turns
-  abbrev pub TurnedBelow : ℕ → (old new : Slots (BufferedStream T)) → Type 0
-  TurnedBelow count old new = (key : ℕ) → slot_at new key ≡ cond (nat_lt key count) (turned_slot key (slot_at old key)) (slot_at old key)
+  -- those below this key have taken their turns, and of those that take none so many more may be driven
+  pub record TurnedBelow (count left : ℕ) (old new : Slots (BufferedStream T)) : Type 0 where
+    pub slots : (key : ℕ) → slot_at new key ≡ cond (nat_lt key count) (turned_slot (slot_at old) key) (slot_at old key)
+    pub left_is : left ≡ turns.width - light_below hub (slot_at old) count
+
+  more_below : (slots : ℕ → Option (Entry (BufferedStream T))) (count : ℕ)
+      → light_below hub slots (count + 1) ≡ light_below hub slots count + light_in hub (slots count)
+  more_below slots count = let one_more : count + 1 ≡ suc count = omega arith in ap (light_below hub slots) one_more
+
+  module _ (count left : ℕ) (old mid : Slots (BufferedStream T)) (below : TurnedBelow count left old mid) where
+    -- the slot at the key is as it was
+    stood : slot_at mid count ≡ slot_at old count
+    stood = below.slots count ∙ ap (λ b. cond b (turned_slot (slot_at old) count) (slot_at old count)) (not_below count)
+
+    -- with the one at the key
+    turned_more : (then : ℕ) (new : Slots (BufferedStream T))
+        → slot_at new count ≡ after_turn (share_of_slot hub turns (nat_lt 0 left) count (slot_at old count)) (slot_at old count)
+        → ((other : ℕ) → other ≢ count → slot_at new other ≡ slot_at mid other) → then ≡ left - light_in hub (slot_at old count)
+        → TurnedBelow (count + 1) then old new
+    turned_more then new here others less = record {
+      slots = λ key. elim (cases_eq key count) [
+        | inl same ↦
+            subst (λ k. slot_at new k ≡ cond (nat_lt k (count + 1)) (turned_slot (slot_at old) k) (slot_at old k)) (sym same)
+            (here ∙ ap (λ b. after_turn (share_of_slot hub turns b count (slot_at old count)) (slot_at old count))
+            (some_left turns.width (light_below hub (slot_at old) count) left below.left_is)
+            ∙ ap (λ b. cond b (turned_slot (slot_at old) count) (slot_at old count)) (is_below count))
+        | inr differs ↦
+            others key differs ∙ below.slots key
+            ∙ ap (λ b. cond b (turned_slot (slot_at old) key) (slot_at old key)) (same_below key count differs)
+      ];
+      left_is =
+          less ∙ ap (λ n. n - light_in hub (slot_at old count)) below.left_is
+          ∙ less_both turns.width (light_below hub (slot_at old) count) (light_in hub (slot_at old count))
+          ∙ ap (λ n. turns.width - n) (sym (more_below (slot_at old) count));
+    }
+
+    pub turned_some : (then : ℕ) (entry after : Entry (BufferedStream T)) → slot_at mid count ≡ Some entry
+        → after ≡ in_turn entry.state (share_in_turn hub turns (nat_lt 0 left) count entry) entry → then ≡ left - light_in hub (Some entry)
+        → TurnedBelow (count + 1) then old (set mid count (Some after))
+    turned_some then entry after is taken less =
+        let was : Some entry ≡ slot_at old count = sym is ∙ stood in
+        turned_more then (set mid count (Some after))
+        (put_there mid count entry after is ∙ ap (λ (x : Entry (BufferedStream T)). Some x) taken
+        ∙ ap (λ slot. after_turn (share_of_slot hub turns (nat_lt 0 left) count slot) slot) was)
+        (λ other differs. get_or-set_other mid count other (Some after) None differs) (less ∙ ap (λ slot. left - light_in hub slot) was)
+
+    pub turned_none : slot_at mid count ≡ None → TurnedBelow (count + 1) left old mid
+    turned_none is =
+        let was : None ≡ slot_at old count = sym is ∙ stood in
+        turned_more left mid (is ∙ ap (λ slot. after_turn (share_of_slot hub turns (nat_lt 0 left) count slot) slot) was) (λ other differs. refl)
+        (let same : left ≡ left - 0 = omega arith in same ∙ ap (λ slot. left - light_in hub slot) was)
 
 -- the same keys wait
 next_as : (waits then : ℕ → Bool) → ((key : ℕ) → waits key ≡ then key) → (last next : ℕ) → HasNextTurn waits last next → HasNextTurn then last next
@@ -80,9 +151,10 @@ next_as waits then same last next (inr none) = inr (none.0, λ key in_key. sym (
 -- as the poll reported, and then as their turns are
 module _ {T D : Type 0} {g : Ghosts D} (hub : Hub D g) (last next : Turns) (old polled : Slots (BufferedStream T)) (events : List Event) (reported : (key : ℕ)
     → slot_at polled key ≡ after_poll events key (slot_at old key)) where
-  pub polled_turned : (ready : Slots (BufferedStream T)) → ((key : ℕ) → slot_at ready key ≡ turned_slot hub next key (slot_at polled key)) → (key : ℕ)
-      → slot_at ready key ≡ turned_slot hub next key (after_poll events key (slot_at old key))
-  polled_turned ready turned key = turned key ∙ ap (turned_slot hub next key) (reported key)
+  pub polled_turned : (ready : Slots (BufferedStream T)) → ((key : ℕ) → slot_at ready key ≡ turned_slot hub next (slot_at polled) key) → (key : ℕ)
+      → slot_at ready key ≡ turned_slot hub next (λ other. after_poll events other (slot_at old other)) key
+  polled_turned ready turned key =
+      turned key ∙ ap (λ (slots : ℕ → Option (Entry (BufferedStream T))). turned_slot hub next slots key) (λ i other. reported other i)
 
   pub polled_next : AreNext hub (slot_at polled) last next → AreNext hub (λ key. after_poll events key (slot_at old key)) last next
   polled_next are = record {
@@ -146,11 +218,14 @@ not_first : (a b : Bool) → (a || b) ≡ false → a ≡ false
 not_first true b is = absurd (cc)
 not_first false b is = refl
 
--- who has no share takes turns, and has none
-none_shared : (takes has : Bool) → cond {A = Option ℕ} takes (cond has (Some 262144) None) (Some 32768) ≡ None → (takes ≡ true) × (has ≡ false)
-none_shared true true is = absurd (cc)
-none_shared true false is = (refl, refl)
-none_shared false has is = absurd (cc)
+-- who has no share takes turns, and has none; or takes none
+none_shared : (takes has within : Bool)
+    → cond {A = Option ℕ} takes (cond has (Some 262144) None) (cond within (Some 32768) None) ≡ None
+    → ((takes ≡ true) × (has ≡ false)) ⊎ (not takes ≡ true)
+none_shared true true within is = absurd (cc)
+none_shared true false within is = inl (refl, refl)
+none_shared false has true is = absurd (cc)
+none_shared false has false is = inr refl
 
 ready_at : (state : EntryState) → is_ready state ≡ true → state ≡ Ready
 ready_at Ready is = refl
@@ -187,21 +262,29 @@ module _ {T : Type 0} (reports : Type 0) (traffic : T → Traffic) where
       ap (λ l. slot_at l (suc key)) is ∙ idle_stays mid slots later others rest key was e idle
 
 module _ {T : Type 0} (reports : Type 0) (traffic : T → Traffic) (moment : ℕ) where
-  -- who has no share of the turn is ready at its end
+  -- the end of a turn leaves whether a stream is heavy
+  ended_heavy : (old new : BufferedStream T) → Finishes reports traffic moment (fresh old) new → new.heavy_for ≡ old.heavy_for
+  ended_heavy old new (inl same) = ap (λ (b : BufferedStream T). b.heavy_for) same.1
+  ended_heavy old new (inr flushed) = flushed.2.kept.turn.heavy
+
+  -- who has no share of the turn is ready at its end, and heavy if it was
   ended_ready : (was : Entry (BufferedStream T)) (new : Option (Entry (BufferedStream T))) → EndsTurn reports traffic moment (Some was) new → was.state ≡ Idle
       → was.stream.share ≡ 0
-      → (entry : Entry (BufferedStream T)) × (new ≡ Some entry) × (entry.state ≡ Ready)
+      → (entry : Entry (BufferedStream T)) × (new ≡ Some entry) × (entry.state ≡ Ready) × (entry.stream.heavy_for ≡ was.stream.heavy_for)
   ended_ready was new (mid, ends, is) idle none =
       let ready : mid.state ≡ Ready = ends.state ∙ ap (λ s. state_at_end s (has_had_share was.stream)) idle ∙ ap (λ n. state_at_end Idle (n == 0)) none in
       let lasts : is_over mid ≡ false = ap (λ s. is_gone s && is_flushed_or_failed mid.stream) ready in
-      (mid, is ∙ ap (λ b. cond b None (Some mid)) lasts, ready)
+      let finished : Finishes reports traffic moment (fresh was.stream) mid.stream =
+      subst (λ s. EndsIn reports traffic moment s was.stream mid.stream) ready ends.stream in
+      (mid, is ∙ ap (λ b. cond b None (Some mid)) lasts, ready, ended_heavy was.stream mid.stream finished)
 
   -- as it is passed over
   passed : (entry : Entry (BufferedStream T)) → entry.state ≡ Ready
       → (after : Entry (BufferedStream T)) × (after_turn None (Some entry) ≡ Some after) × (after.state ≡ Idle) × (after.stream.share ≡ 0)
+      × (is_heavy after.stream ≡ true)
   passed entry ready =
-      let after : Entry (BufferedStream T) = record entry { state = Idle; stream = record entry.stream { share = 0 } } in
-      (after, ap (λ s. Some (in_turn s None entry)) ready, refl, refl)
+      let after : Entry (BufferedStream T) = record entry { state = Idle; stream = passed_over entry.stream } in
+      (after, ap (λ s. Some (in_turn s None entry)) ready, refl, refl, grind (arith, nat_tests))
 
   driven : (bytes : ℕ) (entry : Entry (BufferedStream T)) → entry.state ≡ Ready → is_ready_slot (after_turn (Some bytes) (Some entry)) ≡ true
   driven bytes entry ready = ap (λ s. is_ready (in_turn s (Some bytes) entry).state) ready ∙ ap is_ready ready
@@ -218,10 +301,13 @@ module _ {D : Type 0} {g : Ghosts D} (reports : Type 0) (traffic : Socket
       ap (λ (t : Slab (Entry (BufferedStream Socket))). slot_at t.slots key) turn.rests.table ∙ each_stays accepts.became.0 key entry e
   accepted_stays false untouched entry e = ap (λ (t : Slab (Entry (BufferedStream Socket))). slot_at t.slots key) (turn.rests.table ∙ untouched.table) ∙ e
 
-  -- one that was passed over is ready at the end
+  abbrev IsStillReady : Type 0
+  IsStillReady = (is_ready_slot (slot_at new.table.slots key) ≡ true) × (takes_turns (slot_at new.table.slots key) ≡ true)
+
+  -- one that was passed over is ready at the end, and takes turns from now on
   still_ready : (was : Entry (BufferedStream Socket)) → slot_at turn.drives.ready key ≡ Some was → was.state ≡ Idle → was.stream.share ≡ 0
-      → is_ready_slot (slot_at new.table.slots key) ≡ true
-  still_ready was e idle none =
+      → is_heavy was.stream ≡ true → IsStillReady
+  still_ready was e idle none heavy =
       seen_after (hlevel props) old.stands turn.drives.drives.leads (λ h k was_stood stands d.
       let there : slot_at turn.drives.driven key ≡ Some was =
       idle_stays reports (traffic_through traffic) h turn.drives.ready k turn.drives.driven d key was e idle in
@@ -229,35 +315,46 @@ module _ {D : Type 0} {g : Ghosts D} (reports : Type 0) (traffic : Socket
       (subst (λ slot. EndsTurn reports traffic (g.moment (device turn.driven.hub)) slot (slot_at turn.driven.table.slots key)) there (turn.drives.ended key))
       idle
       none in
-      ap is_ready_slot (accepted_stays (accepts_now old.backlog (items new.poller.events)) turn.accepts ended.0 ended.1) ∙ ap is_ready ended.2)
+      let stays = accepted_stays (accepts_now old.backlog (items new.poller.events)) turn.accepts ended.0 ended.1 in
+      (ap is_ready_slot stays ∙ ap is_ready ended.2, ap takes_turns stays ∙ ap (nat_lt 0) ended.3 ∙ heavy))
 
   abbrev Soon : Type 0
   Soon = (is_ready_slot (slot_at turn.drives.ready key) ≡ true)
-      ⊎ ((behind new.turns.next key < behind old.turns.next key) × (is_ready_slot (slot_at new.table.slots key) ≡ true))
+      ⊎ ((is_ready_slot (slot_at new.table.slots key) ≡ true)
+      × ((behind new.turns.next key < behind old.turns.next key) ⊎ IsPutOff old.hub polled (slot_at new.table.slots key)))
 
   module _ (nearer : (waits : ℕ → Bool) (last next key : ℕ)
       → ComesNearer waits last next key) (entry : Entry (BufferedStream Socket)) (is : polled ≡ Some entry) (ready : entry.state ≡ Ready) (place : key
       < 128) where
-    turned : slot_at turn.drives.ready key ≡ after_turn (share_at old.hub turn.driven.turns key (Some entry)) (Some entry)
-    turned = turn.drives.turned key ∙ ap (λ slot. after_turn (share_at old.hub turn.driven.turns key slot) slot) is
+    abbrev within : Bool
+    within = nat_lt (light_below old.hub (λ other. after_poll (items new.poller.events) other (slot_at old.table.slots other)) key) turn.driven.turns.width
 
-    by_share : (share : Option ℕ) → share_at old.hub turn.driven.turns key (Some entry) ≡ share → Soon
+    abbrev share : Option ℕ
+    share = share_in_turn old.hub turn.driven.turns within key entry
+
+    turned : slot_at turn.drives.ready key ≡ after_turn share (Some entry)
+    turned = turn.drives.turned key ∙ ap (λ slot. after_turn (share_of_slot old.hub turn.driven.turns within key slot) slot) is
+
+    by_share : (given : Option ℕ) → share ≡ given → Soon
     by_share (Some bytes) is_so =
         inl (ap is_ready_slot (turned ∙ ap (λ o. after_turn o (Some entry)) is_so) ∙ driven reports traffic 0 bytes entry ready)
     by_share None is_so =
-        let parts = none_shared (is_of_kind old.hub Any entry) (has_turn old.hub turn.driven.turns key entry) is_so in
-        let waits : waits_as old.hub Any polled ≡ true = ap (waits_as old.hub Any) is ∙ ap (λ s. is_ready s && is_of_kind old.hub Any entry) ready ∙ parts.0 in
-        let differs : (key == turn.driven.turns.next) ≡ false = not_first (key == turn.driven.turns.next) _ parts.1 in
         let after = passed reports traffic 0 entry ready in
-        let ends = still_ready after.0 (turned ∙ ap (λ o. after_turn o (Some entry)) is_so ∙ after.1) after.2 after.3 in
-        elim (nearer (λ other. waits_as old.hub Any (after_poll (items new.poller.events) other (slot_at old.table.slots other))) old.turns.next
-        turn.driven.turns.next key turn.drives.turn_of.next old.next_place place waits) [
-          | inl same ↦ absurd (apart key turn.driven.turns.next differs same)
-          | inr near ↦ inr (subst (λ (n : Turns). behind n.next key < behind old.turns.next key) (sym turn.turns_are) near, ends)
+        let ends = still_ready after.0 (turned ∙ ap (λ o. after_turn o (Some entry)) is_so ∙ after.1) after.2 after.3 after.4 in
+        elim (none_shared (is_of_kind old.hub Any entry) (has_turn old.hub turn.driven.turns key entry) within is_so) [
+          | inl parts ↦
+              let waits : waits_as old.hub Any polled ≡ true = ap (waits_as old.hub Any) is ∙ ap (λ s. is_ready s && is_of_kind old.hub Any entry) ready ∙ parts.0 in
+              let differs : (key == turn.driven.turns.next) ≡ false = not_first (key == turn.driven.turns.next) _ parts.1 in
+              elim (nearer (λ other. waits_as old.hub Any (after_poll (items new.poller.events) other (slot_at old.table.slots other))) old.turns.next
+              turn.driven.turns.next key turn.drives.turn_of.next old.next_place place waits) [
+                | inl same ↦ absurd (apart key turn.driven.turns.next differs same)
+                | inr near ↦ inr (ends.0, inl (subst (λ (n : Turns). behind n.next key < behind old.turns.next key) (sym turn.turns_are) near))
+              ]
+          | inr none ↦ inr (ends.0, inr (ap (takes_none old.hub) is ∙ none, ends.1))
         ]
 
     pub soon : IsDrivenSoon reports traffic old new turn key
-    soon = record { soon = by_share (share_at old.hub turn.driven.turns key (Some entry)) refl; bound = behind_few old.turns.next key place }
+    soon = record { soon = by_share share refl; bound = behind_few old.turns.next key place }
 
   -- who is ready once the poll reported stands at a place of the table
   polled_place : (entry : Entry (BufferedStream Socket)) → polled ≡ Some entry → key < 128

@@ -1,12 +1,12 @@
--- Which of the entries that are ready a turn drives: who has written nothing and was short, and of the others one that
--- writes, and one that reads.
-use Rattle.std.specs.Prelude.{◌≡◌, ◌⊎◌, ℕ, ◌+◌, ◌-◌, ◌<◌, ◌≤◌, ◌==◌, ◌&&◌, ◌||◌, nat_lt, not, Bool, true, false, cond}
-use Rattle.std.specs.Prelude.{Option, Some, None}
+-- Which of the entries that are ready a turn drives: so many that have written nothing and were short, and of the others
+-- one that writes, and one that reads.
+use Rattle.std.specs.Prelude.{◌≡◌, ◌⊎◌, ℕ, zero, suc, ◌+◌, ◌-◌, ◌*◌, ◌<◌, ◌≤◌, ◌==◌, ◌&&◌, ◌||◌, nat_le, nat_lt, max, min, not}
+use Rattle.std.specs.Prelude.{Bool, true, false, cond, Option, Some, None}
 use Rattle.sector.specs.declared.device.Sectors.{Ghosts}
 use Rattle.sessions.specs.StandsFor.{has_written}
 use Rattle.sessions.specs.declared.events.TheConstants.{SESSIONS_MAX}
 use Rattle.sessions.specs.declared.hub.Hub.{Hub}
-use Rattle.stream_driver.specs.Buffers.{in_turn_of}
+use Rattle.stream_driver.specs.Buffers.{in_turn_of, is_heavy, passed_over}
 use Rattle.stream_driver.specs.declared.buffered.BufferedStream.{BufferedStream}
 use Rattle.stream_driver.specs.declared.buffered.TheConstants.{LIGHT_MAX, SHARE_MAX}
 use Rattle.stream_driver.specs.declared.entries.Entry.{Entry}
@@ -15,6 +15,7 @@ use Rattle.stream_driver.specs.declared.entries.EntryState.TheVariants.{Idle, Re
 use Rattle.event_loop.specs.Tables.{is_ready}
 use Rattle.event_loop.specs.declared.order.Kind.{Kind}
 use Rattle.event_loop.specs.declared.order.Kind.TheVariants.{Any, Reader, Writer}
+use Rattle.event_loop.specs.declared.order.TheConstants.{WIDTH_MIN}
 use Rattle.event_loop.specs.declared.order.Turns.{Turns}
 
 -- how many places a key stands behind another, round the 128 places of the table: from 1, and 128 behind itself
@@ -42,11 +43,11 @@ module _ {T D : Type 0} {g : Ghosts D} (hub : Hub D g) where
   abbrev pub is_writer : Entry (BufferedStream T) → Bool
   is_writer entry = has_written hub entry.session || entry.stream.is_writer
 
-  -- of those that take turns: all, those that write, and the others, whose last drive was heavy
+  -- of those that take turns: all, those that write, and the others, whose streams are heavy
   abbrev pub is_of_kind : Kind → Entry (BufferedStream T) → Bool
-  is_of_kind Any entry = is_writer entry || entry.stream.is_heavy
+  is_of_kind Any entry = is_writer entry || is_heavy entry.stream
   is_of_kind Writer entry = is_writer entry
-  is_of_kind Reader entry = not (is_writer entry) && entry.stream.is_heavy
+  is_of_kind Reader entry = not (is_writer entry) && is_heavy entry.stream
 
   -- is it of this kind, and is it to be driven?
   abbrev pub waits_as : Kind → Option (Entry (BufferedStream T)) → Bool
@@ -61,15 +62,34 @@ module _ {T D : Type 0} {g : Ghosts D} (hub : Hub D g) where
   abbrev pub has_turn : Turns → ℕ → Entry (BufferedStream T) → Bool
   has_turn turns key entry = key == turns.next || (key == turns.beside && is_of_kind turns.kind entry)
 
-  -- how many bytes it may be sent in this turn: a light share where it takes no turns, a whole one where it has this,
-  -- and none where this is another's
-  abbrev pub share_in_turn : Turns → ℕ → Entry (BufferedStream T) → Option ℕ
-  share_in_turn turns key entry =
-      cond (is_of_kind Any entry) (cond (has_turn turns key entry) (Some SHARE_MAX) None) (Some LIGHT_MAX)
+  -- one that is to be driven and takes no turns counts
+  abbrev pub light_in : Option (Entry (BufferedStream T)) → ℕ
+  light_in None = 0
+  light_in (Some entry) = cond (is_ready entry.state && not (is_of_kind Any entry)) 1 0
 
-  abbrev pub share_at : Turns → ℕ → Option (Entry (BufferedStream T)) → Option ℕ
-  share_at turns key None = None
-  share_at turns key (Some entry) = share_in_turn turns key entry
+  -- how many of these are below a key
+  abbrev pub light_below : (ℕ → Option (Entry (BufferedStream T))) → ℕ → ℕ
+  light_below slots zero = 0
+  light_below slots (suc key) = light_below slots key + light_in (slots key)
+
+  -- How many bytes it may be sent in this turn: a whole share where it takes turns and has this, a light one where it
+  -- takes none and is among as many as the turn is wide, and none where it is passed over.
+  abbrev pub share_in_turn : Turns → (is_within : Bool) → ℕ → Entry (BufferedStream T) → Option ℕ
+  share_in_turn turns is_within key entry =
+      cond (is_of_kind Any entry) (cond (has_turn turns key entry) (Some SHARE_MAX) None)
+      (cond is_within (Some LIGHT_MAX) None)
+
+  abbrev pub share_of_slot : Turns → (is_within : Bool) → ℕ → Option (Entry (BufferedStream T)) → Option ℕ
+  share_of_slot turns is_within key None = None
+  share_of_slot turns is_within key (Some entry) = share_in_turn turns is_within key entry
+
+  abbrev pub share_at : Turns → (ℕ → Option (Entry (BufferedStream T))) → ℕ → Option ℕ
+  share_at turns slots key = share_of_slot turns (nat_lt (light_below slots key) turns.width) key (slots key)
+
+  -- it took no turns
+  abbrev pub takes_none : Option (Entry (BufferedStream T)) → Bool
+  takes_none None = false
+  takes_none (Some entry) = not (is_of_kind Any entry)
 
   -- The turns of the entries at these keys: the next has one, and beside it the next of the other kind. So one at most
   -- that writes has one.
@@ -78,16 +98,28 @@ module _ {T D : Type 0} {g : Ghosts D} (hub : Hub D g) where
     pub kind : turns.kind ≡ cond (writes_in (slots turns.next)) Reader Writer
     pub beside : HasNextTurn (λ key. waits_as turns.kind (slots key)) last.beside turns.beside
 
+-- How wide a turn is after one so wide, that might have driven so many more, and in which so many turned out heavy.
+abbrev pub width_after : (width unused heavy : ℕ) → ℕ
+width_after width unused heavy =
+    cond (nat_le WIDTH_MIN heavy) WIDTH_MIN
+    (cond (unused == 0 && heavy == 0) (min (width + 1) SESSIONS_MAX)
+    (max (cond (nat_lt ((width - unused) * 4) width) (width - 1) width) WIDTH_MIN))
+
 -- is it to be driven?
 abbrev pub is_ready_slot : {T : Type 0} → Option (Entry T) → Bool
 is_ready_slot None = false
 is_ready_slot (Some entry) = is_ready entry.state
 
 module _ {T : Type 0} where
+  -- it takes turns from now on, since its stream is heavy
+  abbrev pub takes_turns : Option (Entry (BufferedStream T)) → Bool
+  takes_turns None = false
+  takes_turns (Some entry) = is_heavy entry.stream
+
   -- an entry that is ready has its share of the turn; or it is passed over, and waits with none
   abbrev pub in_turn : EntryState → Option ℕ → Entry (BufferedStream T) → Entry (BufferedStream T)
   in_turn Ready (Some bytes) entry = record entry { stream = in_turn_of bytes entry.stream }
-  in_turn Ready None entry = record entry { state = Idle; stream = record entry.stream { share = 0 } }
+  in_turn Ready None entry = record entry { state = Idle; stream = passed_over entry.stream }
   in_turn Idle share entry = entry
   in_turn Gone share entry = entry
 

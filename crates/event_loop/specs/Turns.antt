@@ -31,7 +31,7 @@ use Rattle.stream_driver.specs.declared.entries.EntryState.TheVariants.{Gone, Re
 use Rattle.event_loop.specs.Accepts.{Accepts, AsksOnce}
 use Rattle.event_loop.specs.Leavings.{EndAll, LingerOn}
 use Rattle.event_loop.specs.Lingerings.{lingers_in, unless_failed}
-use Rattle.event_loop.specs.Order.{AreNext, after_turn, behind, is_ready_slot, share_at}
+use Rattle.event_loop.specs.Order.{AreNext, after_turn, behind, is_ready_slot, share_at, takes_none, takes_turns}
 use Rattle.event_loop.specs.Progress.{GetsOn, UsesTurn}
 use Rattle.event_loop.specs.Polls.{WasAskedOnce, after_wait, polls_of}
 use Rattle.event_loop.specs.Sockets.{IsNewSocket, SocketsReport, all_interests}
@@ -47,10 +47,11 @@ use Rattle.event_loop.specs.declared.server.EventLoop.{EventLoop}
 use Rattle.event_loop.specs.declared.server.TheConstants.{LISTENER}
 use Rattle.event_loop.specs.declared.socket.Socket.{Socket}
 
--- a slot is ready as the poll reported, with its share of the turn, unless it takes turns and this is another's
-abbrev pub IsTurnOf : {T D : Type 0} {g : Ghosts D} → Hub D g → Turns → ℕ
-    → (polled ready : Option (Entry (BufferedStream T))) → Type 0
-IsTurnOf hub turns key polled ready = ready ≡ after_turn (share_at hub turns key polled) polled
+-- a slot is ready as the poll reported, with its share of the turn, unless it takes turns and this is another's, or takes
+-- none and more others do than the turn is wide
+abbrev pub IsTurnOf : {T D : Type 0} {g : Ghosts D} → Hub D g → Turns → (polled : ℕ
+    → Option (Entry (BufferedStream T))) → ℕ → (ready : Option (Entry (BufferedStream T))) → Type 0
+IsTurnOf hub turns polled key ready = ready ≡ after_turn (share_at hub turns polled key) (polled key)
 
 -- The drives of a turn in which the poll reported these events. The entries that waited and that it reported became
 -- ready. Of those that are ready and take turns, one that writes and one that reads at most have this one, and the
@@ -62,7 +63,8 @@ pub record DrivesReady {T D : Type 0} {g : Ghosts D} (reports : Type 0) (traffic
     (next : Turns) (later : Hub D g) (new : List (Option (Entry (BufferedStream T)))) : Type 0 where
   pub turn_of : AreNext hub (λ key. after_poll events key (slot_at slots key)) last next
   pub ready : List (Option (Entry (BufferedStream T)))
-  pub turned : (key : ℕ) → IsTurnOf hub next key (after_poll events key (slot_at slots key)) (slot_at ready key)
+  pub turned : (key : ℕ) → IsTurnOf hub next (λ other. after_poll events other (slot_at slots other)) key
+      (slot_at ready key)
   pub driven : List (Option (Entry (BufferedStream T)))
   pub drives : DrivesAnswering (traffic_through traffic) reports hub ready later driven
       (λ h k. DrivenAll reports (traffic_through traffic) h ready k driven)
@@ -87,6 +89,7 @@ pub record IsUntouched {D : Type 0} {g : Ghosts D} (old new : EventLoop D g) : T
   pub lingering : new.lingering ≡ old.lingering
   pub refused : new.refused ≡ old.refused
   pub turns : new.turns ≡ old.turns
+  pub next_width : new.next_width ≡ old.next_width
 
 -- no event came to the hub; and but for it and for whether garbage is left all is as it was
 pub record Rests {D : Type 0} {g : Ghosts D} (old new : EventLoop D g) : Type 0 where
@@ -167,15 +170,24 @@ abbrev pub TurnsAreRuns : {D : Type 0} {g : Ghosts D} → Type 0 → (Socket →
 TurnsAreRuns {D} {g} reports traffic events = (old new : EventLoop D g) → IsTurn reports traffic old new
     → HasRun old.hub new.hub
 
--- In a turn a session that is ready once the poll reported is driven, or it is ready still at the end of the turn, and
--- the next of those that take turns is nearer to it: by at least one place of the 128 of the table.
+-- It took no turns, and there were as many others as the turn is wide: it takes them from now on.
+abbrev pub IsPutOff : {T D : Type 0} {g : Ghosts D} → Hub D g → (polled new : Option (Entry (BufferedStream T)))
+    → Type 0
+IsPutOff hub polled new = (takes_none hub polled ≡ true) × (takes_turns new ≡ true)
+
+-- In a turn a session that is ready once the poll reported is driven, or it is ready still at the end of the turn. Then
+-- the next of those that take turns is nearer to it, by at least one place of the 128 of the table; or it takes turns
+-- from now on, which it didn't.
 pub record IsDrivenSoon {D : Type 0} {g : Ghosts D} (reports : Type 0) (traffic : Socket
     → Traffic) (old new : EventLoop D g) (turn : IsTurn reports traffic old new) (key : ℕ) : Type 0 where
   pub soon : (is_ready_slot (slot_at turn.drives.ready key) ≡ true)
-      ⊎ ((behind new.turns.next key < behind old.turns.next key) × (is_ready_slot (slot_at new.table.slots key) ≡ true))
+      ⊎ ((is_ready_slot (slot_at new.table.slots key) ≡ true)
+      × ((behind new.turns.next key < behind old.turns.next key)
+      ⊎ IsPutOff old.hub (after_poll (items new.poller.events) key (slot_at old.table.slots key))
+      (slot_at new.table.slots key)))
   pub bound : behind old.turns.next key ≤ SESSIONS_MAX
 
--- so it is of each session, in each turn: so each is driven within 128 turns
+-- so it is of each session, in each turn: so each is driven within 129 turns
 abbrev pub EachHasItsTurn : {D : Type 0} {g : Ghosts D} → Type 0 → (Socket → Traffic) → EventLoop D g → Type 0
 EachHasItsTurn {D} {g} reports traffic events =
     (old new : EventLoop D g) (turn : IsTurn reports traffic old new) (key : ℕ)

@@ -1,13 +1,18 @@
 //! Fairness: which of the sessions that are ready are driven in a turn.
 //!
-//! A COMMIT that writes waits for its syncs, and a long reply takes its time, and so does everybody meanwhile. So a turn drives all
-//! sessions that have written nothing and whose last drive was short, with a light share of it: who needs more takes turns from then on.
+//! A COMMIT that writes waits for its syncs, and a long reply takes its time, and so does everybody meanwhile. So a turn drives the
+//! sessions that have written nothing and whose last drives were short, with a light share of it: who needs more takes turns from then on.
 //! Of the others it drives two at most, with a whole share: the next by key, round the table, and one of the other kind, a reader if the
 //! next is a writer, and a writer if it is a reader. So between two polls one session writes at most, and one reads much. Each that waits
 //! is driven within as many turns as the table has places.
-ghost use Rattle.std.specs.Prelude.{◌≡◌, ◌<◌, ◌≤◌, ℕ, Bool};
+//!
+//! What a request takes isn't known before it was served. So of those that take no turns a turn drives as many as its width, and the rest
+//! are passed over and take turns until they have had one: who becomes ready later doesn't wait for them. The width grows while none of
+//! them turns out heavy, as the window of TCP does (Jacobson, Congestion Avoidance and Control, 1988), and falls where several do.
+ghost use Rattle.std.specs.Prelude.{◌≡◌, ◌-◌, ◌<◌, ◌≤◌, nat_lt, ℕ, Bool, Some};
 ghost use Rattle.event_loop.specs.Order.{AreNext, ComesNearer, HasNextTurn, after_turn, behind, has_turn, in_turn};
-ghost use Rattle.event_loop.specs.Order.{is_of_kind, is_writer, share_at, share_in_turn, waits_as, writes_in};
+ghost use Rattle.event_loop.specs.Order.{is_of_kind, is_writer, light_in, share_at, share_in_turn, waits_as};
+ghost use Rattle.event_loop.specs.Order.{width_after, writes_in};
 ghost use Rattle.event_loop.specs.Tables.{slot_at};
 
 use crate::socket::Socket;
@@ -16,6 +21,9 @@ use sessions::{Hub, SESSIONS_MAX};
 use slab::Slab;
 use stream_driver::{BufferedStream, Entry, EntryState, LIGHT_MAX, SHARE_MAX};
 
+/// How many of those that take no turns a turn drives at least, where so many are ready; and how many that turn out heavy make it so few.
+pub const WIDTH_MIN: usize = 2;
+
 /// The sessions that take turns.
 #[derive(Clone, Copy, PartialEq, Eq, Debug)]
 pub enum Kind {
@@ -23,11 +31,11 @@ pub enum Kind {
     Any,
     /// Those that write: whose open transaction has written, or who was answered last in a drive that appended a record.
     Writer,
-    /// The others: whose last drive was heavy.
+    /// The others: whose streams are heavy.
     Reader,
 }
 
-/// Who of those that take turns has this one.
+/// Who of those that take turns has this one, and how many of the others.
 #[derive(Clone, Copy, PartialEq, Eq, Debug)]
 pub struct Turns {
     /// The key of the first that waits behind the one of the last turn, round the table.
@@ -36,17 +44,21 @@ pub struct Turns {
     pub kind: Kind,
     /// The key of the first of that kind behind the one that had a turn so last.
     pub beside: usize,
+    /// How many of those that are ready and take no turns are driven, those with the least keys.
+    pub width: usize,
 }
 
 impl Turns {
     /// Before the first turn. Takes no memory.
     pub(crate) fn new() -> Turns
-        ensures { (result.next < SESSIONS_MAX) × (result.beside < SESSIONS_MAX) }
+        ensures places { (result.next < SESSIONS_MAX) × (result.beside < SESSIONS_MAX) }
+        ensures width { result.width ≡ WIDTH_MIN }
     {
         Turns {
             next: 0,
             kind: Kind::Writer,
             beside: 0,
+            width: WIDTH_MIN,
         }
     }
 }
@@ -135,16 +147,18 @@ fn next_in_turn<D: Sectors>(
     last
 }
 
-/// Who has this turn, after those that had the last. Takes no memory.
+/// Who has this turn, after those that had the last, and of those that take no turns so many. Takes no memory.
 pub(crate) fn next_turns<D: Sectors>(
     hub: &Hub<D>,
     table: &Slab<Entry<BufferedStream<Socket>>>,
     last: Turns,
+    width: usize,
 ) -> Turns
     requires next { last.next < SESSIONS_MAX }
     requires beside { last.beside < SESSIONS_MAX }
     ensures next { AreNext hub.now (slot_at table.now.slots) last result }
     ensures places { (result.next < SESSIONS_MAX) × (result.beside < SESSIONS_MAX) }
+    ensures width { result.width ≡ width }
 {
     let next = next_in_turn(hub, table, Kind::Any, last.next);
     let kind = if writes_at(hub, table, next) {
@@ -156,6 +170,7 @@ pub(crate) fn next_turns<D: Sectors>(
         next,
         kind,
         beside: next_in_turn(hub, table, kind, last.beside),
+        width,
     }
 }
 
@@ -171,18 +186,19 @@ fn has_turn<D: Sectors>(
     key == turns.next || (key == turns.beside && is_of_kind(hub, turns.kind, entry))
 }
 
-// How many bytes it may be sent in this turn: a light share where it takes no turns, a whole one where it has this, and `None` where this
-// is another's.
+// How many bytes it may be sent in this turn: a whole share where it takes turns and has this, a light one where it takes none and the
+// turn is wide enough, and `None` where it is passed over.
 fn share_in_turn<D: Sectors>(
     hub: &Hub<D>,
     turns: Turns,
+    is_within: bool,
     key: usize,
     entry: &Entry<BufferedStream<Socket>>,
 ) -> Option<usize>
-    ensures { result ≡ share_in_turn hub.now turns key entry.now }
+    ensures { result ≡ share_in_turn hub.now turns is_within key entry.now }
 {
     if !is_of_kind(hub, Kind::Any, entry) {
-        return Some(LIGHT_MAX);
+        return if is_within { Some(LIGHT_MAX) } else { None };
     }
     if has_turn(hub, turns, key, entry) {
         Some(SHARE_MAX)
@@ -191,42 +207,88 @@ fn share_in_turn<D: Sectors>(
     }
 }
 
-// An entry that is ready has its share of the turn, or is passed over.
+// An entry that is ready has its share of the turn, or is passed over. How many more of those that take no turns the turn may drive.
 fn take_turn<D: Sectors>(
     hub: &Hub<D>,
     turns: Turns,
+    left: usize,
     key: usize,
     entry: &mut Entry<BufferedStream<Socket>>,
-)
-    ensures { entry.new ≡ in_turn entry.old.state (share_in_turn hub.now turns key entry.old) entry.old }
+) -> usize
+    ensures taken { entry.new
+        ≡ in_turn entry.old.state (share_in_turn hub.now turns (nat_lt 0 left) key entry.old) entry.old }
+    ensures left { result ≡ left - light_in hub.now (Some entry.old) }
 {
     if entry.state != EntryState::Ready {
-        return;
+        return left;
     }
-    match share_in_turn(hub, turns, key, entry) {
+    let is_light = !is_of_kind(hub, Kind::Any, entry);
+    match share_in_turn(hub, turns, left > 0, key, entry) {
         Some(bytes) => entry.stream.begin_turn(bytes),
         None => {
             entry.state = EntryState::Idle;
             entry.stream.pass_over();
         }
     }
+    if is_light {
+        left.saturating_sub(1)
+    } else {
+        left
+    }
 }
 
-/// Passes over the entries that take turns but for those whose turn it is: they aren't ready in this turn, and are again at its end. The
-/// others have their shares of the turn. Takes no memory.
+/// Passes over the entries that take turns but for those whose turn it is, and over those that take none but for as many as the turn is
+/// wide: they aren't ready in this turn, and are again at its end. The others have their shares of the turn. How many more of those that
+/// take no turns it might drive. Takes no memory.
 pub(crate) fn take_turns<D: Sectors>(
     hub: &Hub<D>,
     turns: Turns,
     table: &mut Slab<Entry<BufferedStream<Socket>>>,
-)
+) -> usize
     ensures { (key : ℕ) → slot_at table.new.slots key
-        ≡ after_turn (share_at hub.now turns key (slot_at table.old.slots key)) (slot_at table.old.slots key) }
+        ≡ after_turn (share_at hub.now turns (slot_at table.old.slots) key) (slot_at table.old.slots key) }
 {
+    let mut left = turns.width;
     for key in 0..table.capacity() {
         if let Some(entry) = table.get_mut(key) {
-            take_turn(hub, turns, key, entry);
+            left = take_turn(hub, turns, left, key, entry);
         }
     }
+    left
+}
+
+/// How many streams are heavy. Takes no memory.
+pub(crate) fn heavy_streams(table: &Slab<Entry<BufferedStream<Socket>>>) -> usize {
+    let mut count: usize = 0;
+    for (_key, entry) in table.iter() {
+        if entry.stream.is_heavy() {
+            count = count.saturating_add(1);
+        }
+    }
+    count
+}
+
+/// How wide the next turn is, after one so wide that might have driven so many more of those that take no turns, and in which so many
+/// streams turned out heavy: as narrow as may be where these were several. It is wider by one where this one was used up and none of them
+/// turned out heavy, and narrower by one where less than a quarter of it was used. Takes no memory.
+pub(crate) fn next_width(width: usize, unused: usize, heavy: usize) -> usize
+    requires width { (WIDTH_MIN ≤ width) × (width ≤ SESSIONS_MAX) }
+    ensures is { result ≡ width_after width unused heavy }
+    ensures some { WIDTH_MIN ≤ result }
+    ensures few { result ≤ SESSIONS_MAX }
+{
+    if heavy >= WIDTH_MIN {
+        return WIDTH_MIN;
+    }
+    if unused == 0 && heavy == 0 {
+        return (width + 1).min(SESSIONS_MAX);
+    }
+    let narrower = if width.saturating_sub(unused) * 4 < width {
+        width.saturating_sub(1)
+    } else {
+        width
+    };
+    narrower.max(WIDTH_MIN)
 }
 
 /// Does nothing, and takes no memory. Its contract says that a key that waits is the next, or comes nearer.

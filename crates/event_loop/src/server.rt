@@ -5,6 +5,7 @@ ghost use Rattle.sessions.specs.declared.events.TheConstants.{SESSIONS_MAX};
 ghost use Rattle.stream_driver.specs.Sessions.{Stands};
 ghost use Rattle.stream_driver.specs.Entries.{HaveSessions};
 ghost use Rattle.event_loop.specs.declared.lingering.TheConstants.{LINGERING_MAX};
+ghost use Rattle.event_loop.specs.declared.order.TheConstants.{WIDTH_MIN};
 ghost use Rattle.event_loop.specs.Departures.{IsServing};
 ghost use Rattle.event_loop.specs.Numbers.{SessionsAreBelow, HavePlaces};
 ghost use Rattle.event_loop.specs.Peers.{AreRested, LackNothing};
@@ -16,7 +17,9 @@ use crate::connections::{
 use crate::lingering::Lingering;
 use crate::listener::Port;
 use crate::listening::{Listening, Unbound};
-use crate::order::{Turns, law_each_comes_nearer, next_turns, take_turns};
+use crate::order::{
+    Turns, WIDTH_MIN, heavy_streams, law_each_comes_nearer, next_turns, next_width, take_turns,
+};
 use crate::polling::Poller;
 use crate::socket::Socket;
 use crate::waiting::longest_wait;
@@ -53,6 +56,8 @@ pub struct EventLoop<D: Sectors> {
     refused: u64,
     /// Who of those that take turns had the last.
     turns: Turns,
+    /// How many of those that take no turns the next one drives.
+    next_width: usize,
     /// A block that is asked for again at the end of each turn. The C library (glibc's `malloc_consolidate`) joins its small free blocks
     /// where it is asked for 1,024 bytes or more: so each turn has it join what its own step freed, and no request pays for many.
     spare: Option<Vec<u8>>,
@@ -68,6 +73,8 @@ pub struct EventLoop<D: Sectors> {
     ghost rested: { AreRested table.slots },
     ghost next_place: { turns.next < SESSIONS_MAX },
     ghost beside_place: { turns.beside < SESSIONS_MAX },
+    ghost width: { (WIDTH_MIN ≤ turns.width) × (turns.width ≤ SESSIONS_MAX) },
+    ghost width_next: { (WIDTH_MIN ≤ next_width) × (next_width ≤ SESSIONS_MAX) },
 }
 
 impl<D: Sectors> EventLoop<D> {
@@ -115,6 +122,7 @@ impl<D: Sectors> EventLoop<D> {
                 next: 0,
                 refused: 0,
                 turns: Turns::new(),
+                next_width: WIDTH_MIN,
                 spare: None,
                 table: Slab::new(alloc),
             }),
@@ -146,14 +154,18 @@ impl<D: Sectors> EventLoop<D> {
     /// One turn: polls, drives each session that is ready and whose turn it is once, writes what their streams buffer, takes out those that
     /// have left and buffer nothing, and accepts at most 128 connections, which the next turn drives.
     ///
-    /// It is the turn of each that has written nothing and whose last drive was short, of one at most that writes, and of one at most whose
-    /// last drive was heavy, as it took `LIGHT_MAX` bytes. So nobody waits for more than one of each, and for what the others have of the
-    /// turn: `LIGHT_MAX` bytes each, and `SHARE_MAX` for these two. Those write whose open transaction has written, or who were answered
-    /// last in a drive that appended a record. Of the two kinds together the next by key, round the table, has its turn, and beside it one
-    /// of the other kind; the rest are ready in the next turn, which doesn't wait. So each is driven within as many turns as the table has
-    /// places (`law_each_has_its_turn`). An append ends the share of its stream, so what
-    /// comes behind it in one piece waits for a turn as well. So a turn appends one record at most for the one that writes, and one for
-    /// each other that comes with a whole transaction in one piece: from then on it writes, until a drive answers it and appends nothing.
+    /// It is the turn of those that have written nothing and whose last drives were short, of one at most that writes, and of one at most
+    /// whose stream is heavy (`BufferedStream`). So nobody waits for more than one of each, and for what the others have of the turn:
+    /// `LIGHT_MAX` bytes each, and `SHARE_MAX` for these two. Those write whose open transaction has written, or who were answered last in a
+    /// drive that appended a record. Of the two kinds together the next by key, round the table, has its turn, and beside it one of the
+    /// other kind; the rest are ready in the next turn, which doesn't wait. So each is driven within as many turns as the table has places,
+    /// and one (`law_each_has_its_turn`). An append ends the share of its stream, so what comes behind it in one piece waits for a turn as
+    /// well. So a turn appends one record at most for the one that writes, and one for each other that comes with a whole transaction in one
+    /// piece: from then on it writes, until a drive answers it and appends nothing.
+    ///
+    /// Of those that take no turns it drives as many as it is wide, `WIDTH_MIN` at least, with the least keys. The others take turns until
+    /// they have had one. It is wider after a turn that drove as many as it might, and as narrow as may be after one in which several
+    /// streams turned out heavy. So a crowd whose first requests are all large waits in turns, and who comes after it doesn't wait for it.
     ///
     /// It drives before it accepts: so an event of this poll can't be taken for one of a connection that came since under the same key,
     /// and the places of those that left are free for those that come.
@@ -218,7 +230,7 @@ impl<D: Sectors> EventLoop<D> {
     {}
 
     /// Does nothing, and takes no memory. Its contract says that a session that is ready is driven within as many turns as the table has
-    /// places: in each turn it is driven, or it is ready still and comes nearer. And one that is driven gets on: it is served each request
+    /// places, and one: in each turn it is driven, or it is ready still and comes nearer, or takes turns from then on. And one that is driven gets on: it is served each request
     /// that had come in whole, or `REQUESTS_MAX`, or what it has had of the turn is its share of bytes or the reply to a request that
     /// appended a record; or its peer takes no more; or it leaves.
     ///
@@ -333,9 +345,12 @@ impl<D: Sectors> EventLoop<D> {
         ensures keeps { KeepBytes self.old.hub self.old.table.slots self.new.hub self.new.table.slots }
     {
         make_polled_ready(self.poller.events(), &mut self.table);
-        self.turns = next_turns(&self.hub, &self.table, self.turns);
-        take_turns(&self.hub, self.turns, &mut self.table);
+        self.turns = next_turns(&self.hub, &self.table, self.turns, self.next_width);
+        let unused = take_turns(&self.hub, self.turns, &mut self.table);
+        let heavy = heavy_streams(&self.table);
         drive_ready(&mut self.hub, &mut self.table);
+        let turned_out = heavy_streams(&self.table).saturating_sub(heavy);
+        self.next_width = next_width(self.turns.width, unused, turned_out);
         end_drives(
             self.hub.device(),
             self.poller.poll(),

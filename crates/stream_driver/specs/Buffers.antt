@@ -1,11 +1,12 @@
 -- A stream that buffers what is written to it, over an inner one.
 use Rattle.std.specs.Prelude.{◌≡◌, ◌⊎◌, ◌+◌, ◌-◌, ◌<◌, ◌≤◌, ◌==◌, ◌++◌, ◌||◌, ◌≢◌, ◌↔◌, ℕ, Bool, true, false, List}
-use Rattle.std.specs.Prelude.{[], ◌∷◌, take, drop, length, min, nat_le, vec_len}
+use Rattle.std.specs.Prelude.{[], ◌∷◌, cond, take, drop, length, max, min, nat_le, nat_lt, vec_len}
 use Rattle.stream_driver.specs.Counts.{counted, counted_with}
 use Rattle.stream_driver.specs.Traffic.{AllMoved, DepartAt, CountsLast, Share, Traffic, ReadsWithin, WritesWithin}
 use Rattle.stream_driver.specs.Traffic.{bytes_read, bytes_written, untouched}
 use Rattle.stream_driver.specs.Types.{Call, Read, Write, ReadAnswer, Moved, Blocked, Failed, Ended, WriteAnswer}
 use Rattle.stream_driver.specs.Types.{Wrote, WriteBlocked, WriteFailed, BufferedBytes, Flushed, All}
+use Rattle.stream_driver.specs.declared.buffered.TheConstants.{HEAVY_TURNS, LIGHT_MAX, LIGHT_WRITES}
 use Rattle.stream_driver.specs.Types.{FlushedBlocked as FlushBlocked, FlushedFailed as FlushFailed, BufferedStream}
 
 -- the bytes that are buffered
@@ -38,16 +39,39 @@ module _ {T : Type 0} where
     pub whole : b.whole ≡ 262144
     pub appended : b.appended ≡ false
     pub writer : b.is_writer ≡ false
-    pub heavy : b.is_heavy ≡ false
+    pub writes : b.writes ≡ 0
+    pub heavy : b.heavy_for ≡ 0
     pub counts : counted b.counts ≡ untouched
 
   -- the next drive may read, and has a share of its own
   abbrev pub fresh : BufferedStream T → BufferedStream T
   fresh b = record b { is_short = false; is_drained = false; share = 262144 }
 
+  -- is it heavy, for one more turn of its own at least?
+  abbrev pub is_heavy : BufferedStream T → Bool
+  is_heavy b = nat_lt 0 b.heavy_for
+
   -- a turn of its own begins, with a share of so many bytes
   abbrev pub in_turn_of : ℕ → BufferedStream T → BufferedStream T
-  in_turn_of bytes b = record b { share = bytes; whole = bytes; appended = false; is_heavy = false }
+  in_turn_of bytes b =
+      record b { share = bytes; whole = bytes; appended = false; writes = 0; heavy_for = b.heavy_for - 1 }
+
+  -- it is passed over in this turn, and heavy until a turn of its own has begun
+  abbrev pub passed_over : BufferedStream T → BufferedStream T
+  passed_over b = record b { share = 0; heavy_for = max b.heavy_for 1 }
+
+  -- in how many writes of this turn it has taken bytes, with this one; a u8
+  abbrev pub writes_with_one : BufferedStream T → ℕ
+  writes_with_one b = min (b.writes + 1) 255
+
+  -- So many bytes of its share, or so many writes, make a drive heavy, and the stream for some turns of its own.
+  abbrev pub heavy_for_after : BufferedStream T → ℕ
+  heavy_for_after b =
+      cond (nat_le LIGHT_MAX (b.whole - b.share) || nat_le LIGHT_WRITES (writes_with_one b)) HEAVY_TURNS b.heavy_for
+
+  -- what it notes once it has taken bytes
+  abbrev pub after_taking : BufferedStream T → BufferedStream T
+  after_taking b = record b { writes = writes_with_one b; heavy_for = heavy_for_after b }
 
   -- it has taken its share of this turn
   abbrev pub has_had_share : BufferedStream T → Bool
@@ -101,7 +125,8 @@ module _ {T : Type 0} where
     pub whole : new.whole ≡ old.whole
     pub appended : new.appended ≡ old.appended
     pub writer : new.is_writer ≡ old.is_writer
-    pub heavy : new.is_heavy ≡ old.is_heavy
+    pub writes : new.writes ≡ old.writes
+    pub heavy : new.heavy_for ≡ old.heavy_for
 
   pub record ReadsShort (old : BufferedStream T) (len : ℕ) (answer : ReadAnswer) (new : BufferedStream T) : Type 0 where
     pub short : ShortAfter old len answer new
@@ -115,11 +140,16 @@ module _ {T : Type 0} where
   is_drained_after WriteBlocked b = b.is_drained
   is_drained_after WriteFailed b = b.is_drained
 
-  -- 32,768 bytes of its share make a drive heavy
-  abbrev pub is_heavy_after : WriteAnswer → BufferedStream T → Bool
-  is_heavy_after (Wrote n) b = b.is_heavy || nat_le 32768 (b.whole - (b.share - n))
-  is_heavy_after WriteBlocked b = b.is_heavy
-  is_heavy_after WriteFailed b = b.is_heavy
+  -- what a write leaves of its turn
+  abbrev pub writes_after : WriteAnswer → BufferedStream T → ℕ
+  writes_after (Wrote n) b = writes_with_one b
+  writes_after WriteBlocked b = b.writes
+  writes_after WriteFailed b = b.writes
+
+  abbrev pub heavy_after : WriteAnswer → BufferedStream T → ℕ
+  heavy_after (Wrote n) b = heavy_for_after (record b { share = b.share - n })
+  heavy_after WriteBlocked b = b.heavy_for
+  heavy_after WriteFailed b = b.heavy_for
 
   -- a reply that isn't the one to an append, with which a share ends, is none of a writer
   abbrev pub is_writer_after : WriteAnswer → BufferedStream T → Bool
@@ -136,7 +166,8 @@ module _ {T : Type 0} where
     pub whole : new.whole ≡ old.whole
     pub appended : new.appended ≡ old.appended
     pub writer : new.is_writer ≡ is_writer_after answer old
-    pub heavy : new.is_heavy ≡ is_heavy_after answer old
+    pub writes : new.writes ≡ writes_after answer old
+    pub heavy : new.heavy_for ≡ heavy_after answer old
 
   -- Nothing of what is buffered has left, and whether it failed to leave is as it was; or some has, and it has not
   -- failed since.

@@ -14,6 +14,12 @@ pub const SHARE_MAX: usize = 262_144;
 /// A light share: that of a stream that takes no turns. A drive that takes so many bytes is heavy.
 pub const LIGHT_MAX: usize = 32_768;
 
+/// A drive that takes bytes in so many writes is heavy, too. Each reply is at least one.
+pub const LIGHT_WRITES: u8 = 48;
+
+/// For how many turns of its own a stream counts as heavy after a heavy drive, that of the drive included.
+pub const HEAVY_TURNS: u8 = 16;
+
 /// How the writing of what a stream buffers came out.
 #[derive(Clone, Copy, PartialEq, Eq, Debug)]
 pub enum Flushed {
@@ -42,8 +48,9 @@ pub enum Flushed {
 /// several turns.
 ///
 /// A drive that appends a record ends the share with the reply to it. From then on the stream is a writer's (`is_writer`), until it takes
-/// bytes in a turn of its own that no such drive has ended. That a drive took `LIGHT_MAX` bytes or more (`is_heavy`) is kept until a turn
-/// of its own begins.
+/// bytes in a turn of its own that no such drive has ended. A drive is heavy that takes `LIGHT_MAX` bytes, or bytes in `LIGHT_WRITES`
+/// writes. The stream is heavy (`is_heavy`) until `HEAVY_TURNS` turns of its own have begun since; and, where it was passed over, until one
+/// has.
 #[derive(Drop)]
 pub struct BufferedStream<S: Stream> {
     inner: S,
@@ -64,15 +71,17 @@ pub struct BufferedStream<S: Stream> {
     appended: bool,
     /// And so did the last in which it took bytes.
     is_writer: bool,
-    /// The last drive of a turn of its own took `LIGHT_MAX` bytes or more.
-    is_heavy: bool,
+    /// In how many writes it took bytes since the turn began.
+    writes: u8,
+    /// For how many more turns of its own it is heavy.
+    heavy_for: u8,
     counts: CallCounts,
 }
 
 impl<S: Stream> BufferedStream<S> {
     ghost use Rattle.std.specs.Prelude.{◌≡◌, ◌≢◌, ◌≤◌, ◌↔◌, [], IfOk, length, true};
     ghost use Rattle.stream_driver.specs.Buffers.{IsNew, fresh, has_had_share, in_turn_of, buffered_in};
-    ghost use Rattle.stream_driver.specs.Buffers.{is_flushed_or_failed};
+    ghost use Rattle.stream_driver.specs.Buffers.{after_taking, is_flushed_or_failed, is_heavy, passed_over};
     ghost use Rattle.stream_driver.specs.Buffers.{Finishes, Flushes, KeepsBytes, RoomFails, WhyRoom, WritesBuffered};
     ghost use Rattle.stream_driver.specs.Buffers.{GivesSome, TakesSome, WhyGave, WhyGaveSome, WhyTook, WhyTookSome};
     ghost use Rattle.stream_driver.specs.Traffic.{bytes_written};
@@ -93,7 +102,8 @@ impl<S: Stream> BufferedStream<S> {
             whole: SHARE_MAX,
             appended: false,
             is_writer: false,
-            is_heavy: false,
+            writes: 0,
+            heavy_for: 0,
             counts: CallCounts::new(),
         })
     }
@@ -143,11 +153,11 @@ impl<S: Stream> BufferedStream<S> {
         self.is_writer
     }
 
-    /// Did its last drive take `LIGHT_MAX` bytes or more? Takes no memory.
+    /// Is it heavy: was a drive so in one of its last turns, or was it passed over since the last? Takes no memory.
     pub fn is_heavy(&self) -> bool
-        ensures { result ≡ self.now.is_heavy }
+        ensures { result ≡ is_heavy self.now }
     {
-        self.is_heavy
+        self.heavy_for > 0
     }
 
     /// A turn of its own begins, with a share of so many bytes: no drive of it has appended a record yet, or taken much. Takes no memory.
@@ -157,14 +167,26 @@ impl<S: Stream> BufferedStream<S> {
         self.share = bytes;
         self.whole = bytes;
         self.appended = false;
-        self.is_heavy = false;
+        self.writes = 0;
+        self.heavy_for = self.heavy_for.saturating_sub(1);
     }
 
-    /// It is passed over in this turn, and so has no share of it. Takes no memory.
+    /// It is passed over in this turn: it has no share of it, and is heavy until a turn of its own has begun. Takes no memory.
     pub fn pass_over(&mut self)
-        ensures { self.new ≡ record self.old { share = 0 } }
+        ensures { self.new ≡ passed_over self.old }
     {
         self.share = 0;
+        self.heavy_for = self.heavy_for.max(1);
+    }
+
+    // It has taken bytes: in so many writes of this turn, and perhaps so many that the drive is heavy.
+    fn note_taken(&mut self)
+        ensures { self.new ≡ after_taking self.old }
+    {
+        self.writes = self.writes.saturating_add(1);
+        if LIGHT_MAX <= self.whole.saturating_sub(self.share) || LIGHT_WRITES <= self.writes {
+            self.heavy_for = HEAVY_TURNS;
+        }
     }
 
     // One write of what is buffered.
@@ -350,8 +372,8 @@ impl<S: Stream> Stream for BufferedStream<S> {
         if let WriteAnswer::Moved(n) = answer {
             self.is_drained = self.is_drained || self.is_short;
             self.share -= n;
-            self.is_heavy = self.is_heavy || LIGHT_MAX <= self.whole.saturating_sub(self.share);
             self.is_writer = self.appended;
+            self.note_taken();
         }
         self.counts.note_write(answer);
         answer

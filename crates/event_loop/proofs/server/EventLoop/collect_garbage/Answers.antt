@@ -34,6 +34,8 @@ invariant_of-self g c =
       rested = old.rested;
       next_place = old.next_place;
       beside_place = old.beside_place;
+      width = old.width;
+      width_next = old.width_next;
     }
 
 pub returns-clause-collects : goal.returns-clause-collects

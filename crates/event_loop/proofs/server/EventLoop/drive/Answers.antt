@@ -1,5 +1,7 @@
 use Rattle.event_loop.proofs.server.EventLoop.drive.Goals as goal
+use Rattle.std.proofs.Common.{◌≤◌, subst, sym}
 use Rattle.mio.specs.Events.{items}
+use Rattle.sessions.specs.declared.events.TheConstants.{SESSIONS_MAX}
 use Rattle.stream_driver.proofs.States.{leads_map, stands_after}
 use Rattle.event_loop.proofs.Departing.{drives_serve}
 use Rattle.event_loop.proofs.Entries.{driven_entries, ended_entries, ended_remain, polled_entries, polled_remain}
@@ -9,26 +11,27 @@ use Rattle.event_loop.proofs.Peers.{drives_use, drives_wait, ended_rested, leads
 use Rattle.event_loop.proofs.TableBytes.{drives_bytes}
 use Rattle.event_loop.proofs.Tables.{below_after}
 use Rattle.event_loop.specs.Sockets.{CameShort}
+use Rattle.event_loop.specs.declared.order.TheConstants.{WIDTH_MIN}
 use Rattle.event_loop.specs.contracts.socket.SocketStream.TheImpl.{ghosts}
 
 pub drive_ready-requires : goal.drive_ready-requires
 drive_ready-requires g c =
-    polled_sessions c.args.self.now.table.slots c.take_turns.new.table.slots (items c.events.result.now)
-    (turns_taken c.args.self.now.hub c.next_turns-self.result c.args.self.now.table.slots c.take_turns.new.table.slots (items c.events.result.now)
+    polled_sessions c.args.self.now.table.slots c.take_turns-unused.new.table.slots (items c.events.result.now)
+    (turns_taken c.args.self.now.hub c.next_turns-self.result c.args.self.now.table.slots c.take_turns-unused.new.table.slots (items c.events.result.now)
     (polled_turned c.args.self.now.hub c.args.self.now.turns c.next_turns-self.result c.args.self.now.table.slots c.make_polled_ready.new.table.slots
-    (items c.events.result.now) c.make_polled_ready.ensures c.take_turns.new.table.slots c.take_turns.ensures))
+    (items c.events.result.now) c.make_polled_ready.ensures c.take_turns-unused.new.table.slots c.take_turns-unused.ensures))
     c.args.self.now.hub c.args.self.now.sessions
 
 pub invariant_of-self : goal.invariant_of-self
 invariant_of-self g c =
     let old = c.args.self.now in
-    let ready = c.take_turns.new.table.slots in
+    let ready = c.take_turns-unused.new.table.slots in
     let driven = c.drive_ready.new.table.slots in
     let new = c.end_drives.new.table.slots in
     let later = c.drive_ready.new.hub in
     let events = items c.events.result.now in
     let turned = polled_turned old.hub old.turns c.next_turns-self.result old.table.slots c.make_polled_ready.new.table.slots events c.make_polled_ready.ensures
-    ready c.take_turns.ensures in
+    ready c.take_turns-unused.ensures in
     let turns = turns_taken old.hub c.next_turns-self.result old.table.slots ready events turned in
     let ended = c.end_drives.ensures.ended in
     record {
@@ -64,24 +67,26 @@ invariant_of-self g c =
       rested = ended_rested ghosts.reports ghosts.traffic _ driven new ended;
       next_place = c.next_turns-self.ensures.places.0;
       beside_place = c.next_turns-self.ensures.places.1;
+      width = subst (λ n. (WIDTH_MIN ≤ n) × (n ≤ SESSIONS_MAX)) (sym c.next_turns-self.ensures.width) old.width_next;
+      width_next = (c.next_width-self.ensures.some, c.next_width-self.ensures.few);
     }
 
 pub returns-clause-drives : goal.returns-clause-drives
 returns-clause-drives g c =
     let old = c.args.self.now in
     let turned = polled_turned old.hub old.turns c.next_turns-self.result old.table.slots c.make_polled_ready.new.table.slots (items old.poller.events)
-    (rw c.events.ensures at c.make_polled_ready.ensures) c.take_turns.new.table.slots c.take_turns.ensures in (
+    (rw c.events.ensures at c.make_polled_ready.ensures) c.take_turns-unused.new.table.slots c.take_turns-unused.ensures in (
       record {
         turn_of = polled_next old.hub old.turns c.next_turns-self.result old.table.slots c.make_polled_ready.new.table.slots (items old.poller.events)
             (rw c.events.ensures at c.make_polled_ready.ensures) c.next_turns-self.ensures.next;
-        ready = c.take_turns.new.table.slots;
+        ready = c.take_turns-unused.new.table.slots;
         turned = turned;
         driven = c.drive_ready.new.table.slots;
         drives = c.drive_ready.ensures.driven;
         appends = c.drive_ready.ensures.appends _;
-        uses = drives_use ghosts.traffic CameShort ghosts.reports old.table.slots c.take_turns.new.table.slots c.drive_ready.new.table.slots
+        uses = drives_use ghosts.traffic CameShort ghosts.reports old.table.slots c.take_turns-unused.new.table.slots c.drive_ready.new.table.slots
             (items old.poller.events)
-            (turns_taken old.hub c.next_turns-self.result old.table.slots c.take_turns.new.table.slots (items old.poller.events) turned) old.rested
+            (turns_taken old.hub c.next_turns-self.result old.table.slots c.take_turns-unused.new.table.slots (items old.poller.events) turned) old.rested
             c.drive_ready.ensures.waits (c.drive_ready.ensures.shares _);
         ended = rw c.device.ensures at c.end_drives.ensures.ended;
       },
@@ -91,11 +96,11 @@ returns-clause-drives g c =
 pub returns-clause-keeps : goal.returns-clause-keeps
 returns-clause-keeps g c =
     let old = c.args.self.now in
-    let ready = c.take_turns.new.table.slots in
+    let ready = c.take_turns-unused.new.table.slots in
     let events = items c.events.result.now in
     let turns = turns_taken old.hub c.next_turns-self.result old.table.slots ready events
     (polled_turned old.hub old.turns c.next_turns-self.result old.table.slots c.make_polled_ready.new.table.slots events c.make_polled_ready.ensures
-    ready c.take_turns.ensures) in
+    ready c.take_turns-unused.ensures) in
     let has_own = polled_sessions old.table.slots ready events turns old.hub old.sessions in
     leads_map old.hub c.drive_ready.new.hub _ _ c.drive_ready.ensures.driven.leads (λ h k stands d has.
     drives_bytes ghosts.reports ghosts.traffic _ old.table.slots ready c.drive_ready.new.table.slots c.end_drives.new.table.slots events turns has_own.own

@@ -15,4 +15,6 @@ invariant_of-self g c =
       rested = events.rested;
       next_place = events.next_place;
       beside_place = events.beside_place;
+      width = events.width;
+      width_next = events.width_next;
     }

@@ -13,9 +13,9 @@ use Rattle.stream_driver.specs.declared.answers.WriteAnswer.TheVariants.{Blocked
 pub returns-clause-moved : goal.returns-clause-moved
 returns-clause-moved g c = λ t.
     let inner : c.match-answer.self.inner ≡ c.take_in_share-answer.new.self.inner =
-    elim c.match-answer.branch [ in-Moved w ↦ ap (λ b. b.inner) w.self-is | in_default w ↦ ap (λ b. b.inner) w.self-is ] in
+    elim c.match-answer.branch [ in-Moved w ↦ ap (λ b. b.inner) (w.self-is ∙ w.note_taken.ensures) | in_default w ↦ ap (λ b. b.inner) w.self-is ] in
     let buffered : c.match-answer.self.buffered ≡ c.take_in_share-answer.new.self.buffered =
-    elim c.match-answer.branch [ in-Moved w ↦ ap (λ b. b.buffered) w.self-is | in_default w ↦ ap (λ b. b.buffered) w.self-is ] in
+    elim c.match-answer.branch [ in-Moved w ↦ ap (λ b. b.buffered) (w.self-is ∙ w.note_taken.ensures) | in_default w ↦ ap (λ b. b.buffered) w.self-is ] in
     let is : c.match-answer.answer ≡ c.take_in_share-answer.result = elim c.match-answer.branch [
       | in-Moved w ↦ w.answer-is ∙ sym w.in-Moved.is
       | in_default w ↦ w.answer-is
@@ -30,9 +30,9 @@ returns-clause-moved g c = λ t.
 pub returns-clause-answered : goal.returns-clause-answered
 returns-clause-answered g c =
     let inner : c.match-answer.self.inner ≡ c.take_in_share-answer.new.self.inner =
-    elim c.match-answer.branch [ in-Moved w ↦ ap (λ b. b.inner) w.self-is | in_default w ↦ ap (λ b. b.inner) w.self-is ] in
+    elim c.match-answer.branch [ in-Moved w ↦ ap (λ b. b.inner) (w.self-is ∙ w.note_taken.ensures) | in_default w ↦ ap (λ b. b.inner) w.self-is ] in
     let counts : c.match-answer.self.counts ≡ c.take_in_share-answer.new.self.counts =
-    elim c.match-answer.branch [ in-Moved w ↦ ap (λ b. b.counts) w.self-is | in_default w ↦ ap (λ b. b.counts) w.self-is ] in
+    elim c.match-answer.branch [ in-Moved w ↦ ap (λ b. b.counts) (w.self-is ∙ w.note_taken.ensures) | in_default w ↦ ap (λ b. b.counts) w.self-is ] in
     subst (λ k. Notes (Write c.match-answer.answer) k c.note_write.new.self) (counts
     ∙ c.take_in_share-answer.ensures.takes.counts) c.note_write.ensures _ _ [] [] _ [] _ _
     (ap (λ i. (g.S.Stream.traffic i).connection) inner
@@ -43,20 +43,20 @@ returns-clause-stays g c =
     let taken = c.take_in_share-answer.new.self in
     let takes = c.take_in_share-answer.ensures.takes in
     let inner : c.match-answer.self.inner ≡ taken.inner =
-    elim c.match-answer.branch [ in-Moved w ↦ ap (λ b. b.inner) w.self-is | in_default w ↦ ap (λ b. b.inner) w.self-is ] in
+    elim c.match-answer.branch [ in-Moved w ↦ ap (λ b. b.inner) (w.self-is ∙ w.note_taken.ensures) | in_default w ↦ ap (λ b. b.inner) w.self-is ] in
     let is : c.match-answer.answer ≡ c.take_in_share-answer.result = elim c.match-answer.branch [
       | in-Moved w ↦ w.answer-is ∙ sym w.in-Moved.is
       | in_default w ↦ w.answer-is
     ] in
     let shorter : c.match-answer.self.is_short ≡ taken.is_short =
-    elim c.match-answer.branch [ in-Moved w ↦ ap (λ b. b.is_short) w.self-is | in_default w ↦ ap (λ b. b.is_short) w.self-is ] in
+    elim c.match-answer.branch [ in-Moved w ↦ ap (λ b. b.is_short) (w.self-is ∙ w.note_taken.ensures) | in_default w ↦ ap (λ b. b.is_short) w.self-is ] in
     let on : c.match-answer.self.reads_on ≡ taken.reads_on =
-    elim c.match-answer.branch [ in-Moved w ↦ ap (λ b. b.reads_on) w.self-is | in_default w ↦ ap (λ b. b.reads_on) w.self-is ] in
+    elim c.match-answer.branch [ in-Moved w ↦ ap (λ b. b.reads_on) (w.self-is ∙ w.note_taken.ensures) | in_default w ↦ ap (λ b. b.reads_on) w.self-is ] in
     let drained : c.match-answer.self.is_drained ≡ true → (c.args.self.now.is_drained ≡ true) ⊎ (c.args.self.now.is_short ≡ true) = λ e.
     elim c.match-answer.branch [
       | in-Moved w ↦ elim w.if-self.branch [
         | then-self w' ↦ inl (sym takes.drained ∙ w'.if-self.true)
-        | else-self w' ↦ inr (sym takes.short ∙ sym w'.self-is ∙ sym (ap (λ b. b.is_drained) w.self-is) ∙ e)
+        | else-self w' ↦ inr (sym takes.short ∙ sym w'.self-is ∙ sym (ap (λ b. b.is_drained) (w.self-is ∙ w.note_taken.ensures)) ∙ e)
       ]
       | in_default w ↦ inl (sym takes.drained ∙ sym (ap (λ b. b.is_drained) w.self-is) ∙ e)
     ] in
