@@ -1,6 +1,7 @@
 -- Whose turn it is.
 use Rattle.std.proofs.Common.{◌≡◌, ◌⊎◌, inl, inr, ℕ, zero, suc, ◌<◌, ◌≤◌, ◌-◌, Bool, true, false, cond, not, List, []}
-use Rattle.std.proofs.Common.{◌∷◌, ◌+◌, ◌≢◌, Option, Some, None, set, refl, sym, ap, subst, ◌∙◌, arith, ◌==◌}
+use Rattle.std.proofs.Common.{◌∷◌, ◌+◌, ◌*◌, ◌/◌, ◌≢◌, Option, Some, None, set, refl, sym, ap, subst, ◌∙◌, arith}
+use Rattle.std.proofs.Common.{◌==◌}
 use Rattle.std.proofs.lemmas.Bool.{cases_eq, cases_Bool}
 use Rattle.std.proofs.lemmas.Bool.Decides.{nat_tests}
 use Rattle.std.proofs.lemmas.Grind.{common_steps}
@@ -30,8 +31,10 @@ use Rattle.event_loop.proofs.Entries.{Remain, no_entry}
 use Rattle.event_loop.proofs.Polled.{IsSome, TakesTurns, answered_as_it_was, put_there}
 use Rattle.event_loop.proofs.Slots.{Slots}
 use Rattle.event_loop.specs.Numbers.{HasTablePlace, HavePlaces, WasRegisteredAs}
-use Rattle.event_loop.specs.Order.{AreNext, ComesNearer, HasNextTurn, after_turn, behind, has_turn, in_turn, is_of_kind}
-use Rattle.event_loop.specs.Order.{is_ready_slot, light_below, light_in, share_at, share_in_turn, share_of_slot, takes_none}
+use Rattle.event_loop.specs.Order.{AreNext, ComesNearer, HasNextTurn, after_turn, behind, has_turn, in_turn}
+use Rattle.event_loop.specs.Order.{is_of_kind}
+use Rattle.event_loop.specs.Order.{is_ready_slot, light_below, light_in, share_at, share_in_turn, share_of_slot}
+use Rattle.event_loop.specs.Order.{takes_none}
 use Rattle.event_loop.specs.Order.{takes_turns, waits_as, writes_in}
 use Rattle.event_loop.specs.declared.order.Kind.TheVariants.{Any, Reader, Writer}
 use Rattle.event_loop.specs.declared.order.Turns.{Turns}
@@ -203,6 +206,14 @@ module _ {T : Type 0} where
         let there = each_stays each key entry e in
         l.others key (λ same. absurd (let bad : None ≡ Some entry = sym l.vacant ∙ ap (slot_at between) (sym same) ∙ there in cc)) ∙ there
 
+-- ---- the width of a turn, in parts
+
+pub wide_enough : (parts : ℕ) → 2 * 16 ≤ parts → 2 ≤ parts / 16
+wide_enough parts some = omega arith
+
+pub few_enough : (parts : ℕ) → parts ≤ 128 * 16 → parts / 16 ≤ 128
+few_enough parts few = omega arith
+
 -- ---- each has its turn
 
 behind_few : (last key : ℕ) → key < 128 → behind last key ≤ 128
@@ -343,7 +354,8 @@ module _ {D : Type 0} {g : Ghosts D} (reports : Type 0) (traffic : Socket
         let ends = still_ready after.0 (turned ∙ ap (λ o. after_turn o (Some entry)) is_so ∙ after.1) after.2 after.3 after.4 in
         elim (none_shared (is_of_kind old.hub Any entry) (has_turn old.hub turn.driven.turns key entry) within is_so) [
           | inl parts ↦
-              let waits : waits_as old.hub Any polled ≡ true = ap (waits_as old.hub Any) is ∙ ap (λ s. is_ready s && is_of_kind old.hub Any entry) ready ∙ parts.0 in
+              let waits : waits_as old.hub Any polled ≡ true =
+                  ap (waits_as old.hub Any) is ∙ ap (λ s. is_ready s && is_of_kind old.hub Any entry) ready ∙ parts.0 in
               let differs : (key == turn.driven.turns.next) ≡ false = not_first (key == turn.driven.turns.next) _ parts.1 in
               elim (nearer (λ other. waits_as old.hub Any (after_poll (items new.poller.events) other (slot_at old.table.slots other))) old.turns.next
               turn.driven.turns.next key turn.drives.turn_of.next old.next_place place waits) [

@@ -1,6 +1,7 @@
--- Which of the entries that are ready a turn drives: so many that have written nothing and were short, and of the others
--- one that writes, and one that reads.
-use Rattle.std.specs.Prelude.{◌≡◌, ◌⊎◌, ℕ, zero, suc, ◌+◌, ◌-◌, ◌*◌, ◌<◌, ◌≤◌, ◌==◌, ◌&&◌, ◌||◌, nat_le, nat_lt, max, min, not}
+-- Which of the entries that are ready a turn drives: so many that have written nothing and were short, and of the
+-- others one that writes, and one that reads.
+use Rattle.std.specs.Prelude.{◌≡◌, ◌⊎◌, ℕ, zero, suc, ◌+◌, ◌-◌, ◌*◌, ◌/◌, ◌<◌, ◌≤◌, ◌==◌, ◌&&◌, ◌||◌, nat_le, nat_lt}
+use Rattle.std.specs.Prelude.{max, min, not}
 use Rattle.std.specs.Prelude.{Bool, true, false, cond, Option, Some, None}
 use Rattle.sector.specs.declared.device.Sectors.{Ghosts}
 use Rattle.sessions.specs.StandsFor.{has_written}
@@ -15,7 +16,7 @@ use Rattle.stream_driver.specs.declared.entries.EntryState.TheVariants.{Idle, Re
 use Rattle.event_loop.specs.Tables.{is_ready}
 use Rattle.event_loop.specs.declared.order.Kind.{Kind}
 use Rattle.event_loop.specs.declared.order.Kind.TheVariants.{Any, Reader, Writer}
-use Rattle.event_loop.specs.declared.order.TheConstants.{WIDTH_MIN}
+use Rattle.event_loop.specs.declared.order.TheConstants.{WIDTH_MIN, WIDTH_PARTS}
 use Rattle.event_loop.specs.declared.order.Turns.{Turns}
 
 -- how many places a key stands behind another, round the 128 places of the table: from 1, and 128 behind itself
@@ -99,11 +100,13 @@ module _ {T D : Type 0} {g : Ghosts D} (hub : Hub D g) where
     pub beside : HasNextTurn (λ key. waits_as turns.kind (slots key)) last.beside turns.beside
 
 -- How wide a turn is after one so wide, that might have driven so many more, and in which so many turned out heavy.
-abbrev pub width_after : (width unused heavy : ℕ) → ℕ
-width_after width unused heavy =
-    cond (nat_le WIDTH_MIN heavy) WIDTH_MIN
-    (cond (unused == 0 && heavy == 0) (min (width + 1) SESSIONS_MAX)
-    (max (cond (nat_lt ((width - unused) * 4) width) (width - 1) width) WIDTH_MIN))
+-- Widths are in parts of one.
+abbrev pub width_after : (last unused heavy : ℕ) → ℕ
+width_after last unused heavy =
+    cond (nat_le WIDTH_MIN heavy) (WIDTH_MIN * WIDTH_PARTS)
+    (cond (unused == 0 && heavy == 0) (min (last + WIDTH_PARTS) (SESSIONS_MAX * WIDTH_PARTS))
+    (max (cond (nat_lt ((last / WIDTH_PARTS - unused) * 2) (last / WIDTH_PARTS)) (last - 1) last)
+    (WIDTH_MIN * WIDTH_PARTS)))
 
 -- is it to be driven?
 abbrev pub is_ready_slot : {T : Type 0} → Option (Entry T) → Bool

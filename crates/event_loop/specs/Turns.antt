@@ -47,8 +47,8 @@ use Rattle.event_loop.specs.declared.server.EventLoop.{EventLoop}
 use Rattle.event_loop.specs.declared.server.TheConstants.{LISTENER}
 use Rattle.event_loop.specs.declared.socket.Socket.{Socket}
 
--- a slot is ready as the poll reported, with its share of the turn, unless it takes turns and this is another's, or takes
--- none and more others do than the turn is wide
+-- a slot is ready as the poll reported, with its share of the turn, unless it takes turns and this is another's, or
+-- takes none and more others do than the turn is wide
 abbrev pub IsTurnOf : {T D : Type 0} {g : Ghosts D} → Hub D g → Turns → (polled : ℕ
     → Option (Entry (BufferedStream T))) → ℕ → (ready : Option (Entry (BufferedStream T))) → Type 0
 IsTurnOf hub turns polled key ready = ready ≡ after_turn (share_at hub turns polled key) (polled key)

@@ -9,7 +9,7 @@
 //! What a request takes isn't known before it was served. So of those that take no turns a turn drives as many as its width, and the rest
 //! are passed over and take turns until they have had one: who becomes ready later doesn't wait for them. The width grows while none of
 //! them turns out heavy, as the window of TCP does (Jacobson, Congestion Avoidance and Control, 1988), and falls where several do.
-ghost use Rattle.std.specs.Prelude.{◌≡◌, ◌-◌, ◌<◌, ◌≤◌, nat_lt, ℕ, Bool, Some};
+ghost use Rattle.std.specs.Prelude.{◌≡◌, ◌-◌, ◌*◌, ◌<◌, ◌≤◌, nat_lt, ℕ, Bool, Some};
 ghost use Rattle.event_loop.specs.Order.{AreNext, ComesNearer, HasNextTurn, after_turn, behind, has_turn, in_turn};
 ghost use Rattle.event_loop.specs.Order.{is_of_kind, is_writer, light_in, share_at, share_in_turn, waits_as};
 ghost use Rattle.event_loop.specs.Order.{width_after, writes_in};
@@ -23,6 +23,9 @@ use stream_driver::{BufferedStream, Entry, EntryState, LIGHT_MAX, SHARE_MAX};
 
 /// How many of those that take no turns a turn drives at least, where so many are ready; and how many that turn out heavy make it so few.
 pub const WIDTH_MIN: usize = 2;
+
+/// A width is kept in so many parts of one, since it falls by a part where little of a turn was used.
+pub const WIDTH_PARTS: usize = 16;
 
 /// The sessions that take turns.
 #[derive(Clone, Copy, PartialEq, Eq, Debug)]
@@ -269,26 +272,28 @@ pub(crate) fn heavy_streams(table: &Slab<Entry<BufferedStream<Socket>>>) -> usiz
 }
 
 /// How wide the next turn is, after one so wide that might have driven so many more of those that take no turns, and in which so many
-/// streams turned out heavy: as narrow as may be where these were several. It is wider by one where this one was used up and none of them
-/// turned out heavy, and narrower by one where less than a quarter of it was used. Takes no memory.
-pub(crate) fn next_width(width: usize, unused: usize, heavy: usize) -> usize
-    requires width { (WIDTH_MIN ≤ width) × (width ≤ SESSIONS_MAX) }
-    ensures is { result ≡ width_after width unused heavy }
-    ensures some { WIDTH_MIN ≤ result }
-    ensures few { result ≤ SESSIONS_MAX }
+/// streams turned out heavy; widths are in parts of `WIDTH_PARTS`. It is as narrow as may be where these were several, wider by one where
+/// all of it was used and none of them was, and narrower by a part of one where less than half of it was used. Takes no memory.
+pub(crate) fn next_width(last: usize, unused: usize, heavy: usize) -> usize
+    requires some { WIDTH_MIN * WIDTH_PARTS ≤ last }
+    requires few { last ≤ SESSIONS_MAX * WIDTH_PARTS }
+    ensures is { result ≡ width_after last unused heavy }
+    ensures some { WIDTH_MIN * WIDTH_PARTS ≤ result }
+    ensures few { result ≤ SESSIONS_MAX * WIDTH_PARTS }
 {
     if heavy >= WIDTH_MIN {
-        return WIDTH_MIN;
+        return WIDTH_MIN * WIDTH_PARTS;
     }
     if unused == 0 && heavy == 0 {
-        return (width + 1).min(SESSIONS_MAX);
+        return (last + WIDTH_PARTS).min(SESSIONS_MAX * WIDTH_PARTS);
     }
-    let narrower = if width.saturating_sub(unused) * 4 < width {
-        width.saturating_sub(1)
+    let width = last / WIDTH_PARTS;
+    let next = if width.saturating_sub(unused) * 2 < width {
+        last.saturating_sub(1)
     } else {
-        width
+        last
     };
-    narrower.max(WIDTH_MIN)
+    next.max(WIDTH_MIN * WIDTH_PARTS)
 }
 
 /// Does nothing, and takes no memory. Its contract says that a key that waits is the next, or comes nearer.

@@ -1,11 +1,11 @@
 //! The event loop, and one turn of it.
-ghost use Rattle.std.specs.Prelude.{◌+◌, ◌<◌, ◌≤◌};
+ghost use Rattle.std.specs.Prelude.{◌+◌, ◌*◌, ◌<◌, ◌≤◌};
 ghost use Rattle.mio.specs.Events.{capacity as events_capacity};
 ghost use Rattle.sessions.specs.declared.events.TheConstants.{SESSIONS_MAX};
 ghost use Rattle.stream_driver.specs.Sessions.{Stands};
 ghost use Rattle.stream_driver.specs.Entries.{HaveSessions};
 ghost use Rattle.event_loop.specs.declared.lingering.TheConstants.{LINGERING_MAX};
-ghost use Rattle.event_loop.specs.declared.order.TheConstants.{WIDTH_MIN};
+ghost use Rattle.event_loop.specs.declared.order.TheConstants.{WIDTH_MIN, WIDTH_PARTS};
 ghost use Rattle.event_loop.specs.Departures.{IsServing};
 ghost use Rattle.event_loop.specs.Numbers.{SessionsAreBelow, HavePlaces};
 ghost use Rattle.event_loop.specs.Peers.{AreRested, LackNothing};
@@ -18,7 +18,8 @@ use crate::lingering::Lingering;
 use crate::listener::Port;
 use crate::listening::{Listening, Unbound};
 use crate::order::{
-    Turns, WIDTH_MIN, heavy_streams, law_each_comes_nearer, next_turns, next_width, take_turns,
+    Turns, WIDTH_MIN, WIDTH_PARTS, heavy_streams, law_each_comes_nearer, next_turns, next_width,
+    take_turns,
 };
 use crate::polling::Poller;
 use crate::socket::Socket;
@@ -56,7 +57,7 @@ pub struct EventLoop<D: Sectors> {
     refused: u64,
     /// Who of those that take turns had the last.
     turns: Turns,
-    /// How many of those that take no turns the next one drives.
+    /// How many of those that take no turns the next one drives, in parts of `WIDTH_PARTS`.
     next_width: usize,
     /// A block that is asked for again at the end of each turn. The C library (glibc's `malloc_consolidate`) joins its small free blocks
     /// where it is asked for 1,024 bytes or more: so each turn has it join what its own step freed, and no request pays for many.
@@ -74,7 +75,7 @@ pub struct EventLoop<D: Sectors> {
     ghost next_place: { turns.next < SESSIONS_MAX },
     ghost beside_place: { turns.beside < SESSIONS_MAX },
     ghost width: { (WIDTH_MIN ≤ turns.width) × (turns.width ≤ SESSIONS_MAX) },
-    ghost width_next: { (WIDTH_MIN ≤ next_width) × (next_width ≤ SESSIONS_MAX) },
+    ghost width_next: { (WIDTH_MIN * WIDTH_PARTS ≤ next_width) × (next_width ≤ SESSIONS_MAX * WIDTH_PARTS) },
 }
 
 impl<D: Sectors> EventLoop<D> {
@@ -122,7 +123,7 @@ impl<D: Sectors> EventLoop<D> {
                 next: 0,
                 refused: 0,
                 turns: Turns::new(),
-                next_width: WIDTH_MIN,
+                next_width: WIDTH_MIN * WIDTH_PARTS,
                 spare: None,
                 table: Slab::new(alloc),
             }),
@@ -156,12 +157,12 @@ impl<D: Sectors> EventLoop<D> {
     ///
     /// It is the turn of those that have written nothing and whose last drives were short, of one at most that writes, and of one at most
     /// whose stream is heavy (`BufferedStream`). So nobody waits for more than one of each, and for what the others have of the turn:
-    /// `LIGHT_MAX` bytes each, and `SHARE_MAX` for these two. Those write whose open transaction has written, or who were answered last in a
-    /// drive that appended a record. Of the two kinds together the next by key, round the table, has its turn, and beside it one of the
+    /// `LIGHT_MAX` bytes each, and `SHARE_MAX` for these two. Those write whose open transaction has written, or who were answered last in
+    /// a drive that appended a record. Of the two kinds together the next by key, round the table, has its turn, and beside it one of the
     /// other kind; the rest are ready in the next turn, which doesn't wait. So each is driven within as many turns as the table has places,
     /// and one (`law_each_has_its_turn`). An append ends the share of its stream, so what comes behind it in one piece waits for a turn as
-    /// well. So a turn appends one record at most for the one that writes, and one for each other that comes with a whole transaction in one
-    /// piece: from then on it writes, until a drive answers it and appends nothing.
+    /// well. So a turn appends one record at most for the one that writes, and one for each other that comes with a whole transaction in
+    /// one piece: from then on it writes, until a drive answers it and appends nothing.
     ///
     /// Of those that take no turns it drives as many as it is wide, `WIDTH_MIN` at least, with the least keys. The others take turns until
     /// they have had one. It is wider after a turn that drove as many as it might, and as narrow as may be after one in which several
@@ -230,9 +231,9 @@ impl<D: Sectors> EventLoop<D> {
     {}
 
     /// Does nothing, and takes no memory. Its contract says that a session that is ready is driven within as many turns as the table has
-    /// places, and one: in each turn it is driven, or it is ready still and comes nearer, or takes turns from then on. And one that is driven gets on: it is served each request
-    /// that had come in whole, or `REQUESTS_MAX`, or what it has had of the turn is its share of bytes or the reply to a request that
-    /// appended a record; or its peer takes no more; or it leaves.
+    /// places, and one: in each turn it is driven, or it is ready still and comes nearer, or takes turns from then on. And one that is
+    /// driven gets on: it is served each request that had come in whole, or `REQUESTS_MAX`, or what it has had of the turn is its share of
+    /// bytes or the reply to a request that appended a record; or its peer takes no more; or it leaves.
     ///
     /// Under the premise that a poll reports what was registered with it and became ready, and that on sockets, a session over whose
     /// connection something came is ready in the turn whose poll ended then.
@@ -345,12 +346,13 @@ impl<D: Sectors> EventLoop<D> {
         ensures keeps { KeepBytes self.old.hub self.old.table.slots self.new.hub self.new.table.slots }
     {
         make_polled_ready(self.poller.events(), &mut self.table);
-        self.turns = next_turns(&self.hub, &self.table, self.turns, self.next_width);
+        let width = self.next_width / WIDTH_PARTS;
+        self.turns = next_turns(&self.hub, &self.table, self.turns, width);
         let unused = take_turns(&self.hub, self.turns, &mut self.table);
         let heavy = heavy_streams(&self.table);
         drive_ready(&mut self.hub, &mut self.table);
         let turned_out = heavy_streams(&self.table).saturating_sub(heavy);
-        self.next_width = next_width(self.turns.width, unused, turned_out);
+        self.next_width = next_width(self.next_width, unused, turned_out);
         end_drives(
             self.hub.device(),
             self.poller.poll(),

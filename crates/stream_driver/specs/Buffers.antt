@@ -1,6 +1,7 @@
 -- A stream that buffers what is written to it, over an inner one.
-use Rattle.std.specs.Prelude.{◌≡◌, ◌⊎◌, ◌+◌, ◌-◌, ◌<◌, ◌≤◌, ◌==◌, ◌++◌, ◌||◌, ◌≢◌, ◌↔◌, ℕ, Bool, true, false, List}
-use Rattle.std.specs.Prelude.{[], ◌∷◌, cond, take, drop, length, max, min, nat_le, nat_lt, vec_len}
+use Rattle.std.specs.Prelude.{◌≡◌, ◌⊎◌, ◌+◌, ◌-◌, ◌<◌, ◌≤◌, ◌==◌, ◌++◌, ◌&&◌, ◌||◌, ◌≢◌, ◌↔◌, ℕ, Bool, true, false}
+use Rattle.std.specs.Prelude.{not}
+use Rattle.std.specs.Prelude.{List, [], ◌∷◌, cond, take, drop, length, max, min, nat_le, nat_lt, vec_len}
 use Rattle.stream_driver.specs.Counts.{counted, counted_with}
 use Rattle.stream_driver.specs.Traffic.{AllMoved, DepartAt, CountsLast, Share, Traffic, ReadsWithin, WritesWithin}
 use Rattle.stream_driver.specs.Traffic.{bytes_read, bytes_written, untouched}
@@ -64,10 +65,12 @@ module _ {T : Type 0} where
   abbrev pub writes_with_one : BufferedStream T → ℕ
   writes_with_one b = min (b.writes + 1) 255
 
-  -- So many bytes of its share, or so many writes, make a drive heavy, and the stream for some turns of its own.
+  -- So many bytes of its share, or so many writes, make a drive heavy, and the stream for some turns of its own; unless
+  -- an append has ended the share.
   abbrev pub heavy_for_after : BufferedStream T → ℕ
   heavy_for_after b =
-      cond (nat_le LIGHT_MAX (b.whole - b.share) || nat_le LIGHT_WRITES (writes_with_one b)) HEAVY_TURNS b.heavy_for
+      cond (not b.appended && (nat_le LIGHT_MAX (b.whole - b.share) || nat_le LIGHT_WRITES (writes_with_one b)))
+      HEAVY_TURNS b.heavy_for
 
   -- what it notes once it has taken bytes
   abbrev pub after_taking : BufferedStream T → BufferedStream T

@@ -179,12 +179,14 @@ impl<S: Stream> BufferedStream<S> {
         self.heavy_for = self.heavy_for.max(1);
     }
 
-    // It has taken bytes: in so many writes of this turn, and perhaps so many that the drive is heavy.
+    // It has taken bytes: in so many writes of this turn, and perhaps so many that the drive is heavy. What an append took of the share
+    // says nothing of that.
     fn note_taken(&mut self)
         ensures { self.new ≡ after_taking self.old }
     {
         self.writes = self.writes.saturating_add(1);
-        if LIGHT_MAX <= self.whole.saturating_sub(self.share) || LIGHT_WRITES <= self.writes {
+        let is_much = LIGHT_MAX <= self.whole.saturating_sub(self.share);
+        if !self.appended && (is_much || LIGHT_WRITES <= self.writes) {
             self.heavy_for = HEAVY_TURNS;
         }
     }

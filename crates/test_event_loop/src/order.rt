@@ -1,4 +1,4 @@
-//! Which sessions a turn drives: all that ask little, and of the others one that writes and one that reads.
+//! Which sessions a turn drives: as many as it is wide of those that ask little, and of the others one that writes and one that reads.
 use crate::loops::{asks, client, new_loop};
 use event_loop::EventLoop;
 use sector::Sectors;
@@ -161,8 +161,8 @@ fn received<S: Read>(client: &mut S) -> usize {
     all
 }
 
-/// Two readers ask for more than a turn gives them. The first turn answers both, with a light share for each. From then on one of them at
-/// most has each turn; another client is answered in each, and both are answered all that they asked for.
+/// Two readers ask for more than a turn gives them. If a turn answers both, then the first one alone, with a light share for each. From
+/// then on one of them at most has each turn; another client is answered in each, and both are answered all that they asked for.
 fn one_heavy_each<D: Sectors, R: Net + Abort + AllocGlobal>(rt: &R, events: &mut EventLoop<D>) {
     let mut other = client(rt, events);
     let input = one_value(rt);
@@ -197,4 +197,57 @@ fn one_heavy_each<D: Sectors, R: Net + Abort + AllocGlobal>(rt: &R, events: &mut
 fn heavy_readers_take_turns(rt: HostRuntime) {
     let mut events = new_loop(&rt);
     one_heavy_each(&rt, &mut events);
+}
+
+/// Is anything there to read?
+fn is_answered<S: Read>(client: &mut S) -> bool {
+    received(client) > 0
+}
+
+/// Four readers ask for much at once, none of which was known to. The first turn answers two of them, and each later one a single one. Who
+/// asks once they have is answered in each.
+fn two_of_a_crowd<D: Sectors, R: Net + Abort + AllocGlobal>(rt: &R, events: &mut EventLoop<D>) {
+    let mut one = client(rt, events);
+    let mut two = client(rt, events);
+    let mut three = client(rt, events);
+    let mut four = client(rt, events);
+    let mut other = client(rt, events);
+    let input = one_value(rt);
+    assert!(rt; asks(rt, events, &mut other, &input, b"+OK\r\n+OK\r\n:1\r\n"));
+    assert!(rt; asks(rt, events, &mut other, PING, b"+PONG\r\n"));
+    let input = reads(rt);
+    one.write_all(&input).expect(rt, "written");
+    two.write_all(&input).expect(rt, "written");
+    three.write_all(&input).expect(rt, "written");
+    four.write_all(&input).expect(rt, "written");
+    turn(rt, events);
+    let first = [
+        is_answered(&mut one),
+        is_answered(&mut two),
+        is_answered(&mut three),
+        is_answered(&mut four),
+    ];
+    assert!(rt; first == [true, true, false, false]);
+    let mut all = [first[0], first[1], false, false];
+    for _ in 0..8u32 {
+        other.write_all(PING).expect(rt, "written");
+        turn(rt, events);
+        assert!(rt; received(&mut other) == 7);
+        let now = [
+            is_answered(&mut one),
+            is_answered(&mut two),
+            is_answered(&mut three),
+            is_answered(&mut four),
+        ];
+        assert!(rt; now.iter().filter(|is_so| **is_so).count() <= 1);
+        all = [all[0], all[1], all[2] || now[2], all[3] || now[3]];
+    }
+    assert!(rt; all == [true; 4]);
+}
+
+/// So it is of a loop over memory.
+#[test]
+fn a_crowd_waits_in_turns(rt: HostRuntime) {
+    let mut events = new_loop(&rt);
+    two_of_a_crowd(&rt, &mut events);
 }

@@ -15,4 +15,6 @@ invariant_of-events g c =
       rested = after.rested;
       next_place = after.next_place;
       beside_place = after.beside_place;
+      width = after.width;
+      width_next = after.width_next;
     }

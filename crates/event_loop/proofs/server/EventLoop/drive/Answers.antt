@@ -7,6 +7,7 @@ use Rattle.event_loop.proofs.Departing.{drives_serve}
 use Rattle.event_loop.proofs.Entries.{driven_entries, ended_entries, ended_remain, polled_entries, polled_remain}
 use Rattle.event_loop.proofs.Entries.{polled_sessions, remain_numbers, remain_sessions}
 use Rattle.event_loop.proofs.Ordering.{places_after, polled_next, polled_turned, remain_places, turns_taken}
+use Rattle.event_loop.proofs.Ordering.{few_enough, wide_enough}
 use Rattle.event_loop.proofs.Peers.{drives_use, drives_wait, ended_rested, leads_lack}
 use Rattle.event_loop.proofs.TableBytes.{drives_bytes}
 use Rattle.event_loop.proofs.Tables.{below_after}
@@ -67,7 +68,8 @@ invariant_of-self g c =
       rested = ended_rested ghosts.reports ghosts.traffic _ driven new ended;
       next_place = c.next_turns-self.ensures.places.0;
       beside_place = c.next_turns-self.ensures.places.1;
-      width = subst (λ n. (WIDTH_MIN ≤ n) × (n ≤ SESSIONS_MAX)) (sym c.next_turns-self.ensures.width) old.width_next;
+      width = subst (λ n. (WIDTH_MIN ≤ n) × (n ≤ SESSIONS_MAX)) (sym c.next_turns-self.ensures.width) (wide_enough old.next_width old.width_next.0,
+          few_enough old.next_width old.width_next.1);
       width_next = (c.next_width-self.ensures.some, c.next_width-self.ensures.few);
     }
 
