@@ -355,7 +355,7 @@ module _ {D : Type 0} {g : Ghosts D} (reports : Type 0) (traffic : Socket
         elim (none_shared (is_of_kind old.hub Any entry) (has_turn old.hub turn.driven.turns key entry) within is_so) [
           | inl parts ↦
               let waits : waits_as old.hub Any polled ≡ true =
-                  ap (waits_as old.hub Any) is ∙ ap (λ s. is_ready s && is_of_kind old.hub Any entry) ready ∙ parts.0 in
+              ap (waits_as old.hub Any) is ∙ ap (λ s. is_ready s && is_of_kind old.hub Any entry) ready ∙ parts.0 in
               let differs : (key == turn.driven.turns.next) ≡ false = not_first (key == turn.driven.turns.next) _ parts.1 in
               elim (nearer (λ other. waits_as old.hub Any (after_poll (items new.poller.events) other (slot_at old.table.slots other))) old.turns.next
               turn.driven.turns.next key turn.drives.turn_of.next old.next_place place waits) [

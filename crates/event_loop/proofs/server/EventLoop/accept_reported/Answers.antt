@@ -13,8 +13,18 @@ pub returns-else-accepts_now-clause-accepts : goal.returns-else-accepts_now-clau
 returns-else-accepts_now-clause-accepts g c =
     subst (λ accepts. Accepted accepts c.args.self.now c.args.self.now) (sym c.if-accepts_now.false
     ∙ c.accepts_now.ensures)
-    (record { hub = refl; table = refl; next = refl; port = refl; backlog = refl; has_garbage = refl; lingering = refl; refused = refl; turns = refl;
-        next_width = refl })
+    (record {
+      hub = refl;
+      table = refl;
+      next = refl;
+      port = refl;
+      backlog = refl;
+      has_garbage = refl;
+      lingering = refl;
+      refused = refl;
+      turns = refl;
+      next_width = refl;
+    })
 
 pub returns-else-accepts_now-clause-lingerers : goal.returns-else-accepts_now-clause-lingerers
 returns-else-accepts_now-clause-lingerers g c =

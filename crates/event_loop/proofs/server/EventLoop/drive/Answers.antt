@@ -68,8 +68,10 @@ invariant_of-self g c =
       rested = ended_rested ghosts.reports ghosts.traffic _ driven new ended;
       next_place = c.next_turns-self.ensures.places.0;
       beside_place = c.next_turns-self.ensures.places.1;
-      width = subst (λ n. (WIDTH_MIN ≤ n) × (n ≤ SESSIONS_MAX)) (sym c.next_turns-self.ensures.width) (wide_enough old.next_width old.width_next.0,
-          few_enough old.next_width old.width_next.1);
+      width = subst (λ n. (WIDTH_MIN ≤ n) × (n ≤ SESSIONS_MAX)) (sym c.next_turns-self.ensures.width) (
+        wide_enough old.next_width old.width_next.0,
+        few_enough old.next_width old.width_next.1,
+      );
       width_next = (c.next_width-self.ensures.some, c.next_width-self.ensures.few);
     }
 
