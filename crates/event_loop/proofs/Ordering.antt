@@ -33,7 +33,8 @@ use Rattle.event_loop.proofs.Slots.{Slots}
 use Rattle.event_loop.specs.Numbers.{HasTablePlace, HavePlaces, WasRegisteredAs}
 use Rattle.event_loop.specs.Order.{AreNext, ComesNearer, HasNextTurn, after_turn, behind, has_turn, in_turn}
 use Rattle.event_loop.specs.Order.{is_of_kind}
-use Rattle.event_loop.specs.Order.{is_ready_slot, light_below, light_in, share_at, share_in_turn, share_of_slot}
+use Rattle.event_loop.specs.Order.{is_late_entry, is_ready_slot, late_below, late_in, light_below, light_in, share_at}
+use Rattle.event_loop.specs.Order.{share_in_turn, share_of_slot}
 use Rattle.event_loop.specs.Order.{takes_none}
 use Rattle.event_loop.specs.Order.{takes_turns, waits_as, writes_in}
 use Rattle.event_loop.specs.declared.order.Kind.TheVariants.{Any, Reader, Writer}
@@ -50,12 +51,13 @@ abbrev pub NoneWithin : (ℕ → Bool) → ℕ → ℕ → Type 0
 NoneWithin waits last places = (key : ℕ) → key < 128 → behind last key ≤ places → waits key ≡ false
 
 -- a share is a light one at least
-share_some : (takes has within : Bool)
-    → IsSome (cond {A = Option ℕ} takes (cond has (Some 262144) None) (cond within (Some 32768) None))
-share_some true true within = omega arith
-share_some true false within = tt
-share_some false has true = omega arith
-share_some false has false = tt
+share_some : (takes has late light : Bool)
+    → IsSome (cond {A = Option ℕ} takes (cond has (Some 262144) (cond late (Some 32768) None)) (cond light (Some 32768) None))
+share_some true true late light = omega arith
+share_some true false true light = omega arith
+share_some true false false light = tt
+share_some false has late true = omega arith
+share_some false has late false = tt
 
 -- some may be driven still exactly where fewer are below than the turn is wide
 some_left : (width below left : ℕ) → left ≡ width - below → nat_lt 0 left ≡ nat_lt below width
@@ -73,74 +75,98 @@ is_below n = grind (arith, nat_tests)
 same_below : (m n : ℕ) → m ≢ n → nat_lt m n ≡ nat_lt m (n + 1)
 same_below m n differs = grind (arith, common_steps, nat_tests)
 
+-- one less is left for each that counts, where so many are below
+left_less : (width below one left then more : ℕ) → left ≡ width - below → then ≡ left - one → more ≡ below + one → then ≡ width - more
+left_less width below one left then more is less more_is =
+    less ∙ ap (λ n. n - one) is ∙ less_both width below one ∙ ap (λ n. width - n) (sym more_is)
+
 module _ {T D : Type 0} {g : Ghosts D} (hub : Hub D g) (turns : Turns) where
   abbrev pub turned_slot : (ℕ → Option (Entry (BufferedStream T))) → ℕ → Option (Entry (BufferedStream T))
   turned_slot slots key = after_turn (share_at hub turns slots key) (slots key)
 
-  slot_some : (within : Bool) (key : ℕ) (slot : Option (Entry (BufferedStream T)))
-      → IsSome (share_of_slot hub turns within key slot)
-  slot_some within key None = tt
-  slot_some within key (Some entry) = share_some (is_of_kind hub Any entry) (has_turn hub turns key entry) within
+  slot_some : (light late : Bool) (key : ℕ) (slot : Option (Entry (BufferedStream T))) → IsSome (share_of_slot hub turns light late key slot)
+  slot_some light late key None = tt
+  slot_some light late key (Some entry) =
+      share_some (is_of_kind hub Any entry) (has_turn hub turns key entry) (is_late_entry hub entry && late) light
 
   -- so each slot has a share of the turn, or is passed over
   pub turns_taken : (old ready : Slots (BufferedStream T)) (events : List Event)
-      → ((key : ℕ) → slot_at ready key ≡ turned_slot (λ other. after_poll events other (slot_at old other)) key)
-      → TakesTurns old ready events
+      → ((key : ℕ) → slot_at ready key ≡ turned_slot (λ other. after_poll events other (slot_at old other)) key) → TakesTurns old ready events
   turns_taken old ready events turned key =
-      let slots : ℕ → Option (Entry (BufferedStream T)) = λ other. after_poll events other (slot_at old other) in
-      (share_at hub turns slots key, turned key, slot_some (nat_lt (light_below hub slots key) turns.width) key (slots key))
+      let slots : ℕ → Option (Entry (BufferedStream T)) = λ other. after_poll events other (slot_at old other) in (
+        share_at hub turns slots key,
+        turned key,
+        slot_some (nat_lt (light_below hub slots key) turns.width) (nat_lt (late_below hub slots key) (turns.width - 1)) key (slots key),
+      )
 
-  -- those below this key have taken their turns, and of those that take none so many more may be driven
-  pub record TurnedBelow (count left : ℕ) (old new : Slots (BufferedStream T)) : Type 0 where
+  -- those below this key have taken their turns; of those that take none, and of those that are late, so many more may
+  -- be driven
+  pub record TurnedBelow (count light late : ℕ) (old new : Slots (BufferedStream T)) : Type 0 where
     pub slots : (key : ℕ) → slot_at new key ≡ cond (nat_lt key count) (turned_slot (slot_at old) key) (slot_at old key)
-    pub left_is : left ≡ turns.width - light_below hub (slot_at old) count
+    pub light_is : light ≡ turns.width - light_below hub (slot_at old) count
+    pub late_is : late ≡ turns.width - 1 - late_below hub (slot_at old) count
 
-  more_below : (slots : ℕ → Option (Entry (BufferedStream T))) (count : ℕ)
+  more_light : (slots : ℕ → Option (Entry (BufferedStream T))) (count : ℕ)
       → light_below hub slots (count + 1) ≡ light_below hub slots count + light_in hub (slots count)
-  more_below slots count = let one_more : count + 1 ≡ suc count = omega arith in ap (light_below hub slots) one_more
+  more_light slots count = let one_more : count + 1 ≡ suc count = omega arith in ap (light_below hub slots) one_more
 
-  module _ (count left : ℕ) (old mid : Slots (BufferedStream T)) (below : TurnedBelow count left old mid) where
+  more_late : (slots : ℕ → Option (Entry (BufferedStream T))) (count : ℕ)
+      → late_below hub slots (count + 1) ≡ late_below hub slots count + late_in hub (slots count)
+  more_late slots count = let one_more : count + 1 ≡ suc count = omega arith in ap (late_below hub slots) one_more
+
+  module _ (count light late : ℕ) (old mid : Slots (BufferedStream T)) (below : TurnedBelow count light late old mid) where
     -- the slot at the key is as it was
     stood : slot_at mid count ≡ slot_at old count
     stood = below.slots count ∙ ap (λ b. cond b (turned_slot (slot_at old) count) (slot_at old count)) (not_below count)
 
+    -- what becomes of it
+    abbrev turned_here : Option (Entry (BufferedStream T)) → Option (Entry (BufferedStream T))
+    turned_here slot = after_turn (share_of_slot hub turns (nat_lt 0 light) (nat_lt 0 late) count slot) slot
+
+    turned_at : turned_here (slot_at old count) ≡ turned_slot (slot_at old) count
+    turned_at =
+        ap (λ b. after_turn (share_of_slot hub turns b (nat_lt 0 late) count (slot_at old count)) (slot_at old count))
+        (some_left turns.width (light_below hub (slot_at old) count) light below.light_is)
+        ∙ ap (λ b. after_turn (share_of_slot hub turns (nat_lt (light_below hub (slot_at old) count) turns.width) b count (slot_at old count))
+        (slot_at old count))
+        (some_left (turns.width - 1) (late_below hub (slot_at old) count) late below.late_is)
+
     -- with the one at the key
-    turned_more : (then : ℕ) (new : Slots (BufferedStream T))
-        → slot_at new count ≡ after_turn (share_of_slot hub turns (nat_lt 0 left) count (slot_at old count)) (slot_at old count)
-        → ((other : ℕ) → other ≢ count → slot_at new other ≡ slot_at mid other) → then ≡ left - light_in hub (slot_at old count)
-        → TurnedBelow (count + 1) then old new
-    turned_more then new here others less = record {
+    turned_more : (light' late' : ℕ) (new : Slots (BufferedStream T)) → slot_at new count ≡ turned_here (slot_at old count)
+        → ((other : ℕ) → other ≢ count → slot_at new other ≡ slot_at mid other) → light' ≡ light - light_in hub (slot_at old count)
+        → late' ≡ late - late_in hub (slot_at old count) → TurnedBelow (count + 1) light' late' old new
+    turned_more light' late' new here others less fewer = record {
       slots = λ key. elim (cases_eq key count) [
         | inl same ↦
             subst (λ k. slot_at new k ≡ cond (nat_lt k (count + 1)) (turned_slot (slot_at old) k) (slot_at old k)) (sym same)
-            (here ∙ ap (λ b. after_turn (share_of_slot hub turns b count (slot_at old count)) (slot_at old count))
-            (some_left turns.width (light_below hub (slot_at old) count) left below.left_is)
-            ∙ ap (λ b. cond b (turned_slot (slot_at old) count) (slot_at old count)) (is_below count))
+            (here ∙ turned_at ∙ ap (λ b. cond b (turned_slot (slot_at old) count) (slot_at old count)) (is_below count))
         | inr differs ↦
             others key differs ∙ below.slots key
             ∙ ap (λ b. cond b (turned_slot (slot_at old) key) (slot_at old key)) (same_below key count differs)
       ];
-      left_is =
-          less ∙ ap (λ n. n - light_in hub (slot_at old count)) below.left_is
-          ∙ less_both turns.width (light_below hub (slot_at old) count) (light_in hub (slot_at old count))
-          ∙ ap (λ n. turns.width - n) (sym (more_below (slot_at old) count));
+      light_is = left_less turns.width (light_below hub (slot_at old) count) (light_in hub (slot_at old count)) light light'
+          (light_below hub (slot_at old) (count + 1)) below.light_is less (more_light (slot_at old) count);
+      late_is = left_less (turns.width - 1) (late_below hub (slot_at old) count) (late_in hub (slot_at old count)) late late'
+          (late_below hub (slot_at old) (count + 1)) below.late_is fewer (more_late (slot_at old) count);
     }
 
-    pub turned_some : (then : ℕ) (entry after : Entry (BufferedStream T)) → slot_at mid count ≡ Some entry
-        → after ≡ in_turn entry.state (share_in_turn hub turns (nat_lt 0 left) count entry) entry → then ≡ left - light_in hub (Some entry)
-        → TurnedBelow (count + 1) then old (set mid count (Some after))
-    turned_some then entry after is taken less =
+    pub turned_some : (light' late' : ℕ) (entry after : Entry (BufferedStream T)) → slot_at mid count ≡ Some entry
+        → after ≡ in_turn entry.state (share_in_turn hub turns (nat_lt 0 light) (nat_lt 0 late) count entry) entry
+        → light' ≡ light - light_in hub (Some entry) → late' ≡ late - late_in hub (Some entry)
+        → TurnedBelow (count + 1) light' late' old (set mid count (Some after))
+    turned_some light' late' entry after is taken less fewer =
         let was : Some entry ≡ slot_at old count = sym is ∙ stood in
-        turned_more then (set mid count (Some after))
-        (put_there mid count entry after is ∙ ap (λ (x : Entry (BufferedStream T)). Some x) taken
-        ∙ ap (λ slot. after_turn (share_of_slot hub turns (nat_lt 0 left) count slot) slot) was)
-        (λ other differs. get_or-set_other mid count other (Some after) None differs) (less ∙ ap (λ slot. left - light_in hub slot) was)
+        turned_more light' late' (set mid count (Some after))
+        (put_there mid count entry after is ∙ ap (λ (x : Entry (BufferedStream T)). Some x) taken ∙ ap turned_here was)
+        (λ other differs. get_or-set_other mid count other (Some after) None differs) (less ∙ ap (λ slot. light - light_in hub slot) was)
+        (fewer ∙ ap (λ slot. late - late_in hub slot) was)
 
-    pub turned_none : slot_at mid count ≡ None → TurnedBelow (count + 1) left old mid
+    pub turned_none : slot_at mid count ≡ None → TurnedBelow (count + 1) light late old mid
     turned_none is =
         let was : None ≡ slot_at old count = sym is ∙ stood in
-        turned_more left mid (is ∙ ap (λ slot. after_turn (share_of_slot hub turns (nat_lt 0 left) count slot) slot) was) (λ other differs. refl)
-        (let same : left ≡ left - 0 = omega arith in same ∙ ap (λ slot. left - light_in hub slot) was)
+        turned_more light late mid (is ∙ ap turned_here was) (λ other differs. refl)
+        (let same : light ≡ light - 0 = omega arith in same ∙ ap (λ slot. light - light_in hub slot) was)
+        (let same : late ≡ late - 0 = omega arith in same ∙ ap (λ slot. late - late_in hub slot) was)
 
 -- the same keys wait
 next_as : (waits then : ℕ → Bool) → ((key : ℕ) → waits key ≡ then key) → (last next : ℕ) → HasNextTurn waits last next → HasNextTurn then last next
@@ -230,13 +256,13 @@ not_first true b is = absurd (cc)
 not_first false b is = refl
 
 -- who has no share takes turns, and has none; or takes none
-none_shared : (takes has within : Bool)
-    → cond {A = Option ℕ} takes (cond has (Some 262144) None) (cond within (Some 32768) None) ≡ None
+none_shared : (takes has late light : Bool)
+    → cond {A = Option ℕ} takes (cond has (Some 262144) (cond late (Some 32768) None)) (cond light (Some 32768) None) ≡ None
     → ((takes ≡ true) × (has ≡ false)) ⊎ (not takes ≡ true)
-none_shared true true within is = absurd (cc)
-none_shared true false within is = inl (refl, refl)
-none_shared false has true is = absurd (cc)
-none_shared false has false is = inr refl
+none_shared true true late light is = absurd (cc)
+none_shared true false late light is = inl (refl, refl)
+none_shared false has late true is = absurd (cc)
+none_shared false has late false is = inr refl
 
 ready_at : (state : EntryState) → is_ready state ≡ true → state ≡ Ready
 ready_at Ready is = refl
@@ -337,14 +363,20 @@ module _ {D : Type 0} {g : Ghosts D} (reports : Type 0) (traffic : Socket
   module _ (nearer : (waits : ℕ → Bool) (last next key : ℕ)
       → ComesNearer waits last next key) (entry : Entry (BufferedStream Socket)) (is : polled ≡ Some entry) (ready : entry.state ≡ Ready) (place : key
       < 128) where
-    abbrev within : Bool
-    within = nat_lt (light_below old.hub (λ other. after_poll (items new.poller.events) other (slot_at old.table.slots other)) key) turn.driven.turns.width
+    abbrev slots : ℕ → Option (Entry (BufferedStream Socket))
+    slots other = after_poll (items new.poller.events) other (slot_at old.table.slots other)
+
+    abbrev light : Bool
+    light = nat_lt (light_below old.hub slots key) turn.driven.turns.width
+
+    abbrev late : Bool
+    late = nat_lt (late_below old.hub slots key) (turn.driven.turns.width - 1)
 
     abbrev share : Option ℕ
-    share = share_in_turn old.hub turn.driven.turns within key entry
+    share = share_in_turn old.hub turn.driven.turns light late key entry
 
     turned : slot_at turn.drives.ready key ≡ after_turn share (Some entry)
-    turned = turn.drives.turned key ∙ ap (λ slot. after_turn (share_of_slot old.hub turn.driven.turns within key slot) slot) is
+    turned = turn.drives.turned key ∙ ap (λ slot. after_turn (share_of_slot old.hub turn.driven.turns light late key slot) slot) is
 
     by_share : (given : Option ℕ) → share ≡ given → Soon
     by_share (Some bytes) is_so =
@@ -352,7 +384,7 @@ module _ {D : Type 0} {g : Ghosts D} (reports : Type 0) (traffic : Socket
     by_share None is_so =
         let after = passed reports traffic 0 entry ready in
         let ends = still_ready after.0 (turned ∙ ap (λ o. after_turn o (Some entry)) is_so ∙ after.1) after.2 after.3 after.4 in
-        elim (none_shared (is_of_kind old.hub Any entry) (has_turn old.hub turn.driven.turns key entry) within is_so) [
+        elim (none_shared (is_of_kind old.hub Any entry) (has_turn old.hub turn.driven.turns key entry) (is_late_entry old.hub entry && late) light is_so) [
           | inl parts ↦
               let waits : waits_as old.hub Any polled ≡ true =
               ap (waits_as old.hub Any) is ∙ ap (λ s. is_ready s && is_of_kind old.hub Any entry) ready ∙ parts.0 in

@@ -7,7 +7,7 @@ use Rattle.sector.specs.declared.device.Sectors.{Ghosts}
 use Rattle.sessions.specs.StandsFor.{has_written}
 use Rattle.sessions.specs.declared.events.TheConstants.{SESSIONS_MAX}
 use Rattle.sessions.specs.declared.hub.Hub.{Hub}
-use Rattle.stream_driver.specs.Buffers.{in_turn_of, is_heavy, passed_over}
+use Rattle.stream_driver.specs.Buffers.{in_turn_of, is_heavy, is_late, passed_over}
 use Rattle.stream_driver.specs.declared.buffered.BufferedStream.{BufferedStream}
 use Rattle.stream_driver.specs.declared.buffered.TheConstants.{LIGHT_MAX, SHARE_MAX}
 use Rattle.stream_driver.specs.declared.entries.Entry.{Entry}
@@ -39,6 +39,10 @@ abbrev pub ComesNearer : (ℕ → Bool) → ℕ → ℕ → ℕ → Type 0
 ComesNearer waits last next key = HasNextTurn waits last next → last < SESSIONS_MAX → key < SESSIONS_MAX
     → waits key ≡ true → (key ≡ next) ⊎ (behind next key < behind last key)
 
+-- what is so counts as one
+abbrev pub is_one : Bool → ℕ
+is_one b = cond b 1 0
+
 module _ {T D : Type 0} {g : Ghosts D} (hub : Hub D g) where
   -- has the session's open transaction written, or did the last drive that answered it append a record?
   abbrev pub is_writer : Entry (BufferedStream T) → Bool
@@ -63,34 +67,55 @@ module _ {T D : Type 0} {g : Ghosts D} (hub : Hub D g) where
   abbrev pub has_turn : Turns → ℕ → Entry (BufferedStream T) → Bool
   has_turn turns key entry = key == turns.next || (key == turns.beside && is_of_kind turns.kind entry)
 
-  -- one that is to be driven and takes no turns counts
+  -- it takes no turns; it takes them, and is late: it doesn't write, and is heavy for one more turn of its own alone
+  abbrev pub is_light : Entry (BufferedStream T) → Bool
+  is_light entry = not (is_of_kind Any entry)
+
+  abbrev pub is_late_entry : Entry (BufferedStream T) → Bool
+  is_late_entry entry = not (is_writer entry) && is_late entry.stream
+
+  -- one that is to be driven counts
   abbrev pub light_in : Option (Entry (BufferedStream T)) → ℕ
   light_in None = 0
-  light_in (Some entry) = cond (is_ready entry.state && not (is_of_kind Any entry)) 1 0
+  light_in (Some entry) = is_one (is_ready entry.state && is_light entry)
+
+  abbrev pub late_in : Option (Entry (BufferedStream T)) → ℕ
+  late_in None = 0
+  late_in (Some entry) = is_one (is_ready entry.state && is_late_entry entry)
 
   -- how many of these are below a key
   abbrev pub light_below : (ℕ → Option (Entry (BufferedStream T))) → ℕ → ℕ
   light_below slots zero = 0
   light_below slots (suc key) = light_below slots key + light_in (slots key)
 
-  -- How many bytes it may be sent in this turn: a whole share where it takes turns and has this, a light one where it
-  -- takes none and is among as many as the turn is wide, and none where it is passed over.
-  abbrev pub share_in_turn : Turns → (is_within : Bool) → ℕ → Entry (BufferedStream T) → Option ℕ
-  share_in_turn turns is_within key entry =
-      cond (is_of_kind Any entry) (cond (has_turn turns key entry) (Some SHARE_MAX) None)
-      (cond is_within (Some LIGHT_MAX) None)
+  abbrev pub late_below : (ℕ → Option (Entry (BufferedStream T))) → ℕ → ℕ
+  late_below slots zero = 0
+  late_below slots (suc key) = late_below slots key + late_in (slots key)
 
-  abbrev pub share_of_slot : Turns → (is_within : Bool) → ℕ → Option (Entry (BufferedStream T)) → Option ℕ
-  share_of_slot turns is_within key None = None
-  share_of_slot turns is_within key (Some entry) = share_in_turn turns is_within key entry
+  -- How many bytes it may be sent in this turn: a whole share where it takes turns and has this. A light one where it
+  -- takes none, or is late, and is among so many that the turn drives; and none where it is passed over.
+  abbrev pub share_in_turn : Turns → (drives_light drives_late : Bool) → ℕ → Entry (BufferedStream T) → Option ℕ
+  share_in_turn turns drives_light drives_late key entry =
+      cond (is_of_kind Any entry)
+      (cond (has_turn turns key entry) (Some SHARE_MAX)
+      (cond (is_late_entry entry && drives_late) (Some LIGHT_MAX) None))
+      (cond drives_light (Some LIGHT_MAX) None)
 
+  abbrev pub share_of_slot : Turns → (drives_light drives_late : Bool) → ℕ → Option (Entry (BufferedStream T))
+      → Option ℕ
+  share_of_slot turns drives_light drives_late key None = None
+  share_of_slot turns drives_light drives_late key (Some entry) = share_in_turn turns drives_light drives_late key entry
+
+  -- those that take no turns are as many as the turn is wide, and those that are late one less, with the least keys
   abbrev pub share_at : Turns → (ℕ → Option (Entry (BufferedStream T))) → ℕ → Option ℕ
-  share_at turns slots key = share_of_slot turns (nat_lt (light_below slots key) turns.width) key (slots key)
+  share_at turns slots key =
+      share_of_slot turns (nat_lt (light_below slots key) turns.width) (nat_lt (late_below slots key) (turns.width - 1))
+      key (slots key)
 
   -- it took no turns
   abbrev pub takes_none : Option (Entry (BufferedStream T)) → Bool
   takes_none None = false
-  takes_none (Some entry) = not (is_of_kind Any entry)
+  takes_none (Some entry) = is_light entry
 
   -- The turns of the entries at these keys: the next has one, and beside it the next of the other kind. So one at most
   -- that writes has one.
@@ -104,7 +129,7 @@ module _ {T D : Type 0} {g : Ghosts D} (hub : Hub D g) where
 abbrev pub width_after : (last unused heavy : ℕ) → ℕ
 width_after last unused heavy =
     cond (nat_le WIDTH_MIN heavy) (WIDTH_MIN * WIDTH_PARTS)
-    (cond (unused == 0 && heavy == 0) (min (last + WIDTH_PARTS) (SESSIONS_MAX * WIDTH_PARTS))
+    (cond (unused == 0 && heavy == 0) (min (last + max WIDTH_PARTS (last / 4)) (SESSIONS_MAX * WIDTH_PARTS))
     (max (cond (nat_lt ((last / WIDTH_PARTS - unused) * 2) (last / WIDTH_PARTS)) (last - 1) last)
     (WIDTH_MIN * WIDTH_PARTS)))
 

@@ -7,12 +7,13 @@
 //! is driven within as many turns as the table has places.
 //!
 //! What a request takes isn't known before it was served. So of those that take no turns a turn drives as many as its width, and the rest
-//! are passed over and take turns until they have had one: who becomes ready later doesn't wait for them. The width grows while none of
-//! them turns out heavy, as the window of TCP does (Jacobson, Congestion Avoidance and Control, 1988), and falls where several do.
+//! are passed over and late until they have had a turn: who becomes ready later doesn't wait for them. Of those that are late it drives one
+//! less than it is wide, besides those that have a turn. The width grows while none of them turns out heavy, as the window of TCP does
+//! (Jacobson, Congestion Avoidance and Control, 1988), and falls where several do.
 ghost use Rattle.std.specs.Prelude.{◌≡◌, ◌-◌, ◌*◌, ◌<◌, ◌≤◌, nat_lt, ℕ, Bool, Some};
 ghost use Rattle.event_loop.specs.Order.{AreNext, ComesNearer, HasNextTurn, after_turn, behind, has_turn, in_turn};
-ghost use Rattle.event_loop.specs.Order.{is_of_kind, is_writer, light_in, share_at, share_in_turn, waits_as};
-ghost use Rattle.event_loop.specs.Order.{width_after, writes_in};
+ghost use Rattle.event_loop.specs.Order.{is_late_entry, is_light, is_of_kind, is_one, is_writer, late_in, light_in};
+ghost use Rattle.event_loop.specs.Order.{share_at, share_in_turn, waits_as, width_after, writes_in};
 ghost use Rattle.event_loop.specs.Tables.{slot_at};
 
 use crate::socket::Socket;
@@ -189,60 +190,87 @@ fn has_turn<D: Sectors>(
     key == turns.next || (key == turns.beside && is_of_kind(hub, turns.kind, entry))
 }
 
-// How many bytes it may be sent in this turn: a whole share where it takes turns and has this, a light one where it takes none and the
-// turn is wide enough, and `None` where it is passed over.
+// How many more of those that take no turns a turn may drive, and of those that are late.
+#[derive(Clone, Copy)]
+struct Left {
+    light: usize,
+    late: usize,
+}
+
+// Is it one of those that take turns, and late: not one that writes, and heavy for one more turn alone?
+fn is_late<D: Sectors>(hub: &Hub<D>, entry: &Entry<BufferedStream<Socket>>) -> bool
+    ensures { result ≡ is_late_entry hub.now entry.now }
+{
+    !is_writer(hub, entry) && entry.stream.is_late()
+}
+
+// How many bytes it may be sent in this turn: a whole share where it takes turns and has this. A light one where it takes none, or is late,
+// and more of these may be driven. `None` where it is passed over.
 fn share_in_turn<D: Sectors>(
     hub: &Hub<D>,
     turns: Turns,
-    is_within: bool,
+    left: Left,
     key: usize,
     entry: &Entry<BufferedStream<Socket>>,
 ) -> Option<usize>
-    ensures { result ≡ share_in_turn hub.now turns is_within key entry.now }
+    ensures { result ≡ share_in_turn hub.now turns (nat_lt 0 left.light) (nat_lt 0 left.late) key entry.now }
 {
-    if !is_of_kind(hub, Kind::Any, entry) {
-        return if is_within { Some(LIGHT_MAX) } else { None };
+    if is_of_kind(hub, Kind::Any, entry) {
+        if has_turn(hub, turns, key, entry) {
+            return Some(SHARE_MAX);
+        }
+        if left.late == 0 || !is_late(hub, entry) {
+            return None;
+        }
+    } else if left.light == 0 {
+        return None;
     }
-    if has_turn(hub, turns, key, entry) {
-        Some(SHARE_MAX)
-    } else {
-        None
+    Some(LIGHT_MAX)
+}
+
+// How many more may be driven behind one that is ready.
+fn left_behind<D: Sectors>(hub: &Hub<D>, left: Left, entry: &Entry<BufferedStream<Socket>>) -> Left
+    ensures light { result.light ≡ left.light - is_one (is_light hub.now entry.now) }
+    ensures late { result.late ≡ left.late - is_one (is_late_entry hub.now entry.now) }
+{
+    Left {
+        light: left
+            .light
+            .saturating_sub(usize::from(!is_of_kind(hub, Kind::Any, entry))),
+        late: left.late.saturating_sub(usize::from(is_late(hub, entry))),
     }
 }
 
-// An entry that is ready has its share of the turn, or is passed over. How many more of those that take no turns the turn may drive.
+// An entry that is ready has its share of the turn, or is passed over. How many more may be driven.
 fn take_turn<D: Sectors>(
     hub: &Hub<D>,
     turns: Turns,
-    left: usize,
+    left: Left,
     key: usize,
     entry: &mut Entry<BufferedStream<Socket>>,
-) -> usize
-    ensures taken { entry.new
-        ≡ in_turn entry.old.state (share_in_turn hub.now turns (nat_lt 0 left) key entry.old) entry.old }
-    ensures left { result ≡ left - light_in hub.now (Some entry.old) }
+) -> Left
+    ensures taken { entry.new ≡ in_turn entry.old.state
+        (share_in_turn hub.now turns (nat_lt 0 left.light) (nat_lt 0 left.late) key entry.old) entry.old }
+    ensures light { result.light ≡ left.light - light_in hub.now (Some entry.old) }
+    ensures late { result.late ≡ left.late - late_in hub.now (Some entry.old) }
 {
     if entry.state != EntryState::Ready {
         return left;
     }
-    let is_light = !is_of_kind(hub, Kind::Any, entry);
-    match share_in_turn(hub, turns, left > 0, key, entry) {
+    let behind = left_behind(hub, left, entry);
+    match share_in_turn(hub, turns, left, key, entry) {
         Some(bytes) => entry.stream.begin_turn(bytes),
         None => {
             entry.state = EntryState::Idle;
             entry.stream.pass_over();
         }
     }
-    if is_light {
-        left.saturating_sub(1)
-    } else {
-        left
-    }
+    behind
 }
 
 /// Passes over the entries that take turns but for those whose turn it is, and over those that take none but for as many as the turn is
-/// wide: they aren't ready in this turn, and are again at its end. The others have their shares of the turn. How many more of those that
-/// take no turns it might drive. Takes no memory.
+/// wide: they aren't ready in this turn, and are again at its end. Of those that are late it drives one less, too. The others have their
+/// shares of the turn. How many more of those that take no turns, or are late, it might drive, whichever are fewer. Takes no memory.
 pub(crate) fn take_turns<D: Sectors>(
     hub: &Hub<D>,
     turns: Turns,
@@ -251,13 +279,16 @@ pub(crate) fn take_turns<D: Sectors>(
     ensures { (key : ℕ) → slot_at table.new.slots key
         ≡ after_turn (share_at hub.now turns (slot_at table.old.slots) key) (slot_at table.old.slots key) }
 {
-    let mut left = turns.width;
+    let mut left = Left {
+        light: turns.width,
+        late: turns.width.saturating_sub(1),
+    };
     for key in 0..table.capacity() {
         if let Some(entry) = table.get_mut(key) {
             left = take_turn(hub, turns, left, key, entry);
         }
     }
-    left
+    left.light.min(left.late)
 }
 
 /// How many streams are heavy. Takes no memory.
@@ -272,8 +303,8 @@ pub(crate) fn heavy_streams(table: &Slab<Entry<BufferedStream<Socket>>>) -> usiz
 }
 
 /// How wide the next turn is, after one so wide that might have driven so many more of those that take no turns, and in which so many
-/// streams turned out heavy; widths are in parts of `WIDTH_PARTS`. It is as narrow as may be where these were several, wider by one where
-/// all of it was used and none of them was, and narrower by a part of one where less than half of it was used. Takes no memory.
+/// streams turned out heavy; widths are in parts of `WIDTH_PARTS`. It is as narrow as may be where these were several, wider by a quarter
+/// where all of it was used and none of them was, and narrower by a part of one where less than half of it was used. Takes no memory.
 pub(crate) fn next_width(last: usize, unused: usize, heavy: usize) -> usize
     requires some { WIDTH_MIN * WIDTH_PARTS ≤ last }
     requires few { last ≤ SESSIONS_MAX * WIDTH_PARTS }
@@ -285,7 +316,7 @@ pub(crate) fn next_width(last: usize, unused: usize, heavy: usize) -> usize
         return WIDTH_MIN * WIDTH_PARTS;
     }
     if unused == 0 && heavy == 0 {
-        return (last + WIDTH_PARTS).min(SESSIONS_MAX * WIDTH_PARTS);
+        return (last + WIDTH_PARTS.max(last / 4)).min(SESSIONS_MAX * WIDTH_PARTS);
     }
     let width = last / WIDTH_PARTS;
     let next = if width.saturating_sub(unused) * 2 < width {

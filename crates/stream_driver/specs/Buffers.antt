@@ -52,6 +52,10 @@ module _ {T : Type 0} where
   abbrev pub is_heavy : BufferedStream T → Bool
   is_heavy b = nat_lt 0 b.heavy_for
 
+  -- is it so for one more alone?
+  abbrev pub is_late : BufferedStream T → Bool
+  is_late b = b.heavy_for == 1
+
   -- a turn of its own begins, with a share of so many bytes
   abbrev pub in_turn_of : ℕ → BufferedStream T → BufferedStream T
   in_turn_of bytes b =

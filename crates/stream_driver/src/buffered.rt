@@ -81,7 +81,7 @@ pub struct BufferedStream<S: Stream> {
 impl<S: Stream> BufferedStream<S> {
     ghost use Rattle.std.specs.Prelude.{◌≡◌, ◌≢◌, ◌≤◌, ◌↔◌, [], IfOk, length, true};
     ghost use Rattle.stream_driver.specs.Buffers.{IsNew, fresh, has_had_share, in_turn_of, buffered_in};
-    ghost use Rattle.stream_driver.specs.Buffers.{after_taking, is_flushed_or_failed, is_heavy, passed_over};
+    ghost use Rattle.stream_driver.specs.Buffers.{after_taking, is_flushed_or_failed, is_heavy, is_late, passed_over};
     ghost use Rattle.stream_driver.specs.Buffers.{Finishes, Flushes, KeepsBytes, RoomFails, WhyRoom, WritesBuffered};
     ghost use Rattle.stream_driver.specs.Buffers.{GivesSome, TakesSome, WhyGave, WhyGaveSome, WhyTook, WhyTookSome};
     ghost use Rattle.stream_driver.specs.Traffic.{bytes_written};
@@ -158,6 +158,13 @@ impl<S: Stream> BufferedStream<S> {
         ensures { result ≡ is_heavy self.now }
     {
         self.heavy_for > 0
+    }
+
+    /// Is it heavy for one more turn of its own alone: was it passed over, or was a drive heavy long enough ago? Takes no memory.
+    pub fn is_late(&self) -> bool
+        ensures { result ≡ is_late self.now }
+    {
+        self.heavy_for == 1
     }
 
     /// A turn of its own begins, with a share of so many bytes: no drive of it has appended a record yet, or taken much. Takes no memory.
