@@ -48,16 +48,17 @@ use Rattle.event_loop.specs.declared.server.TheConstants.{LISTENER}
 use Rattle.event_loop.specs.declared.socket.Socket.{Socket}
 
 -- a slot is ready as the poll reported, with its share of the turn, unless it takes turns and this is another's, or
--- takes none and more others do than the turn is wide
+-- takes none and as many others do as the turn is wide
 abbrev pub IsTurnOf : {T D : Type 0} {g : Ghosts D} → Hub D g → Turns → (polled : ℕ
     → Option (Entry (BufferedStream T))) → ℕ → (ready : Option (Entry (BufferedStream T))) → Type 0
 IsTurnOf hub turns polled key ready = ready ≡ after_turn (share_at hub turns polled key) (polled key)
 
 -- The drives of a turn in which the poll reported these events. The entries that waited and that it reported became
--- ready. Of those that are ready and take turns, one that writes and one that reads at most have this one, and the
--- others are passed over. Each other that is ready was driven once, by rising key, and no other event came to the hub.
--- Each of these drives appended one record to the log at most, and used its share of the turn. What their streams
--- buffered was written, and those that are over were taken out.
+-- ready. Of those that are ready and take turns, one that writes and one that reads at most have this one. Of those
+-- that take none as many as the turn is wide have a share of it, and of those that are late one less; the others are
+-- passed over. Each that has a share was driven once, by rising key, and no other event came to the hub. Each of these
+-- drives appended one record to the log at most, and used its share of the turn. What their streams buffered was
+-- written, and those that are over were taken out.
 pub record DrivesReady {T D : Type 0} {g : Ghosts D} (reports : Type 0) (traffic : T
     → Traffic) (events : List Event) (last : Turns) (hub : Hub D g) (slots : List (Option (Entry (BufferedStream T))))
     (next : Turns) (later : Hub D g) (new : List (Option (Entry (BufferedStream T)))) : Type 0 where

@@ -164,10 +164,10 @@ impl<D: Sectors> EventLoop<D> {
     /// well. So a turn appends one record at most for the one that writes, and one for each other that comes with a whole transaction in
     /// one piece: from then on it writes, until a drive answers it and appends nothing.
     ///
-    /// Of those that take no turns it drives as many as it is wide, `WIDTH_MIN` at least, with the least keys. The others are late: they take
-    /// turns until they have had one, and of them it drives one less than it is wide besides. It is wider after a turn that drove as many as
-    /// it might, and as narrow as may be after one in which several streams turned out heavy. So a crowd whose first requests are all large
-    /// waits in turns, and who comes after it doesn't wait for it.
+    /// Of those that take no turns it drives as many as it is wide, `WIDTH_MIN` at least, with the least keys. The others are late: they
+    /// take turns until they have had one, and of them it drives one less than it is wide besides. It is wider after a turn that drove as
+    /// many as it might, and as narrow as may be after one in which several streams turned out heavy. So a crowd whose first requests are
+    /// all large waits in turns, and who comes after it doesn't wait for it.
     ///
     /// It drives before it accepts: so an event of this poll can't be taken for one of a connection that came since under the same key,
     /// and the places of those that left are free for those that come.
