@@ -16,7 +16,7 @@ use Rattle.stream_driver.specs.declared.entries.EntryState.TheVariants.{Idle, Re
 use Rattle.event_loop.specs.Tables.{is_ready}
 use Rattle.event_loop.specs.declared.order.Kind.{Kind}
 use Rattle.event_loop.specs.declared.order.Kind.TheVariants.{Any, Reader, Writer}
-use Rattle.event_loop.specs.declared.order.TheConstants.{WIDTH_MIN, WIDTH_PARTS}
+use Rattle.event_loop.specs.declared.order.TheConstants.{WIDENED_BY, WIDTH_MIN, WIDTH_PARTS}
 use Rattle.event_loop.specs.declared.order.Turns.{Turns}
 
 -- how many places a key stands behind another, round the 128 places of the table: from 1, and 128 behind itself
@@ -129,7 +129,7 @@ module _ {T D : Type 0} {g : Ghosts D} (hub : Hub D g) where
 abbrev pub width_after : (last unused heavy : ℕ) → ℕ
 width_after last unused heavy =
     cond (nat_le WIDTH_MIN heavy) (WIDTH_MIN * WIDTH_PARTS)
-    (cond (unused == 0 && heavy == 0) (min (last + max WIDTH_PARTS (last / 4)) (SESSIONS_MAX * WIDTH_PARTS))
+    (cond (unused == 0 && heavy == 0) (min (last + WIDENED_BY) (SESSIONS_MAX * WIDTH_PARTS))
     (max (cond (nat_lt ((last / WIDTH_PARTS - unused) * 2) (last / WIDTH_PARTS)) (last - 1) last)
     (WIDTH_MIN * WIDTH_PARTS)))
 

@@ -10,9 +10,10 @@
 //! are passed over and late until they have had a turn: who becomes ready later doesn't wait for them. Of those that are late it drives one
 //! less than it is wide, besides those that have a turn. The width grows while none of them turns out heavy, as the window of TCP does
 //! (Jacobson, Congestion Avoidance and Control, 1988), and falls where several do.
-ghost use Rattle.std.specs.Prelude.{◌≡◌, ◌-◌, ◌*◌, ◌<◌, ◌≤◌, nat_lt, ℕ, Bool, Some};
+ghost use Rattle.std.specs.Prelude.{◌≡◌, ◌-◌, ◌*◌, ◌<◌, ◌≤◌, nat_lt, not, ℕ, Bool, Some};
+ghost use Rattle.event_loop.specs.declared.order.Kind.TheVariants.{Any};
 ghost use Rattle.event_loop.specs.Order.{AreNext, ComesNearer, HasNextTurn, after_turn, behind, has_turn, in_turn};
-ghost use Rattle.event_loop.specs.Order.{is_late_entry, is_light, is_of_kind, is_one, is_writer, late_in, light_in};
+ghost use Rattle.event_loop.specs.Order.{is_late_entry, is_of_kind, is_one, is_writer, late_in, light_in};
 ghost use Rattle.event_loop.specs.Order.{share_at, share_in_turn, waits_as, width_after, writes_in};
 ghost use Rattle.event_loop.specs.Tables.{slot_at};
 
@@ -25,8 +26,11 @@ use stream_driver::{BufferedStream, Entry, EntryState, LIGHT_MAX, SHARE_MAX};
 /// How many of those that take no turns a turn drives at least, where so many are ready; and how many that turn out heavy make it so few.
 pub const WIDTH_MIN: usize = 2;
 
-/// A width is kept in so many parts of one, since it falls by a part where little of a turn was used.
+/// A width is kept in so many parts of one. It falls by a part where little of a turn was used.
 pub const WIDTH_PARTS: usize = 16;
+
+/// By how many parts it grows where all of a turn was used.
+pub const WIDENED_BY: usize = 4;
 
 /// The sessions that take turns.
 #[derive(Clone, Copy, PartialEq, Eq, Debug)]
@@ -197,11 +201,23 @@ struct Left {
     late: usize,
 }
 
-// Is it one of those that take turns, and late: not one that writes, and heavy for one more turn alone?
-fn is_late<D: Sectors>(hub: &Hub<D>, entry: &Entry<BufferedStream<Socket>>) -> bool
-    ensures { result ≡ is_late_entry hub.now entry.now }
+// Does an entry take turns, and is it late then: not one that writes, and heavy for one more turn alone? It is asked once in a turn, since
+// it looks the session up.
+#[derive(Clone, Copy)]
+struct Class {
+    takes_turns: bool,
+    is_late: bool,
+}
+
+fn class_of<D: Sectors>(hub: &Hub<D>, entry: &Entry<BufferedStream<Socket>>) -> Class
+    ensures takes_turns { result.takes_turns ≡ is_of_kind hub.now Any entry.now }
+    ensures late { result.is_late ≡ is_late_entry hub.now entry.now }
 {
-    !is_writer(hub, entry) && entry.stream.is_late()
+    let is_writer = is_writer(hub, entry);
+    Class {
+        takes_turns: is_writer || entry.stream.is_heavy(),
+        is_late: !is_writer && entry.stream.is_late(),
+    }
 }
 
 // How many bytes it may be sent in this turn: a whole share where it takes turns and has this. A light one where it takes none, or is late,
@@ -211,15 +227,18 @@ fn share_in_turn<D: Sectors>(
     turns: Turns,
     left: Left,
     key: usize,
+    class: Class,
     entry: &Entry<BufferedStream<Socket>>,
 ) -> Option<usize>
+    requires takes_turns { class.takes_turns ≡ is_of_kind hub.now Any entry.now }
+    requires late { class.is_late ≡ is_late_entry hub.now entry.now }
     ensures { result ≡ share_in_turn hub.now turns (nat_lt 0 left.light) (nat_lt 0 left.late) key entry.now }
 {
-    if is_of_kind(hub, Kind::Any, entry) {
+    if class.takes_turns {
         if has_turn(hub, turns, key, entry) {
             return Some(SHARE_MAX);
         }
-        if left.late == 0 || !is_late(hub, entry) {
+        if left.late == 0 || !class.is_late {
             return None;
         }
     } else if left.light == 0 {
@@ -228,16 +247,16 @@ fn share_in_turn<D: Sectors>(
     Some(LIGHT_MAX)
 }
 
-// How many more may be driven behind one that is ready.
-fn left_behind<D: Sectors>(hub: &Hub<D>, left: Left, entry: &Entry<BufferedStream<Socket>>) -> Left
-    ensures light { result.light ≡ left.light - is_one (is_light hub.now entry.now) }
-    ensures late { result.late ≡ left.late - is_one (is_late_entry hub.now entry.now) }
-{
-    Left {
-        light: left
-            .light
-            .saturating_sub(usize::from(!is_of_kind(hub, Kind::Any, entry))),
-        late: left.late.saturating_sub(usize::from(is_late(hub, entry))),
+impl Left {
+    // How many more may be driven behind one that is ready.
+    fn behind(self, class: Class) -> Left
+        ensures light { result.light ≡ self.light - is_one (not class.takes_turns) }
+        ensures late { result.late ≡ self.late - is_one class.is_late }
+    {
+        Left {
+            light: self.light.saturating_sub(usize::from(!class.takes_turns)),
+            late: self.late.saturating_sub(usize::from(class.is_late)),
+        }
     }
 }
 
@@ -257,15 +276,15 @@ fn take_turn<D: Sectors>(
     if entry.state != EntryState::Ready {
         return left;
     }
-    let behind = left_behind(hub, left, entry);
-    match share_in_turn(hub, turns, left, key, entry) {
+    let class = class_of(hub, entry);
+    match share_in_turn(hub, turns, left, key, class, entry) {
         Some(bytes) => entry.stream.begin_turn(bytes),
         None => {
             entry.state = EntryState::Idle;
             entry.stream.pass_over();
         }
     }
-    behind
+    left.behind(class)
 }
 
 /// Passes over the entries that take turns but for those whose turn it is, and over those that take none but for as many as the turn is
@@ -303,8 +322,9 @@ pub(crate) fn heavy_streams(table: &Slab<Entry<BufferedStream<Socket>>>) -> usiz
 }
 
 /// How wide the next turn is, after one so wide that might have driven so many more of those that take no turns, and in which so many
-/// streams turned out heavy; widths are in parts of `WIDTH_PARTS`. It is as narrow as may be where these were several, wider by a quarter
-/// where all of it was used and none of them was, and narrower by a part of one where less than half of it was used. Takes no memory.
+/// streams turned out heavy; widths are in parts of `WIDTH_PARTS`. It is as narrow as may be where these were several. It is wider by
+/// `WIDENED_BY` parts where all of it was used and none of them was, and narrower by one where less than half of it was used. Takes no
+/// memory.
 pub(crate) fn next_width(last: usize, unused: usize, heavy: usize) -> usize
     requires some { WIDTH_MIN * WIDTH_PARTS ≤ last }
     requires few { last ≤ SESSIONS_MAX * WIDTH_PARTS }
@@ -316,7 +336,7 @@ pub(crate) fn next_width(last: usize, unused: usize, heavy: usize) -> usize
         return WIDTH_MIN * WIDTH_PARTS;
     }
     if unused == 0 && heavy == 0 {
-        return (last + WIDTH_PARTS.max(last / 4)).min(SESSIONS_MAX * WIDTH_PARTS);
+        return (last + WIDENED_BY).min(SESSIONS_MAX * WIDTH_PARTS);
     }
     let width = last / WIDTH_PARTS;
     let next = if width.saturating_sub(unused) * 2 < width {

@@ -91,7 +91,7 @@ module _ {T : Type 0} where
   write_fails old new answer none stays = grind arith
 
   same_turn : {b : BufferedStream T} → KeepsTurn b b
-  same_turn = record { share = refl; whole = refl; appended = refl; writer = refl; writes = refl; heavy = refl }
+  same_turn = record { share = refl; whole = refl; appended = refl; writer = refl; heavy = refl }
 
   turn_then : {a b c : BufferedStream T} → KeepsTurn a b → KeepsTurn b c → KeepsTurn a c
   turn_then p q = record {
@@ -99,7 +99,6 @@ module _ {T : Type 0} where
     whole = q.whole ∙ p.whole;
     appended = q.appended ∙ p.appended;
     writer = q.writer ∙ p.writer;
-    writes = q.writes ∙ p.writes;
     heavy = q.heavy ∙ p.heavy;
   }
 

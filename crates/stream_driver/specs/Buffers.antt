@@ -7,7 +7,7 @@ use Rattle.stream_driver.specs.Traffic.{AllMoved, DepartAt, CountsLast, Share, T
 use Rattle.stream_driver.specs.Traffic.{bytes_read, bytes_written, untouched}
 use Rattle.stream_driver.specs.Types.{Call, Read, Write, ReadAnswer, Moved, Blocked, Failed, Ended, WriteAnswer}
 use Rattle.stream_driver.specs.Types.{Wrote, WriteBlocked, WriteFailed, BufferedBytes, Flushed, All}
-use Rattle.stream_driver.specs.declared.buffered.TheConstants.{HEAVY_TURNS, LIGHT_MAX, LIGHT_WRITES}
+use Rattle.stream_driver.specs.declared.buffered.TheConstants.{HEAVY_TURNS, LIGHT_MAX}
 use Rattle.stream_driver.specs.Types.{FlushedBlocked as FlushBlocked, FlushedFailed as FlushFailed, BufferedStream}
 
 -- the bytes that are buffered
@@ -40,7 +40,6 @@ module _ {T : Type 0} where
     pub whole : b.whole ≡ 262144
     pub appended : b.appended ≡ false
     pub writer : b.is_writer ≡ false
-    pub writes : b.writes ≡ 0
     pub heavy : b.heavy_for ≡ 0
     pub counts : counted b.counts ≡ untouched
 
@@ -59,26 +58,20 @@ module _ {T : Type 0} where
   -- a turn of its own begins, with a share of so many bytes
   abbrev pub in_turn_of : ℕ → BufferedStream T → BufferedStream T
   in_turn_of bytes b =
-      record b { share = bytes; whole = bytes; appended = false; writes = 0; heavy_for = b.heavy_for - 1 }
+      record b { share = bytes; whole = bytes; appended = false; heavy_for = b.heavy_for - 1 }
 
   -- it is passed over in this turn, and heavy until a turn of its own has begun
   abbrev pub passed_over : BufferedStream T → BufferedStream T
   passed_over b = record b { share = 0; heavy_for = max b.heavy_for 1 }
 
-  -- in how many writes of this turn it has taken bytes, with this one; a u8
-  abbrev pub writes_with_one : BufferedStream T → ℕ
-  writes_with_one b = min (b.writes + 1) 255
-
-  -- So many bytes of its share, or so many writes, make a drive heavy, and the stream for some turns of its own; unless
-  -- an append has ended the share.
+  -- So many bytes of its share make a drive heavy, and the stream for some turns of its own; unless an append has ended
+  -- the share.
   abbrev pub heavy_for_after : BufferedStream T → ℕ
-  heavy_for_after b =
-      cond (not b.appended && (nat_le LIGHT_MAX (b.whole - b.share) || nat_le LIGHT_WRITES (writes_with_one b)))
-      HEAVY_TURNS b.heavy_for
+  heavy_for_after b = cond (not b.appended && nat_le LIGHT_MAX (b.whole - b.share)) HEAVY_TURNS b.heavy_for
 
   -- what it notes once it has taken bytes
   abbrev pub after_taking : BufferedStream T → BufferedStream T
-  after_taking b = record b { writes = writes_with_one b; heavy_for = heavy_for_after b }
+  after_taking b = record b { heavy_for = heavy_for_after b }
 
   -- it has taken its share of this turn
   abbrev pub has_had_share : BufferedStream T → Bool
@@ -132,7 +125,6 @@ module _ {T : Type 0} where
     pub whole : new.whole ≡ old.whole
     pub appended : new.appended ≡ old.appended
     pub writer : new.is_writer ≡ old.is_writer
-    pub writes : new.writes ≡ old.writes
     pub heavy : new.heavy_for ≡ old.heavy_for
 
   pub record ReadsShort (old : BufferedStream T) (len : ℕ) (answer : ReadAnswer) (new : BufferedStream T) : Type 0 where
@@ -147,12 +139,7 @@ module _ {T : Type 0} where
   is_drained_after WriteBlocked b = b.is_drained
   is_drained_after WriteFailed b = b.is_drained
 
-  -- what a write leaves of its turn
-  abbrev pub writes_after : WriteAnswer → BufferedStream T → ℕ
-  writes_after (Wrote n) b = writes_with_one b
-  writes_after WriteBlocked b = b.writes
-  writes_after WriteFailed b = b.writes
-
+  -- for how many turns of its own it is heavy after a write
   abbrev pub heavy_after : WriteAnswer → BufferedStream T → ℕ
   heavy_after (Wrote n) b = heavy_for_after (record b { share = b.share - n })
   heavy_after WriteBlocked b = b.heavy_for
@@ -173,7 +160,6 @@ module _ {T : Type 0} where
     pub whole : new.whole ≡ old.whole
     pub appended : new.appended ≡ old.appended
     pub writer : new.is_writer ≡ is_writer_after answer old
-    pub writes : new.writes ≡ writes_after answer old
     pub heavy : new.heavy_for ≡ heavy_after answer old
 
   -- Nothing of what is buffered has left, and whether it failed to leave is as it was; or some has, and it has not

@@ -14,9 +14,6 @@ pub const SHARE_MAX: usize = 262_144;
 /// A light share: that of a stream that takes no turns. A drive that takes so many bytes is heavy.
 pub const LIGHT_MAX: usize = 32_768;
 
-/// A drive that takes bytes in so many writes is heavy, too. Each reply is at least one.
-pub const LIGHT_WRITES: u8 = 48;
-
 /// For how many turns of its own a stream counts as heavy after a heavy drive, that of the drive included.
 pub const HEAVY_TURNS: u8 = 16;
 
@@ -48,9 +45,8 @@ pub enum Flushed {
 /// several turns.
 ///
 /// A drive that appends a record ends the share with the reply to it. From then on the stream is a writer's (`is_writer`), until it takes
-/// bytes in a turn of its own that no such drive has ended. A drive is heavy that takes `LIGHT_MAX` bytes, or bytes in `LIGHT_WRITES`
-/// writes. The stream is heavy (`is_heavy`) until `HEAVY_TURNS` turns of its own have begun since; and, where it was passed over, until one
-/// has.
+/// bytes in a turn of its own that no such drive has ended. A drive is heavy that takes `LIGHT_MAX` bytes. The stream is heavy (`is_heavy`)
+/// until `HEAVY_TURNS` turns of its own have begun since; and, where it was passed over, until one has.
 #[derive(Drop)]
 pub struct BufferedStream<S: Stream> {
     inner: S,
@@ -71,8 +67,6 @@ pub struct BufferedStream<S: Stream> {
     appended: bool,
     /// And so did the last in which it took bytes.
     is_writer: bool,
-    /// In how many writes it took bytes since the turn began.
-    writes: u8,
     /// For how many more turns of its own it is heavy.
     heavy_for: u8,
     counts: CallCounts,
@@ -102,7 +96,6 @@ impl<S: Stream> BufferedStream<S> {
             whole: SHARE_MAX,
             appended: false,
             is_writer: false,
-            writes: 0,
             heavy_for: 0,
             counts: CallCounts::new(),
         })
@@ -174,7 +167,6 @@ impl<S: Stream> BufferedStream<S> {
         self.share = bytes;
         self.whole = bytes;
         self.appended = false;
-        self.writes = 0;
         self.heavy_for = self.heavy_for.saturating_sub(1);
     }
 
@@ -186,14 +178,11 @@ impl<S: Stream> BufferedStream<S> {
         self.heavy_for = self.heavy_for.max(1);
     }
 
-    // It has taken bytes: in so many writes of this turn, and perhaps so many that the drive is heavy. What an append took of the share
-    // says nothing of that.
+    // It has taken bytes: so many in this turn, perhaps, that the drive is heavy. What an append took of the share says nothing of that.
     fn note_taken(&mut self)
         ensures { self.new ≡ after_taking self.old }
     {
-        self.writes = self.writes.saturating_add(1);
-        let is_much = LIGHT_MAX <= self.whole.saturating_sub(self.share);
-        if !self.appended && (is_much || LIGHT_WRITES <= self.writes) {
+        if !self.appended && LIGHT_MAX <= self.whole.saturating_sub(self.share) {
             self.heavy_for = HEAVY_TURNS;
         }
     }

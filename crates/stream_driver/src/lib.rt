@@ -12,7 +12,7 @@ mod laws;
 mod stream;
 
 pub use answers::{Call, Progress, ReadAnswer, WriteAnswer};
-pub use buffered::{BufferedStream, Flushed, HEAVY_TURNS, LIGHT_MAX, LIGHT_WRITES, SHARE_MAX};
+pub use buffered::{BufferedStream, Flushed, HEAVY_TURNS, LIGHT_MAX, SHARE_MAX};
 pub use buffered_bytes::BUFFERED_MAX;
 pub use counts::CallCounts;
 pub use driving::{READ_MAX, REQUESTS_MAX, drive};
