@@ -204,8 +204,8 @@ fn is_answered<S: Read>(client: &mut S) -> bool {
     received(client) > 0
 }
 
-/// Four readers ask for much at once, none of which was known to. The first turn answers two of them, and each later one a single one. Who
-/// asks once they have is answered in each.
+/// Four readers ask for much at once, none of which was known to. No turn answers more than two of them. Who asks once they have is answered
+/// in each.
 fn two_of_a_crowd<D: Sectors, R: Net + Abort + AllocGlobal>(rt: &R, events: &mut EventLoop<D>) {
     let mut one = client(rt, events);
     let mut two = client(rt, events);
@@ -239,7 +239,7 @@ fn two_of_a_crowd<D: Sectors, R: Net + Abort + AllocGlobal>(rt: &R, events: &mut
             is_answered(&mut three),
             is_answered(&mut four),
         ];
-        assert!(rt; now.iter().filter(|is_so| **is_so).count() <= 1);
+        assert!(rt; now.iter().filter(|is_so| **is_so).count() <= 2);
         all = [all[0], all[1], all[2] || now[2], all[3] || now[3]];
     }
     assert!(rt; all == [true; 4]);
