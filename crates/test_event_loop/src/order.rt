@@ -204,8 +204,8 @@ fn is_answered<S: Read>(client: &mut S) -> bool {
     received(client) > 0
 }
 
-/// Four readers ask for much at once, none of which was known to. No turn answers more than two of them. Who asks once they have is answered
-/// in each.
+/// Four readers ask for much at once, none of which was known to. No turn answers more than two of them. Who asks once they have is
+/// answered in each.
 fn two_of_a_crowd<D: Sectors, R: Net + Abort + AllocGlobal>(rt: &R, events: &mut EventLoop<D>) {
     let mut one = client(rt, events);
     let mut two = client(rt, events);
