@@ -16,6 +16,7 @@ mod order;
 mod polling;
 mod server;
 mod socket;
+mod spare;
 mod waiting;
 
 pub use connections::{Backlog, Refusal, accept_some};

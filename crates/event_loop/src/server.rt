@@ -23,6 +23,7 @@ use crate::order::{
 };
 use crate::polling::Poller;
 use crate::socket::Socket;
+use crate::spare::Spare;
 use crate::waiting::longest_wait;
 use mio::Token;
 use sector::Sectors;
@@ -36,9 +37,6 @@ use stream_driver::{BufferedStream, Entry, Stream, drive_ready};
 
 /// The token of the listener, which no key of the table is.
 pub(crate) const LISTENER: Token = Token(usize::MAX);
-
-/// How many bytes a turn asks for once its step has freed garbage.
-const SPARE_BYTES: usize = 2_040;
 
 /// A listener, its connections, and the hub of their sessions.
 #[derive(Drop)]
@@ -59,9 +57,8 @@ pub struct EventLoop<D: Sectors> {
     turns: Turns,
     /// How many of those that take no turns the next one drives, in parts of `WIDTH_PARTS`.
     next_width: usize,
-    /// A block that is asked for again at the end of each turn. The C library (glibc's `malloc_consolidate`) joins its small free blocks
-    /// where it is asked for 1,024 bytes or more: so each turn has it join what its own step freed, and no request pays for many.
-    spare: Option<Vec<u8>>,
+    /// A block that is asked for again at the end of each turn, so that the C library joins what the turn has freed.
+    spare: Spare,
     table: Slab<Entry<BufferedStream<Socket>>>,
     ghost room: { SESSIONS_MAX + LINGERING_MAX + 1 ≤ events_capacity poller.events },
     ghost stands: { Stands hub },
@@ -124,7 +121,7 @@ impl<D: Sectors> EventLoop<D> {
                 refused: 0,
                 turns: Turns::new(),
                 next_width: WIDTH_MIN * WIDTH_PARTS,
-                spare: None,
+                spare: Spare::none(),
                 table: Slab::new(alloc),
             }),
             Err(error) => Err(Unbound { error, hub }),
@@ -173,7 +170,7 @@ impl<D: Sectors> EventLoop<D> {
     /// and the places of those that left are free for those that come.
     ///
     /// At its end it frees what no open transaction needs, a step of it (`Hub::reclaim_step`). So turns go on with that, also where no
-    /// session sends anything, until no garbage is left. Then it asks for a block of `SPARE_BYTES` in place of the last such; a refusal of
+    /// session sends anything, until no garbage is left. Then it asks for a block in place of the last such (`Spare`); a refusal of
     /// that changes nothing.
     ///
     /// It waits for no more than `timeout`, without end where none is given. It doesn't wait at all where a session is still ready, where
@@ -298,7 +295,7 @@ impl<D: Sectors> EventLoop<D> {
         ensures turns { self.new.turns ≡ self.old.turns }
     {
         self.has_garbage = self.hub.reclaim_step();
-        self.spare = Vec::with_capacity(self.alloc, SPARE_BYTES).ok();
+        self.spare.ask_again(self.alloc);
     }
 
     // Accepts connections, where the listener may hold more or the last poll reported it.
