@@ -39,9 +39,9 @@ QUICK_MS = {
     "ranges of 1 over keys that were deleted at the begin and are set again": 3,
     "256 ranges over a run that straddles the begin": 4,
     "256 ranges, each within the next, over a run that straddles the begin": 2,
-    "many COMMITs in one turn, of transactions that have read all that was written before their begin": 16,
-    "60 clients with the largest RANGEs": 1400,
-    "60 clients with RANGEs of 128 values of 4,096 bytes": 400,
+    "many COMMITs in one turn, of transactions that have read all that was written before their begin": 6,
+    "60 clients with the largest RANGEs": 72,
+    "60 clients with RANGEs of 128 values of 4,096 bytes": 24,
     "128 connections coming and going": 24,
     "idle turns, until what an old transaction saw is freed": 6,
     "the first RANGE of 100 pairs after that": 2.5,
@@ -49,9 +49,9 @@ QUICK_MS = {
     "60 clients with whole transactions in one piece, all at once, after their first": 4,
 }
 LONG_MS = {
-    "24 COMMITs of 64 values of 16,384 bytes, all in one turn": 670,
-    "60 COMMITs of ones with 256 ranges and 64 writes, after everything was written again, all in one turn": 170,
-    "60 clients with 21 RANGEs of 128 over keys of which one in 384 is left, all in one turn": 1340,
+    "24 COMMITs of 64 values of 16,384 bytes, all in one turn": 60,
+    "60 COMMITs of ones with 256 ranges and 64 writes, after everything was written again, all in one turn": 12,
+    "60 clients with 21 RANGEs of 128 over keys of which one in 384 is left, all in one turn": 12,
 }
 # Where they are judged, the most syncs between two polls: those of one COMMIT.
 SYNCS = {
