@@ -24,7 +24,10 @@
 
 enum kind { MEMORY, DEVICE, RECEIVE, SEND, ACCEPT, POLL, OPENING, KINDS };
 
-enum { SPARE = 2040 };
+/* The sizes of which the server asks for a block at the end of each turn, and goes on without. */
+static int is_spare(size_t size) {
+    return size == 2040 || size == 3064 || size == 4088;
+}
 
 static const uint64_t NOTHING = (uint64_t)1 << 32, LATE = (uint64_t)1 << 33;
 
@@ -63,7 +66,7 @@ static int is_chosen(enum kind kind) {
 
 /* Is a block of so many bytes refused? */
 static int is_refused(size_t size) {
-    if (size != SPARE)
+    if (!is_spare(size))
         return is_chosen(MEMORY);
     return control && control->calls[MEMORY].made + 1 >= control->calls[MEMORY].first && control->calls[MEMORY].made < control->calls[MEMORY].last;
 }

@@ -144,9 +144,13 @@ ssize_t recv(int file, void *into, size_t size, int flags) {
     return traces_memory ? note(RECEIVE, file, 0, moved, NULL, 0) : moved;
 }
 
-/* Blocks of 2,040 bytes are left out, for one of which the server asks at the end of each turn, and goes on without. */
+/* Is a block of the sizes of which the server asks for one at the end of each turn, and goes on without? These are left out. */
+static int is_spare(size_t size) {
+    return size == 2040 || size == 3064 || size == 4088;
+}
+
 static void note_memory(size_t size) {
-    if (traces_memory && size != 2040)
+    if (traces_memory && !is_spare(size))
         note(MEMORY, -1, 0, (int64_t)size, NULL, 0);
 }
 
