@@ -39,7 +39,7 @@ QUICK_MS = {
     "ranges of 1 over keys that were deleted at the begin and are set again": 3,
     "256 ranges over a run that straddles the begin": 4,
     "256 ranges, each within the next, over a run that straddles the begin": 2,
-    "many COMMITs in one turn, of transactions that have read all that was written before their begin": 4,
+    "many COMMITs in one turn, of transactions that have read all that was written before their begin": 6,
     "60 clients with the largest RANGEs": 72,
     "60 clients with RANGEs of 128 values of 4,096 bytes": 24,
     "128 connections coming and going": 24,
