@@ -16,8 +16,8 @@ abbrev pub ready_steps : Option Ready → Option (List StepValue)
 ready_steps ready = option_map (λ r. r.steps.items) ready
 
 -- how many steps it holds
-abbrev pub steps_held : ReadRun → ℕ
-steps_held r = deque_len r.first + deque_len r.second + deque_len r.made
+abbrev pub steps_count : ReadRun → ℕ
+steps_count r = deque_len r.first + deque_len r.second + deque_len r.made
 
 -- how far a run is merged
 abbrev pub read_run_size : ReadRun → RunSize

@@ -4,7 +4,7 @@ use Rattle.std.specs.Prelude.{◌≡◌, ℕ, ◌<◌, ◌≤◌, ◌+◌, max, 
 use Rattle.std.specs.Prelude.{Some, None, IsSome, if◌then◌else◌}
 use Rattle.model.specs.Map.{Bytes}
 use Rattle.model.specs.PrivateCopy.{Mark, is_covered}
-use Rattle.merging_runs.specs.Held.{Held, garbage_upto}
+use Rattle.merging_runs.specs.Contents.{Contents, garbage_upto}
 use Rattle.merging_runs.specs.RunSizes.{RunSize, IsMoved, moves_for, with_run}
 use Rattle.last_readers.specs.Steps.{StepValue, RunValue, cut, is_named_in, is_run_from, number_at, number_in}
 
@@ -22,13 +22,13 @@ pub record ReadersRoom : Type 0 where
 pub record LastReadersValue : Type 0 where
   pub readers : Readers
   pub room : ReadersRoom
-  pub held : Held
+  pub contents : Contents
   pub runs : List RunSize
   pub refused : ℕ
 
 -- how much garbage the runs hold: what is to be freed, or looked at, as its numbers are forgotten
 abbrev pub garbage_of_readers : LastReadersValue → ℕ
-garbage_of_readers v = garbage_upto v.readers.oldest v.held
+garbage_of_readers v = garbage_upto v.readers.oldest v.contents
 
 -- the greatest number that a run has at the key
 abbrev pub greatest_at : List RunValue → Bytes → ℕ

@@ -2,7 +2,7 @@
 ghost use Rattle.std.specs.Prelude.{◌≡◌, ◌<◌, ◌-◌, ◌||◌, ℕ, Bool, List, [], None, length, max, nat_lt, false, OnOk};
 ghost use Rattle.model.specs.Map.{Bytes};
 ghost use Rattle.model.specs.PrivateCopy.{Mark};
-ghost use Rattle.merging_runs.specs.Held.{garbage_upto, freed_a_forget, size_in};
+ghost use Rattle.merging_runs.specs.Contents.{garbage_upto, freed_a_forget, size_in};
 ghost use Rattle.merging_runs.specs.Next.{IsNext};
 ghost use Rattle.last_readers.specs.Readers.{AddsRun, AnswerAlike, AddsRunAndMerges, AreUpto, HasReadersRoom};
 ghost use Rattle.last_readers.specs.Readers.{IsForgotten, IsNoted, HasSomeReadersRoom, NameNoneUpto, if_after};
@@ -19,8 +19,8 @@ use std::alloc::Global;
 use std::marker::Model;
 
 /// For each key the number of the last commit that has read it. A clause sees what is kept (`readers`), the memory that was made ready
-/// (`room`), how much the runs hold (`held`), how far they are merged (`runs`), and how often memory for a merge was refused (`refused`).
-/// The last reader of a key is `last_reader` of what is kept, and no answer depends on anything else.
+/// (`room`), how much the runs hold (`contents`), how far they are merged (`runs`), and how often memory for a merge was refused
+/// (`refused`). The last reader of a key is `last_reader` of what is kept, and no answer depends on anything else.
 ///
 /// What is kept stands in runs, each the numbers of commits one after another as steps by rising key. A commit adds a run of its own. Two
 /// runs of a like size are merged: where both have read a key, the greater number alone is left. So the runs are few, and what they hold
@@ -43,7 +43,7 @@ impl Model for LastReaders {
     ghost view = { λ r. record {
       readers = record { runs = runs_in r.runs.runs; oldest = r.oldest };
       room = record { places = r.runs.places; ready = ready_steps r.ready };
-      held = r.runs.held;
+      contents = r.runs.contents;
       runs = r.runs.sizes;
       refused = r.runs.refused;
     } };
@@ -72,7 +72,7 @@ impl LastReaders {
 
     /// How many steps the runs hold, and one more for each run; 2^64 - 1 where there were more. Looks at each run, and takes no memory.
     pub fn steps(&self) -> usize
-        ensures { result ≡ size_in self.now.held.runs }
+        ensures { result ≡ size_in self.now.contents.runs }
     {
         self.runs.size()
     }
@@ -114,7 +114,7 @@ impl LastReaders {
         ensures room { OnOk result (HasReadersRoom marks.now self.new.room) }
     {
         self.runs.reserve(self.oldest)?;
-        let steps = steps_of(self.runs.allocator(), marks.held())?;
+        let steps = steps_of(self.runs.allocator(), marks.as_slice())?;
         self.ready = Some(Ready { steps });
         Ok(())
     }
@@ -168,7 +168,7 @@ impl LastReaders {
         ensures upto { (n : ℕ) → AreUpto n self.old.readers → AreUpto n self.new.readers }
         ensures oldest { self.new.readers.oldest ≡ max self.old.readers.oldest oldest }
         ensures garbage { garbage_of_readers self.new
-            ≡ garbage_upto self.new.readers.oldest self.old.held - freed_a_forget }
+            ≡ garbage_upto self.new.readers.oldest self.old.contents - freed_a_forget }
         ensures still { result ≡ nat_lt 0 (garbage_of_readers self.new) }
         ensures named { result ≡ false → NameNoneUpto self.new.readers.oldest self.new.readers }
         ensures merges { LeavesMerges self.new.readers.oldest self.old.runs self.new.runs self.old.refused

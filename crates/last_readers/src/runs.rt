@@ -3,7 +3,7 @@ ghost use Rattle.std.specs.Prelude.{◌≡◌, ◌≤◌, ◌<◌, ◌+◌, ◌+
 ghost use Rattle.std.specs.VecDeque.{deque_len, deque_capacity};
 ghost use Rattle.last_readers.specs.Readers.{IsWithRun, greatest_at};
 ghost use Rattle.last_readers.specs.Steps.{cut, is_named_in, is_run_from};
-ghost use Rattle.last_readers.specs.Inside.{run_of, runs_in, steps_held, read_run_size};
+ghost use Rattle.last_readers.specs.Inside.{run_of, runs_in, steps_count, read_run_size};
 ghost use Rattle.merging_runs.specs.RunSizes.{are_alike};
 ghost use Rattle.last_readers.specs.Merging.{IsMade};
 ghost use Rattle.last_readers.specs.Agreeing.{ReadersAgree, readers_agree_between, run_from_later, no_old_readers};
@@ -66,7 +66,7 @@ impl Run for ReadRun {
 
     ghost sizes = { read_run_size };
 
-    ghost held = { steps_held };
+    ghost elements = { steps_count };
 
     ghost from = { λ r. r.earliest };
 

@@ -1,4 +1,4 @@
--- How much is held of writes.
+-- How much is buffered of writes.
 use Rattle.std.proofs.Common.{◌≡◌, ◌≢◌, ◌<◌, ◌⊎◌, ℕ, ◌+◌, ◌-◌, ◌^◌, min, true, false, List, [], ◌∷◌, ◌++◌, None, ap}
 use Rattle.std.proofs.Common.{subst, inl, inr, arith, append_assoc}
 use Rattle.std.proofs.lemmas.Grind.{common_steps}
@@ -11,7 +11,7 @@ use Rattle.model.proofs.KeyOrder.{less}
 use Rattle.model.proofs.Lookups.{same_key}
 use Rattle.model.specs.Map.{Bytes, KeyWrite, key_cmp, is_same_key}
 use Rattle.latest_writes.proofs.Sweeping.{IsUpTo}
-use Rattle.latest_writes.specs.Held.{weight, HasOneOfEach, IsHeld}
+use Rattle.latest_writes.specs.Buffered.{weight, HasOneOfEach, IsBuffered}
 
 abbrev pub IsUnder : Bytes → Bytes → Type 0
 IsUnder j k = is_lt (key_cmp j k) ≡ true
@@ -41,6 +41,6 @@ one_more (w ∷ []) p e h lt some = (h.0, h.1, (lt, some, tt))
 one_more (w ∷ v ∷ ws) p e h lt some = (h.0, h.1, one_more (v ∷ ws) p e h.2 lt some)
 
 -- one write more, below the limit
-pub held_more : (old new : List KeyWrite) (w : KeyWrite) (total limit more : ℕ) → IsHeld old total limit → new ≡ old ++ w ∷ []
-    → more ≡ min (total + weight w) (2 ^ 64 - 1) → more < limit → IsHeld new more limit
+pub held_more : (old new : List KeyWrite) (w : KeyWrite) (total limit more : ℕ) → IsBuffered old total limit → new ≡ old ++ w ∷ []
+    → more ≡ min (total + weight w) (2 ^ 64 - 1) → more < limit → IsBuffered new more limit
 held_more old new w total limit more held is more_is below = grind (arith, common_steps, sum_by_push, append_assoc)

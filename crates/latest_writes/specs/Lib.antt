@@ -1,3 +1,3 @@
--- The definitions of heads, of the order in which writes are sorted, and of how many are held.
-pub mod Held
+-- The definitions of heads, of the order in which writes are sorted, and of how many are buffered.
+pub mod Buffered
 pub mod Rising

@@ -2,7 +2,7 @@
 ghost use Rattle.std.specs.Prelude.{◌≡◌, ◌≢◌, ◌⊎◌, true, false, None, IfSome, OnOk};
 ghost use Rattle.model.specs.Key.{IsValue};
 ghost use Rattle.model.specs.Map.{key_cmp, is_same_key, after_write};
-ghost use Rattle.latest_writes.specs.Held.{weight};
+ghost use Rattle.latest_writes.specs.Buffered.{weight};
 
 use crate::heads::head_of;
 use model::{Map, Memory, Write};

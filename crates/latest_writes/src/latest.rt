@@ -14,8 +14,8 @@ const LEAST_LIMIT: usize = 1 << 23;
 
 /// The writes of a log, which make a map. A clause sees the map.
 ///
-/// What is held weighs at most twice what was kept when writes were last left out, with one of each key then, or `LEAST_LIMIT` (8 MiB),
-/// where that is more (`IsHeld`).
+/// What is buffered weighs at most twice what was kept when writes were last left out, with one of each key then, or `LEAST_LIMIT` (8 MiB),
+/// where that is more (`IsBuffered`).
 #[derive(Drop)]
 pub struct LatestWrites {
     entries: Vec<Entry>,
@@ -28,13 +28,13 @@ pub struct LatestWrites {
 impl Model for LatestWrites {
     ghost use Rattle.std.specs.Prelude.{[]};
     ghost use Rattle.model.specs.Map.{KeyMap, after_writes};
-    ghost use Rattle.latest_writes.specs.Held.{IsHeld};
+    ghost use Rattle.latest_writes.specs.Buffered.{IsBuffered};
 
     ghost Value = { KeyMap };
 
     ghost view = { λ l. after_writes [] l.entries.items };
 
-    ghost invariant = { λ l. IsHeld l.entries.items l.weight l.limit };
+    ghost invariant = { λ l. IsBuffered l.entries.items l.weight l.limit };
 }
 
 impl LatestWrites {

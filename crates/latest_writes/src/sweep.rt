@@ -2,7 +2,7 @@
 ghost use Rattle.std.specs.Prelude.{◌≡◌, ◌-◌, ◌^◌, min, [], OnOk, IfOk};
 ghost use Rattle.std.specs.List.Sorted.{IsSortedBy};
 ghost use Rattle.model.specs.Map.{after_writes};
-ghost use Rattle.latest_writes.specs.Held.{weight_of, HasOneOfEach};
+ghost use Rattle.latest_writes.specs.Buffered.{weight_of, HasOneOfEach};
 ghost use Rattle.latest_writes.specs.Rising.{has_lower_key};
 
 use crate::entries::Entry;

@@ -1,4 +1,4 @@
--- The marks that are held, and what one more does.
+-- The marks of a transaction, and what one more does.
 use Rattle.std.specs.List.{list_any}
 use Rattle.std.specs.Prelude.{List, [], ◌∷◌, ◌++◌, Bool, length, nat_lt, if◌then◌else◌, not, ◌&&◌, option_map}
 use Rattle.model.specs.Map.{Bytes}

@@ -18,7 +18,7 @@ pub const MARKS_MAX: usize = 256;
 /// The marks of a transaction. A clause sees them in the order in which they were made.
 #[derive(Drop)]
 pub struct Marks {
-    held: Vec<OwnedMark>,
+    marks: Vec<OwnedMark>,
 }
 
 impl Model for Marks {
@@ -29,9 +29,9 @@ impl Model for Marks {
 
     ghost Value = { List Mark };
 
-    ghost view = { λ m. marks_of m.held.items };
+    ghost view = { λ m. marks_of m.marks.items };
 
-    ghost invariant = { λ m. length m.held.items ≤ MARKS_MAX };
+    ghost invariant = { λ m. length m.marks.items ≤ MARKS_MAX };
 }
 
 impl Marks {
@@ -40,23 +40,23 @@ impl Marks {
         ensures { result ≡ [] }
     {
         Marks {
-            held: Vec::new(alloc),
+            marks: Vec::new(alloc),
         }
     }
 
     /// Lends the marks, in the order in which they were made. Takes no memory.
-    pub fn held(&self) -> &[OwnedMark]
+    pub fn as_slice(&self) -> &[OwnedMark]
         ensures marks { marks_of result.now ≡ self.now }
         ensures few { length result.now ≤ MARKS_MAX }
     {
-        &self.held
+        &self.marks
     }
 
     /// Is the key among the reads, that is, does some mark cover it? Takes no memory.
     pub fn covers(&self, key: KeyRef<'_>) -> bool
         ensures { result ≡ is_covered self.now key.entry.bytes.now }
     {
-        for mark in &self.held {
+        for mark in &self.marks {
             if mark.lend().covers(key) {
                 return true;
             }
@@ -76,12 +76,12 @@ impl Marks {
         if self.has_key(key) {
             return Ok(());
         }
-        if self.held.len() >= MARKS_MAX {
+        if self.marks.len() >= MARKS_MAX {
             return Err(MarksFault::FullMarks);
         }
-        let alloc = *self.held.allocator();
-        let held = OwnedMark::Key(Key::from_ref(alloc, key)?);
-        self.held.push(held)?;
+        let alloc = *self.marks.allocator();
+        let mark = OwnedMark::Key(Key::from_ref(alloc, key)?);
+        self.marks.push(mark)?;
         Ok(())
     }
 
@@ -97,12 +97,12 @@ impl Marks {
         if self.has_range(range) {
             return Ok(());
         }
-        if self.held.len() >= MARKS_MAX {
+        if self.marks.len() >= MARKS_MAX {
             return Err(MarksFault::FullMarks);
         }
-        let alloc = *self.held.allocator();
-        let held = OwnedMark::from_range(alloc, range)?;
-        self.held.push(held)?;
+        let alloc = *self.marks.allocator();
+        let mark = OwnedMark::from_range(alloc, range)?;
+        self.marks.push(mark)?;
         Ok(())
     }
 
@@ -120,12 +120,12 @@ impl Marks {
         if self.has_upto(lo, last) {
             return Ok(());
         }
-        if self.held.len() >= MARKS_MAX {
+        if self.marks.len() >= MARKS_MAX {
             return Err(MarksFault::FullMarks);
         }
-        let alloc = *self.held.allocator();
-        let held = OwnedMark::from_ends(alloc, lo, last)?;
-        self.held.push(held)?;
+        let alloc = *self.marks.allocator();
+        let mark = OwnedMark::from_ends(alloc, lo, last)?;
+        self.marks.push(mark)?;
         Ok(())
     }
 
@@ -133,19 +133,19 @@ impl Marks {
     pub fn copy(&self) -> Result<Marks, Memory>
         ensures { IfOk result (λ m. m ≡ self.now) }
     {
-        let alloc = *self.held.allocator();
-        let mut held = Vec::with_capacity(alloc, self.held.len())?;
-        for mark in &self.held {
-            held.push(mark.copy()?)?;
+        let alloc = *self.marks.allocator();
+        let mut marks = Vec::with_capacity(alloc, self.marks.len())?;
+        for mark in &self.marks {
+            marks.push(mark.copy()?)?;
         }
-        Ok(Marks { held })
+        Ok(Marks { marks })
     }
 
     // Is this mark there?
     fn has_key(&self, key: KeyRef<'_>) -> bool
         ensures { result ≡ has_mark self.now (OfKey key.entry.bytes.now) }
     {
-        for mark in &self.held {
+        for mark in &self.marks {
             if mark.is_key(key) {
                 return true;
             }
@@ -157,7 +157,7 @@ impl Marks {
     fn has_range(&self, range: RangeRef<'_>) -> bool
         ensures { result ≡ has_mark self.now (range_mark range.entry) }
     {
-        for mark in &self.held {
+        for mark in &self.marks {
             if mark.is_range(range) {
                 return true;
             }
@@ -169,7 +169,7 @@ impl Marks {
     fn has_upto(&self, lo: KeyRef<'_>, last: KeyRef<'_>) -> bool
         ensures { result ≡ has_mark self.now (closed_range_mark lo.entry last.entry) }
     {
-        for mark in &self.held {
+        for mark in &self.marks {
             if mark.is_from_to(lo, last) {
                 return true;
             }

@@ -104,7 +104,7 @@ impl OwnedMark {
         ensures { result ≡ is_same_mark (OfKey key.entry.bytes.now) (mark_of self.now) }
     {
         match self {
-            OwnedMark::Key(held) => key.order(held.lend()).is_eq(),
+            OwnedMark::Key(own) => key.order(own.lend()).is_eq(),
             OwnedMark::Range(_) | OwnedMark::ClosedRange { .. } => false,
         }
     }
@@ -115,11 +115,11 @@ impl OwnedMark {
     {
         match self {
             OwnedMark::Key(_) | OwnedMark::ClosedRange { .. } => false,
-            OwnedMark::Range(held) => {
-                if !range.lo.order(held.lo.lend()).is_eq() {
+            OwnedMark::Range(own) => {
+                if !range.lo.order(own.lo.lend()).is_eq() {
                     return false;
                 }
-                match (range.hi, &held.hi) {
+                match (range.hi, &own.hi) {
                     (None, None) => true,
                     (Some(hi), Some(end)) => hi.order(end.lend()).is_eq(),
                     _ => false,

@@ -1,5 +1,5 @@
 -- What contracts say of runs that are merged.
-pub mod Held
+pub mod Contents
 pub mod Next
 pub mod RunSizes
 pub mod Value

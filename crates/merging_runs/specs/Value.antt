@@ -1,6 +1,6 @@
 -- What `Runs` holds as contracts see it.
 use Rattle.std.specs.Prelude.{◌≡◌, ◌≤◌, ◌<◌, ℕ, ◌+◌, ◌^◌, nat_le, if◌then◌else◌, List, map, Option, Some, None}
-use Rattle.merging_runs.specs.Held.{Held, HeldRun, IsSameBut, partial_upto, size_upto}
+use Rattle.merging_runs.specs.Contents.{Contents, RunContents, IsSameBut, partial_upto, size_upto}
 use Rattle.merging_runs.specs.RunSizes.{RunSize}
 
 -- the runs, how many more fit without memory, how far each is merged, how much they hold, and how often memory for a
@@ -9,24 +9,24 @@ pub record RunsValue (R : Type 0) : Type 0 where
   pub runs : List R
   pub places : ℕ
   pub sizes : List RunSize
-  pub held : Held
+  pub contents : Contents
   pub refused : ℕ
 
 -- nothing has changed but how much there is still to free of the run that was taken out
 pub record OnlyFrees {R : Type 0} (old new : RunsValue R) : Type 0 where
   pub runs : new.runs ≡ old.runs
-  pub held : IsSameBut old.held new.held
+  pub contents : IsSameBut old.contents new.contents
   pub sizes : new.sizes ≡ old.sizes
   pub refused : new.refused ≡ old.refused
 
 -- how much there is to free of a run of so many elements: one more
-abbrev pub held_of : {R : Type 0} → (R → ℕ) → (R → RunSize) → (R → ℕ) → R → HeldRun
-held_of from sizes held r = record { from = from r; last = (sizes r).last; size = held r + 1 }
+abbrev pub contents_of : {R : Type 0} → (R → ℕ) → (R → RunSize) → (R → ℕ) → R → RunContents
+contents_of from sizes elements r = record { from = from r; last = (sizes r).last; size = elements r + 1 }
 
 -- the same, if there is one
 abbrev pub size_of : {R : Type 0} → (R → ℕ) → Option R → ℕ
-size_of held None = 0
-size_of held (Some r) = held r + 1
+size_of elements None = 0
+size_of elements (Some r) = elements r + 1
 
 -- how much there is still to free of a run that was taken out
 abbrev pub taken_of : {S : Type 0} → (S → ℕ) → Option S → ℕ
@@ -35,11 +35,11 @@ taken_of left (Some s) = left s + 1
 
 -- how much there is to free of the runs that have no number above that one
 abbrev pub size_old : {R : Type 0} → (R → ℕ) → (R → RunSize) → (R → ℕ) → ℕ → List R → ℕ
-size_old from sizes held oldest rs = size_upto oldest (map (held_of from sizes held) rs)
+size_old from sizes elements oldest rs = size_upto oldest (map (contents_of from sizes elements) rs)
 
 -- how much work it is to look at the runs that may have numbers up to that one, and others above it
 abbrev pub size_partial : {R : Type 0} → (R → ℕ) → (R → RunSize) → (R → ℕ) → ℕ → List R → ℕ
-size_partial from sizes held oldest rs = partial_upto oldest (map (held_of from sizes held) rs)
+size_partial from sizes elements oldest rs = partial_upto oldest (map (contents_of from sizes elements) rs)
 
 -- Of the work of looking at runs, one of them is so much, and was done where that is no more than `most`; or there is
 -- none.

@@ -15,7 +15,7 @@ fn first_old<R: Run>(runs: &[R], oldest: u64) -> Option<usize>
 
 // Has some run no number above `oldest`?
 pub(crate) fn is_one_old<R: Run>(runs: &[R], oldest: u64) -> bool
-    ensures { result ≡ nat_lt 0 (size_old R.from R.sizes R.held oldest runs.now) }
+    ensures { result ≡ nat_lt 0 (size_old R.from R.sizes R.elements oldest runs.now) }
 {
     first_old(runs, oldest).is_some()
 }
@@ -23,11 +23,11 @@ pub(crate) fn is_one_old<R: Run>(runs: &[R], oldest: u64) -> bool
 // Takes out a run that has no number above `oldest`, if there is one.
 pub(crate) fn take_old<R: Run>(runs: &mut Vec<R>, oldest: u64) -> Option<R>
     ensures agree { R.agree (nat_le oldest) runs.new.items runs.old.items }
-    ensures none { result ≡ None → size_old R.from R.sizes R.held oldest runs.new.items ≡ 0 }
-    ensures size { size_old R.from R.sizes R.held oldest runs.old.items
-        ≡ size_of R.held result + size_old R.from R.sizes R.held oldest runs.new.items }
-    ensures partial { size_partial R.from R.sizes R.held oldest runs.new.items
-        ≡ size_partial R.from R.sizes R.held oldest runs.old.items }
+    ensures none { result ≡ None → size_old R.from R.sizes R.elements oldest runs.new.items ≡ 0 }
+    ensures size { size_old R.from R.sizes R.elements oldest runs.old.items
+        ≡ size_of R.elements result + size_old R.from R.sizes R.elements oldest runs.new.items }
+    ensures partial { size_partial R.from R.sizes R.elements oldest runs.new.items
+        ≡ size_partial R.from R.sizes R.elements oldest runs.old.items }
     ensures left { left_above oldest (map R.sizes runs.new.items) ≡ left_above oldest (map R.sizes runs.old.items) }
 {
     match first_old(runs, oldest) {

@@ -22,7 +22,7 @@ pub trait Run: Drop {
     ghost sizes: { Self → RunSize };
 
     /// How many elements it holds.
-    ghost held: { Self → ℕ };
+    ghost elements: { Self → ℕ };
 
     /// A number that none of its numbers is below.
     ghost from: { Self → ℕ };
@@ -64,7 +64,7 @@ pub trait Run: Drop {
 
     /// How many elements it holds, and one more: 2^64 - 1 where there were more. Takes no memory.
     fn size(&self) -> usize
-        ensures { result ≡ min (held self.now + 1) (2 ^ 64 - 1) };
+        ensures { result ≡ min (elements self.now + 1) (2 ^ 64 - 1) };
 
     /// The number above `n` that was found, or the least above `n` that one of its elements has, where that is less. It looks at each
     /// element, and takes no memory.
@@ -110,12 +110,12 @@ pub trait Run: Drop {
         ensures from { oldest < from self.new }
         ensures agree { agree (nat_le oldest) (self.new ∷ []) (self.old ∷ []) }
         ensures swept { IsSwept (sizes self.old) (sizes self.new) }
-        ensures held { held self.new ≤ held self.old }
+        ensures fewer { elements self.new ≤ elements self.old }
         ensures room { (sizes self.new).left ≡ 0 → room self.new ≡ 0 };
 
     /// What there is to free of it. Takes no memory.
     fn into_stale(self) -> Self::Stale
-        ensures { held self ≡ Self.Stale.left result };
+        ensures { elements self ≡ Self.Stale.left result };
 
     /// Runs answer as they do.
     ghost same: { (begins : ℕ → Bool) (rs : List Self) → agree begins rs rs };

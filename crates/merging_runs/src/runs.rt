@@ -3,7 +3,7 @@ ghost use Rattle.std.specs.Prelude.{◌≡◌, ◌≤◌, ◌<◌, ◌+◌, ◌-
 ghost use Rattle.std.specs.Prelude.{nat_lt};
 ghost use Rattle.std.specs.Prelude.{All, OnOk, None, false};
 ghost use Rattle.std.specs.List.{list_any};
-ghost use Rattle.merging_runs.specs.Held.{HasSamePartial, garbage_upto, freed_a_forget, size_in, whole_upto};
+ghost use Rattle.merging_runs.specs.Contents.{HasSamePartial, garbage_upto, freed_a_forget, size_in, whole_upto};
 ghost use Rattle.merging_runs.specs.Next.{IsNext};
 ghost use Rattle.merging_runs.specs.RunSizes.{IsMoved, IsTried, LeavesMerges, left_above, moves_for};
 ghost use Rattle.merging_runs.specs.Value.{OnlyFrees, size_of};
@@ -27,7 +27,7 @@ const MOVES_MORE: usize = 64;
 const FREED_MAX: usize = 1_024;
 
 /// Runs of commits one after another, the earliest first. A clause sees the runs, how many more fit (`places`), how far each is merged
-/// (`sizes`), how much they hold (`held`), and how often memory for a merge was refused (`refused`).
+/// (`sizes`), how much they hold (`contents`), and how often memory for a merge was refused (`refused`).
 #[derive(Drop)]
 pub struct Runs<R: Run> {
     runs: Vec<R>,
@@ -42,7 +42,7 @@ pub struct Runs<R: Run> {
 impl<R: Run> Model for Runs<R> {
     ghost use Rattle.std.specs.Prelude.{◌<◌, ◌-◌, ◌^◌, map};
     ghost use Rattle.std.specs.Vec.{vec_len, vec_capacity};
-    ghost use Rattle.merging_runs.specs.Value.{RunsValue, held_of, taken_of};
+    ghost use Rattle.merging_runs.specs.Value.{RunsValue, contents_of, taken_of};
 
     ghost Value = { RunsValue R };
 
@@ -50,8 +50,8 @@ impl<R: Run> Model for Runs<R> {
       runs = s.runs.items;
       places = vec_capacity s.runs - vec_len s.runs;
       sizes = map R.sizes s.runs.items;
-      held = record {
-        runs = map (held_of R.from R.sizes R.held) s.runs.items;
+      contents = record {
+        runs = map (contents_of R.from R.sizes R.elements) s.runs.items;
         taken = taken_of R.Stale.left s.stale;
         credit = s.credit;
       };
@@ -85,7 +85,7 @@ impl<R: Run> Runs<R> {
 
     /// What the runs hold, each counted as one more: 2^64 - 1 where there was more. Looks at each run, and takes no memory.
     pub fn size(&self) -> usize
-        ensures { result ≡ size_in self.now.held.runs }
+        ensures { result ≡ size_in self.now.contents.runs }
     {
         self.runs
             .iter()
@@ -152,10 +152,11 @@ impl<R: Run> Runs<R> {
     // Takes out a run that has no number above `oldest`, if there is one.
     fn take_old(&mut self, oldest: u64) -> Option<R>
         ensures agree { R.agree (nat_le oldest) self.new.runs self.old.runs }
-        ensures whole { whole_upto oldest self.old.held ≡ size_of R.held result + whole_upto oldest self.new.held }
-        ensures partial { HasSamePartial oldest self.old.held self.new.held }
-        ensures taken { self.new.held.taken ≡ self.old.held.taken }
-        ensures none { result ≡ None → whole_upto oldest self.new.held ≡ self.new.held.taken }
+        ensures whole { whole_upto oldest self.old.contents
+            ≡ size_of R.elements result + whole_upto oldest self.new.contents }
+        ensures partial { HasSamePartial oldest self.old.contents self.new.contents }
+        ensures taken { self.new.contents.taken ≡ self.old.contents.taken }
+        ensures none { result ≡ None → whole_upto oldest self.new.contents ≡ self.new.contents.taken }
         ensures left { left_above oldest self.new.sizes ≡ left_above oldest self.old.sizes }
         ensures refused { self.new.refused ≡ self.old.refused }
     {
@@ -166,8 +167,8 @@ impl<R: Run> Runs<R> {
     // left of it.
     fn free_part(&mut self, most: usize) -> usize
         ensures others { OnlyFrees self.old self.new }
-        ensures taken { self.old.held.taken + result ≡ self.new.held.taken + most }
-        ensures ended { 0 < result → self.new.held.taken ≡ 0 }
+        ensures taken { self.old.contents.taken + result ≡ self.new.contents.taken + most }
+        ensures ended { 0 < result → self.new.contents.taken ≡ 0 }
     {
         let Some(stale) = &mut self.stale else {
             return most;
@@ -182,12 +183,12 @@ impl<R: Run> Runs<R> {
 
     // Frees so much at most of a run that was taken out, the whole of it at once where that is enough.
     fn free_run(&mut self, run: R, most: usize) -> usize
-        requires none { self.old.held.taken ≡ 0 }
+        requires none { self.old.contents.taken ≡ 0 }
         requires some { 0 < most }
         requires most { most ≤ freed_a_forget }
         ensures others { OnlyFrees self.old self.new }
-        ensures taken { R.held run + 1 + result ≡ self.new.held.taken + most }
-        ensures ended { 0 < result → self.new.held.taken ≡ 0 }
+        ensures taken { R.elements run + 1 + result ≡ self.new.contents.taken + most }
+        ensures ended { 0 < result → self.new.contents.taken ≡ 0 }
     {
         let size = run.size();
         if size <= most {
@@ -201,9 +202,10 @@ impl<R: Run> Runs<R> {
     // a run is left.
     fn free_old(&mut self, oldest: u64) -> usize
         ensures agree { R.agree (nat_le oldest) self.new.runs self.old.runs }
-        ensures whole { whole_upto oldest self.old.held + result ≡ whole_upto oldest self.new.held + freed_a_forget }
-        ensures ended { 0 < result → whole_upto oldest self.new.held ≡ 0 }
-        ensures partial { HasSamePartial oldest self.old.held self.new.held }
+        ensures whole { whole_upto oldest self.old.contents + result
+            ≡ whole_upto oldest self.new.contents + freed_a_forget }
+        ensures ended { 0 < result → whole_upto oldest self.new.contents ≡ 0 }
+        ensures partial { HasSamePartial oldest self.old.contents self.new.contents }
         ensures left { left_above oldest self.new.sizes ≡ left_above oldest self.old.sizes }
         ensures refused { self.new.refused ≡ self.old.refused }
     {
@@ -220,11 +222,11 @@ impl<R: Run> Runs<R> {
     // Sweeps runs that hold what is old beside what isn't, as far as so much work goes, with what earlier steps have left over. Are there
     // more?
     fn sweep(&mut self, oldest: u64, most: usize) -> bool
-        requires whole { whole_upto oldest self.old.held ≡ 0 }
+        requires whole { whole_upto oldest self.old.contents ≡ 0 }
         requires most { most ≤ freed_a_forget }
         ensures agree { R.agree (nat_le oldest) self.new.runs self.old.runs }
-        ensures garbage { garbage_upto oldest self.new.held ≡ garbage_upto oldest self.old.held - most }
-        ensures still { result ≡ nat_lt 0 (garbage_upto oldest self.new.held) }
+        ensures garbage { garbage_upto oldest self.new.contents ≡ garbage_upto oldest self.old.contents - most }
+        ensures still { result ≡ nat_lt 0 (garbage_upto oldest self.new.contents) }
         ensures above { result ≡ false → All (R.above oldest) self.new.runs }
         ensures merges { LeavesMerges oldest self.old.sizes self.new.sizes self.old.refused self.new.refused }
     {
@@ -240,8 +242,9 @@ impl<R: Run> Runs<R> {
     /// gone. Takes no memory.
     pub fn forget_step(&mut self, oldest: u64) -> bool
         ensures agree { R.agree (nat_le oldest) self.new.runs self.old.runs }
-        ensures garbage { garbage_upto oldest self.new.held ≡ garbage_upto oldest self.old.held - freed_a_forget }
-        ensures still { result ≡ nat_lt 0 (garbage_upto oldest self.new.held) }
+        ensures garbage { garbage_upto oldest self.new.contents
+            ≡ garbage_upto oldest self.old.contents - freed_a_forget }
+        ensures still { result ≡ nat_lt 0 (garbage_upto oldest self.new.contents) }
         ensures above { result ≡ false → All (R.above oldest) self.new.runs }
         ensures merges { LeavesMerges oldest self.old.sizes self.new.sizes self.old.refused self.new.refused }
     {
@@ -256,7 +259,7 @@ impl<R: Run> Runs<R> {
     /// look at each element of these runs, and no memory.
     pub fn forget(&mut self, oldest: u64)
         ensures agree { R.agree (nat_le oldest) self.new.runs self.old.runs }
-        ensures garbage { garbage_upto oldest self.new.held ≡ 0 }
+        ensures garbage { garbage_upto oldest self.new.contents ≡ 0 }
         ensures above { All (R.above oldest) self.new.runs }
         ensures merges { LeavesMerges oldest self.old.sizes self.new.sizes self.old.refused self.new.refused }
     {

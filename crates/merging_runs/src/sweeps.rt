@@ -22,11 +22,11 @@ fn first_from<R: Run>(runs: &[R], oldest: u64) -> Option<usize>
 // Sweeps the first run that may have a number up to `oldest`, where that is no more work than this. How much it is, `None` where there is
 // no such run.
 fn sweep_first<R: Run>(runs: &mut Vec<R>, oldest: u64, most: usize) -> Option<usize>
-    requires { size_old R.from R.sizes R.held oldest runs.old.items ≡ 0 }
+    requires { size_old R.from R.sizes R.elements oldest runs.old.items ≡ 0 }
     ensures agree { R.agree (nat_le oldest) runs.new.items runs.old.items }
-    ensures whole { size_old R.from R.sizes R.held oldest runs.new.items ≡ 0 }
-    ensures looked { LooksAt result most (size_partial R.from R.sizes R.held oldest runs.old.items)
-        (size_partial R.from R.sizes R.held oldest runs.new.items) }
+    ensures whole { size_old R.from R.sizes R.elements oldest runs.new.items ≡ 0 }
+    ensures looked { LooksAt result most (size_partial R.from R.sizes R.elements oldest runs.old.items)
+        (size_partial R.from R.sizes R.elements oldest runs.new.items) }
     ensures none { result ≡ None → All (R.above oldest) runs.new.items }
     ensures left { left_above oldest (map R.sizes runs.new.items) ≤ left_above oldest (map R.sizes runs.old.items) }
 {
@@ -41,12 +41,12 @@ fn sweep_first<R: Run>(runs: &mut Vec<R>, oldest: u64, most: usize) -> Option<us
 // Sweeps runs that may have numbers up to `oldest`, as far as so much work goes. What is left of it where that isn't enough for the next of
 // them, `None` where there is no more.
 pub(crate) fn sweep_for<R: Run>(runs: &mut Vec<R>, oldest: u64, most: usize) -> Option<usize>
-    requires { size_old R.from R.sizes R.held oldest runs.old.items ≡ 0 }
+    requires { size_old R.from R.sizes R.elements oldest runs.old.items ≡ 0 }
     ensures agree { R.agree (nat_le oldest) runs.new.items runs.old.items }
-    ensures whole { size_old R.from R.sizes R.held oldest runs.new.items ≡ 0 }
+    ensures whole { size_old R.from R.sizes R.elements oldest runs.new.items ≡ 0 }
     ensures few { IfSome result (λ n. n < 2 ^ 63) }
-    ensures looked { LooksFor result most (size_partial R.from R.sizes R.held oldest runs.old.items)
-        (size_partial R.from R.sizes R.held oldest runs.new.items) }
+    ensures looked { LooksFor result most (size_partial R.from R.sizes R.elements oldest runs.old.items)
+        (size_partial R.from R.sizes R.elements oldest runs.new.items) }
     ensures none { result ≡ None → All (R.above oldest) runs.new.items }
     ensures left { left_above oldest (map R.sizes runs.new.items) ≤ left_above oldest (map R.sizes runs.old.items) }
 {
@@ -62,10 +62,10 @@ pub(crate) fn sweep_for<R: Run>(runs: &mut Vec<R>, oldest: u64, most: usize) -> 
 
 // Sweeps all runs that may have numbers up to `oldest`.
 pub(crate) fn sweep_all<R: Run>(runs: &mut Vec<R>, oldest: u64)
-    requires { size_old R.from R.sizes R.held oldest runs.old.items ≡ 0 }
+    requires { size_old R.from R.sizes R.elements oldest runs.old.items ≡ 0 }
     ensures agree { R.agree (nat_le oldest) runs.new.items runs.old.items }
-    ensures whole { size_old R.from R.sizes R.held oldest runs.new.items ≡ 0 }
-    ensures partial { size_partial R.from R.sizes R.held oldest runs.new.items ≡ 0 }
+    ensures whole { size_old R.from R.sizes R.elements oldest runs.new.items ≡ 0 }
+    ensures partial { size_partial R.from R.sizes R.elements oldest runs.new.items ≡ 0 }
     ensures none { All (R.above oldest) runs.new.items }
     ensures left { left_above oldest (map R.sizes runs.new.items) ≤ left_above oldest (map R.sizes runs.old.items) }
 {

@@ -11,7 +11,7 @@ use Rattle.pivot_check.proofs.Walks.{le_trans, rise_between}
 use Rattle.pivot_check.specs.Agreeing.{lesser_none, least-append, least-runs}
 use Rattle.pivot_check.specs.Inside.{in_run, postings_in}
 use Rattle.pivot_check.specs.Merging.{are_keys_from, BeginsBelow}
-use Rattle.pivot_check.specs.Parts.{live, left, live_in}
+use Rattle.pivot_check.specs.Parts.{remaining, left, remaining_in}
 use Rattle.pivot_check.specs.Postings.{Posting, least, lesser, keys_rise, are_upto}
 use Rattle.pivot_check.specs.declared.part.Part.{Part}
 use Rattle.pivot_check.specs.declared.run.WrittenRun.{WrittenRun}
@@ -56,21 +56,22 @@ begins_below xs xs' ys ys' x y xs_is ys_is h le w rest is = grind (arith, from_h
 
 -- ---- parts of which nothing is left
 
-pub none_left : (p : Part) → left p ≡ 0 → live p ≡ []
+pub none_left : (p : Part) → left p ≡ 0 → remaining p ≡ []
 none_left p none = drop_all p.start p.written.items (omega arith)
 
-pub at_rest : (c : Posting → Bool) (made first second : Part) → left first + left second ≡ 0 → least c (live_in made first second) ≡ least c (live made)
+pub at_rest : (c : Posting → Bool) (made first second : Part) → left first + left second ≡ 0
+    → least c (remaining_in made first second) ≡ least c (remaining made)
 at_rest c made first second none =
-    grind (arith, lesser_none, three c (live made) (live first) (live second), none_left first (omega arith), none_left second (omega arith))
+    grind (arith, lesser_none, three c (remaining made) (remaining first) (remaining second), none_left first (omega arith), none_left second (omega arith))
 
 -- two runs at rest, of which nothing was made yet
 pub joined : (c : Posting → Bool) (was more : WrittenRun) (made first : Part) → left was.first + left was.second ≡ 0 → left more.first + left more.second ≡ 0
     → left made ≡ 0 → first ≡ was.made
-    → least c (live_in made first more.made) ≡ lesser (least c (in_run was)) (least c (in_run more))
+    → least c (remaining_in made first more.made) ≡ lesser (least c (in_run was)) (least c (in_run more))
 joined c was more made first rest rests none is =
     grind (
       arith,
-      three c (live made) (live first) (live more.made),
+      three c (remaining made) (remaining first) (remaining more.made),
       none_left made none,
       at_rest c was.made was.first was.second rest,
       at_rest c more.made more.first more.second rests,

@@ -60,19 +60,19 @@ module _ (f : Facts) (history : List Record) (s : StandsFor f history) where
     records = kept_above t.begin history
 
     late_is : records ≡ filter (λ k. nat_lt t.begin k.commit) kept
-    late_is = sym (kept_later f.oldest t.begin history reach.held)
+    late_is = sym (kept_later f.oldest t.begin history reach.active)
 
     written : (k : Bytes) → is_key_written records k ≡ is_written_since f.postings t.begin k
-    written k = ap (λ ks. is_key_written ks k) late_is ∙ written_by f.reach f.oldest t.begin f.postings kept k s.writers reach.held reach.asks rise
+    written k = ap (λ ks. is_key_written ks k) late_is ∙ written_by f.reach f.oldest t.begin f.postings kept k s.writers reach.active reach.asks rise
 
     target_is : first_number (λ k. follows k t) records ≡ target f t
-    target_is = ap (first_number (λ k. follows k t)) late_is ∙ target_by f.reach f.oldest t.begin f.postings kept t s.writers reach.held reach.asks rise
+    target_is = ap (first_number (λ k. follows k t)) late_is ∙ target_by f.reach f.oldest t.begin f.postings kept t s.writers reach.active reach.asks rise
 
     pivot_is : first_number (becomes_pivot t) records ≡ other_pivot f t
-    pivot_is = ap (first_number (becomes_pivot t)) late_is ∙ pivot_by f.reach f.oldest t.begin f.postings kept t s.writers reach.held reach.asks rise
+    pivot_is = ap (first_number (becomes_pivot t)) late_is ∙ pivot_by f.reach f.oldest t.begin f.postings kept t s.writers reach.active reach.asks rise
 
     source_is : last_number (λ k. leads_to k t) records ≡ source f t
-    source_is = source_found f.oldest (last_reader f.readers) history t reach.held s.readers (rising_from_numbered 0 history s.numbered)
+    source_is = source_found f.oldest (last_reader f.readers) history t reach.active s.readers (rising_from_numbered 0 history s.numbered)
 
     abbrev overwrites : KeyWrite → Bool
     overwrites w = is_written_since f.postings t.begin w.0

@@ -64,7 +64,7 @@ pub in_reach_still : (f g : Facts) (t : View) → StandForSame f g → IsInReach
 in_reach_still f g t same reach =
     let last = same.last in
     let oldest = same.oldest in
-    record { begun = omega (arith, last); held = omega (arith, oldest); asks = ap (λ r. may_ask r t.begin) same.reach ∙ reach.asks }
+    record { begun = omega (arith, last); active = omega (arith, oldest); asks = ap (λ r. may_ask r t.begin) same.reach ∙ reach.asks }
 
 pub still_cleared : (f g : Facts) (t : View) (cleared : Cleared) → StandForSame f g → IsCleared f t cleared → IsCleared g t cleared
 still_cleared f g t cleared same is = λ reach history s r own.

@@ -13,7 +13,7 @@ use Rattle.std.specs.Prelude.{nat_lt, ◌/◌, All, count_by, min}
 use Rattle.model.specs.Map.{key_cmp}
 use Rattle.pivot_check.specs.Bounds.{is_from_bound, are_from_bound, bound_count}
 use Rattle.pivot_check.specs.Inside.{in_run, postings_in, is_run_later}
-use Rattle.pivot_check.specs.Parts.{live, left}
+use Rattle.pivot_check.specs.Parts.{remaining, left}
 use Rattle.pivot_check.specs.Postings.{Posting, keys_rise, are_upto, are_later, later_than}
 use Rattle.pivot_check.specs.declared.bound.Bound.{Bound}
 use Rattle.pivot_check.specs.declared.part.Part.{Part}
@@ -75,11 +75,11 @@ all_parts o xs ys zs xs' ys' zs' first second third =
     (λ i. first i ++ (second i ++ third i))
     ∙ ap (λ l. later_than o xs ++ l) (sym (filter-append (later o) ys zs)) ∙ sym (filter-append (later o) xs (ys ++ zs))
 
-pub left_is : (p : Part) → length (live p) ≡ left p
+pub left_is : (p : Part) → length (remaining p) ≡ left p
 left_is p = length-drop p.start p.written.items
 
-pub fewer_left : (o : ℕ) (p q : Part) → live q ≡ later_than o (live p) → left q ≤ left p
-fewer_left o p q is = omega (arith, left_is p, left_is q, ap length is, fewer o (live p))
+pub fewer_left : (o : ℕ) (p q : Part) → remaining q ≡ later_than o (remaining p) → left q ≤ left p
+fewer_left o p q is = omega (arith, left_is p, left_is q, ap length is, fewer o (remaining p))
 
 pub fewer_in : (o : ℕ) (p q : Part) → q.written.items ≡ later_than o p.written.items → length q.written.items ≤ length p.written.items
 fewer_in o p q is = omega (arith, ap length is, fewer o p.written.items)
@@ -99,9 +99,9 @@ later_in_run : (o : ℕ) (r : WrittenRun) → is_run_later o r ≡ true → are_
 later_in_run o r h =
     let made = and_parts _ _ h in
     let both = and_parts _ _ made.1 in
-    list_all-append (later o) (live r.made) (live r.first ++ live r.second)
+    list_all-append (later o) (remaining r.made) (remaining r.first ++ remaining r.second)
     ∙ and_from _ _ (later_drop o r.made.start r.made.written.items made.0)
-    (list_all-append (later o) (live r.first) (live r.second)
+    (list_all-append (later o) (remaining r.first) (remaining r.second)
     ∙ and_from _ _ (later_drop o r.first.start r.first.written.items both.0) (later_drop o r.second.start r.second.written.items both.1))
 
 by_runs : (o : ℕ) (rs : List WrittenRun) → AllByRecursion (λ r. is_run_later o r ≡ true) rs → are_later o (postings_in rs) ≡ true

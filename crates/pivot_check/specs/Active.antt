@@ -1,4 +1,4 @@
--- Who may still ask, as it is held.
+-- Who may still ask, as a value of its own.
 use Rattle.pivot_check.specs.Kept.{Reach}
 use Rattle.pivot_check.specs.declared.active.ActiveBegins.{ActiveBegins}
 

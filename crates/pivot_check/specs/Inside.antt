@@ -3,14 +3,14 @@ use Rattle.std.specs.Prelude.{ℕ, ◌+◌, ◌&&◌, Bool, min, List, [], ◌�
 use Rattle.std.specs.Vec.{vec_len}
 use Rattle.model.specs.Map.{Bytes}
 use Rattle.merging_runs.specs.RunSizes.{RunSize}
-use Rattle.pivot_check.specs.Parts.{left, live_in}
+use Rattle.pivot_check.specs.Parts.{left, remaining_in}
 use Rattle.pivot_check.specs.Postings.{Posting, are_later}
 use Rattle.pivot_check.specs.declared.ready.Ready.{Ready}
 use Rattle.pivot_check.specs.declared.run.WrittenRun.{WrittenRun}
 
 -- the postings of a run
 abbrev pub in_run : WrittenRun → List Posting
-in_run r = live_in r.made r.first r.second
+in_run r = remaining_in r.made r.first r.second
 
 -- the postings of all runs, one run after another
 abbrev pub postings_in : List WrittenRun → List Posting
@@ -21,8 +21,8 @@ abbrev pub ready_keys : Option Ready → Option (List Bytes)
 ready_keys ready = option_map (λ r. r.keys.items) ready
 
 -- how many postings a run holds, also those that were taken
-abbrev pub postings_held : WrittenRun → ℕ
-postings_held r = vec_len r.first.written + vec_len r.second.written + vec_len r.made.written
+abbrev pub postings_count : WrittenRun → ℕ
+postings_count r = vec_len r.first.written + vec_len r.second.written + vec_len r.made.written
 
 -- a number that none of its numbers is below, by the bounds of its parts
 abbrev pub number_bound : WrittenRun → ℕ

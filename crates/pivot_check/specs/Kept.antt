@@ -5,7 +5,7 @@ use Rattle.std.specs.Prelude.{Option}
 use Rattle.std.specs.Prelude.{Some, None, find, option_map, map, max, ◌+◌, ◌-◌, if◌then◌else◌}
 use Rattle.model.specs.Map.{Bytes, KeyWrite, is_same_key}
 use Rattle.model.specs.PrivateCopy.{Mark, is_covered}
-use Rattle.merging_runs.specs.Held.{Held, garbage_upto, freed_a_forget}
+use Rattle.merging_runs.specs.Contents.{Contents, garbage_upto, freed_a_forget}
 use Rattle.merging_runs.specs.Next.{count_upto}
 use Rattle.merging_runs.specs.RunSizes.{LeavesMerges, RunSize}
 use Rattle.last_readers.specs.Readers.{IsForgotten, NameNoneUpto, Readers, ReadersRoom, is_named_reader, last_reader}
@@ -158,7 +158,7 @@ pub record IsEmpty (f : Facts) : Type 0 where
 -- of those that may still ask
 pub record IsInReach (f : Facts) (t : View) : Type 0 where
   pub begun : t.begin ≤ f.last
-  pub held : f.oldest ≤ t.begin
+  pub active : f.oldest ≤ t.begin
   pub asks : may_ask f.reach t.begin ≡ true
 
 -- the same may ask as before
@@ -179,27 +179,27 @@ HasRoom room t = HasReadersRoom t.marks room.readers × (0 < room.runs) × (room
 
 -- how much the runs of the last readers hold, and those of written keys; how far the latter are merged, and how often
 -- memory for that was refused
-pub record HeldParts : Type 0 where
-  pub readers : Held
-  pub written : Held
+pub record KeptContents : Type 0 where
+  pub readers : Contents
+  pub written : Contents
   pub sizes : List RunSize
   pub refused : ℕ
 
 pub record CommittedValue : Type 0 where
   pub facts : Facts
   pub room : Room
-  pub held : HeldParts
+  pub contents : KeptContents
 
 -- how much garbage there is: of runs of last readers for which none may ask, and of such runs of written keys
 abbrev pub garbage_runs : CommittedValue → ℕ
-garbage_runs v = garbage_upto v.facts.readers.oldest v.held.readers + garbage_upto v.facts.oldest v.held.written
+garbage_runs v = garbage_upto v.facts.readers.oldest v.contents.readers + garbage_upto v.facts.oldest v.contents.written
 
 -- A step of the garbage has gone. So where the last numbers stay, all of it is gone after as many steps as it takes.
 pub record FreesRuns (old new : CommittedValue) : Type 0 where
-  pub readers : garbage_upto new.facts.readers.oldest new.held.readers
-      ≡ garbage_upto new.facts.readers.oldest old.held.readers - freed_a_forget
-  pub written : garbage_upto new.facts.oldest new.held.written
-      ≡ garbage_upto new.facts.oldest old.held.written - freed_a_forget
+  pub readers : garbage_upto new.facts.readers.oldest new.contents.readers
+      ≡ garbage_upto new.facts.readers.oldest old.contents.readers - freed_a_forget
+  pub written : garbage_upto new.facts.oldest new.contents.written
+      ≡ garbage_upto new.facts.oldest old.contents.written - freed_a_forget
 
 -- such a step was done, and garbage is left exactly where that is answered
 pub record IsStep (old new : CommittedValue) (more : Bool) : Type 0 where
@@ -208,4 +208,5 @@ pub record IsStep (old new : CommittedValue) (more : Bool) : Type 0 where
 
 -- no more postings are to be moved than before in runs with numbers that may be asked for, and no refusal was counted
 abbrev pub LeavesMergesOf : CommittedValue → CommittedValue → Type 0
-LeavesMergesOf old new = LeavesMerges new.facts.oldest old.held.sizes new.held.sizes old.held.refused new.held.refused
+LeavesMergesOf old new =
+    LeavesMerges new.facts.oldest old.contents.sizes new.contents.sizes old.contents.refused new.contents.refused

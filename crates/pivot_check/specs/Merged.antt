@@ -11,19 +11,21 @@ fit_one o r s = are_alike o r s && nat_le (r.made + s.made) 131072
 -- two runs of a like size beside one another are being made one, or memory for that was refused, which is counted, or
 -- there are no such two
 abbrev pub IsTriedIn : CommittedValue → CommittedValue → Type 0
-IsTriedIn old new = IsTried (fit_one old.facts.oldest) old.held.sizes new.held.sizes old.held.refused new.held.refused
+IsTriedIn old new = IsTried (fit_one old.facts.oldest) old.contents.sizes new.contents.sizes old.contents.refused
+    new.contents.refused
 
 -- The merges that are under way in runs of these sizes were moved on, for so many written keys, one posting a move. No
 -- merge was begun, so no memory for one was refused.
 abbrev pub AreMoved : ℕ → List RunSize → CommittedValue → CommittedValue → Type 0
 AreMoved count sizes old new =
-    IsMoved 1 new.facts.oldest (moves_for count) sizes new.held.sizes × (new.held.refused ≡ old.held.refused)
+    IsMoved 1 new.facts.oldest (moves_for count) sizes new.contents.sizes
+    × (new.contents.refused ≡ old.contents.refused)
 
 -- so it is once the written keys of the transaction have come with number n as a run
 abbrev pub AreMovedWith : View → ℕ → CommittedValue → CommittedValue → Type 0
-AreMovedWith t n old new = let count = length t.writes in AreMoved count (with_run n count old.held.sizes) old new
+AreMovedWith t n old new = let count = length t.writes in AreMoved count (with_run n count old.contents.sizes) old new
 
 -- the written keys of the transaction have come with number n as a run; no memory for a merge was refused
 pub record AddsWrittenRun (t : View) (n : ℕ) (old new : CommittedValue) : Type 0 where
-  pub sizes : new.held.sizes ≡ with_run n (length t.writes) old.held.sizes
-  pub refused : new.held.refused ≡ old.held.refused
+  pub sizes : new.contents.sizes ≡ with_run n (length t.writes) old.contents.sizes
+  pub refused : new.contents.refused ≡ old.contents.refused

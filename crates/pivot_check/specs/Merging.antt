@@ -4,7 +4,7 @@ use Rattle.std.specs.Ordering.{is_le}
 use Rattle.std.specs.Prelude.{◌≡◌, ◌≤◌, ◌+◌, ℕ, Bool, true, List, ◌∷◌, ◌++◌, length, IsTrue}
 use Rattle.std.specs.Vec.{vec_capacity}
 use Rattle.model.specs.Map.{Bytes, key_cmp}
-use Rattle.pivot_check.specs.Parts.{left, live}
+use Rattle.pivot_check.specs.Parts.{left, remaining}
 use Rattle.pivot_check.specs.Postings.{Posting, keys_rise}
 use Rattle.pivot_check.specs.declared.part.Part.{Part}
 
@@ -23,8 +23,8 @@ StaysRising xs old new = (ys : List Posting) → BeginsBelow xs ys → IsTrue (k
 
 -- what is left of either part rises behind what the third has
 pub record RiseBehind (to p q : Part) : Type 0 where
-  pub first : IsTrue (keys_rise (live to ++ live p))
-  pub second : IsTrue (keys_rise (live to ++ live q))
+  pub first : IsTrue (keys_rise (remaining to ++ remaining p))
+  pub second : IsTrue (keys_rise (remaining to ++ remaining q))
 
 -- one posting of so many was put behind those of the part, in the room that it had, or dropped
 pub record TakesPosting (before after : ℕ) (old new : Part) : Type 0 where

@@ -4,13 +4,13 @@ use Rattle.pivot_check.specs.Postings.{Posting}
 use Rattle.pivot_check.specs.declared.part.Part.{Part}
 
 -- what wasn't taken of a part
-abbrev pub live : Part → List Posting
-live p = drop p.start p.written.items
+abbrev pub remaining : Part → List Posting
+remaining p = drop p.start p.written.items
 
 -- how much that is
 abbrev pub left : Part → ℕ
 left p = length p.written.items - p.start
 
 -- the postings of a run: what was made, and what is left of the two that it is made of
-abbrev pub live_in : Part → Part → Part → List Posting
-live_in made first second = live made ++ (live first ++ live second)
+abbrev pub remaining_in : Part → Part → Part → List Posting
+remaining_in made first second = remaining made ++ (remaining first ++ remaining second)

@@ -2,7 +2,7 @@
 ghost use Rattle.std.specs.Prelude.{◌≡◌, ◌+◌, ◌≤◌, ◌<◌, List, [], length, true, false, OnOk, ◌-◌};
 ghost use Rattle.std.specs.List.{AllByRecursion};
 ghost use Rattle.model.specs.History.{Record};
-ghost use Rattle.merging_runs.specs.Held.{size_in};
+ghost use Rattle.merging_runs.specs.Contents.{size_in};
 ghost use Rattle.merging_runs.specs.Next.{IsNext};
 ghost use Rattle.pivot_check.specs.declared.active.TheConstants.{BEGINS_MAX};
 ghost use Rattle.pivot_check.specs.Merged.{AddsWrittenRun, AreMoved, AreMovedWith, IsTriedIn};
@@ -29,8 +29,8 @@ use std::alloc::Global;
 use std::marker::Model;
 
 /// The committed transactions that an open one may still be concurrent with. A clause sees what is kept of them (`facts`), the memory that
-/// was made ready (`room`), and how much the runs hold (`held`). What is kept stands for histories: over each of them the answers to those
-/// who may ask are those of the definition, which looks at the whole history.
+/// was made ready (`room`), and how much the runs hold (`contents`). What is kept stands for histories: over each of them the answers to
+/// those who may ask are those of the definition, which looks at the whole history.
 ///
 /// Kept are the last reader of each key, and the keys that they wrote, each with the number and the flag of its transaction. The keys stand
 /// in runs, each sorted by key, of transactions that committed one after another; runs of a like size are merged, so that few are left. A
@@ -66,7 +66,12 @@ impl Model for Committed {
         reach = reach_of c.active;
       };
       room = record { readers = c.readers.room; runs = c.runs.places; ready = ready_keys c.ready };
-      held = record { readers = c.readers.held; written = c.runs.held; sizes = c.runs.sizes; refused = c.runs.refused };
+      contents = record {
+        readers = c.readers.contents;
+        written = c.runs.contents;
+        sizes = c.runs.sizes;
+        refused = c.runs.refused;
+      };
     } };
 
     ghost invariant = { λ c. record {
@@ -138,7 +143,7 @@ impl Committed {
 
     /// How many runs of written keys are kept. Takes no memory.
     pub fn runs(&self) -> usize
-        ensures { result ≡ length self.now.held.sizes }
+        ensures { result ≡ length self.now.contents.sizes }
     {
         self.runs.as_slice().len()
     }
@@ -146,7 +151,7 @@ impl Committed {
     /// How many written keys the runs hold, and one more for each run; 2^64 - 1 where there were more. What a merge has moved counts twice
     /// until it ends. Looks at each run, and takes no memory.
     pub fn postings(&self) -> usize
-        ensures { result ≡ size_in self.now.held.written.runs }
+        ensures { result ≡ size_in self.now.contents.written.runs }
     {
         self.runs.size()
     }
@@ -154,7 +159,7 @@ impl Committed {
     /// How often memory for a merge of written keys was refused, 2^64 - 1 at most: each time two runs of a like size stayed. Takes no
     /// memory.
     pub fn refused(&self) -> u64
-        ensures { result ≡ self.now.held.refused }
+        ensures { result ≡ self.now.contents.refused }
     {
         self.runs.refused()
     }
@@ -169,7 +174,7 @@ impl Committed {
             return Verdict::Clear(Cleared::new(false));
         }
         let begin = transaction.begin();
-        let order = ByStart::of(transaction.marks().held());
+        let order = ByStart::of(transaction.marks().as_slice());
         let Some(target) = first_target(runs, &order, begin) else {
             return Verdict::Clear(Cleared::new(false));
         };
@@ -250,7 +255,7 @@ impl Committed {
         ensures stands_for { (h : List Record) → StandsFor self.old.facts h → StandsFor self.new.facts h }
         ensures reach { KeepsReach self.old.facts self.new.facts }
         ensures last { self.new.facts.last ≡ self.old.facts.last }
-        ensures moved { AreMoved count self.old.held.sizes self.old self.new }
+        ensures moved { AreMoved count self.old.contents.sizes self.old self.new }
     {
         self.runs.move_on(self.oldest, &self.active, count);
     }

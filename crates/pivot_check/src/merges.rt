@@ -3,7 +3,7 @@ ghost use Rattle.std.specs.Prelude.{◌≡◌, ◌≤◌, ◌<◌, ◌+◌, ◌-
 ghost use Rattle.std.specs.List.{list_any};
 ghost use Rattle.std.specs.Vec.{vec_capacity};
 ghost use Rattle.std.proofs.Common.{refl, ◌∙◌};
-ghost use Rattle.pivot_check.specs.Inside.{number_bound, postings_held, in_run, is_run_later};
+ghost use Rattle.pivot_check.specs.Inside.{number_bound, postings_count, in_run, is_run_later};
 ghost use Rattle.pivot_check.specs.Active.{reach_of};
 ghost use Rattle.pivot_check.specs.Inside.{written_run_size};
 ghost use Rattle.pivot_check.specs.Kept.{may_ask};
@@ -40,7 +40,7 @@ fn free_room(run: &mut WrittenRun)
     ensures sizes { written_run_size run.new ≡ written_run_size run.old }
     ensures same { (c : Posting → Bool) → least c (in_run run.new) ≡ least c (in_run run.old) }
     ensures from { (o : ℕ) → o < 2 ^ 64 - 1 → o < number_bound run.old → o < number_bound run.new }
-    ensures held { postings_held run.new ≤ postings_held run.old }
+    ensures fewer { postings_count run.new ≤ postings_count run.old }
     ensures room { (written_run_size run.new).left ≡ 0
         → vec_capacity run.new.first.written + vec_capacity run.new.second.written ≡ 0 }
 {
@@ -61,7 +61,7 @@ impl Run for WrittenRun {
 
     ghost sizes = { written_run_size };
 
-    ghost held = { postings_held };
+    ghost elements = { postings_count };
 
     ghost from = { number_bound };
 

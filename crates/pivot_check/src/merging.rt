@@ -4,7 +4,7 @@ ghost use Rattle.std.specs.Vec.{vec_capacity};
 ghost use Rattle.pivot_check.specs.Active.{reach_of};
 ghost use Rattle.pivot_check.specs.Postings.{keys_rise};
 ghost use Rattle.pivot_check.specs.Redundant.{MakesFor};
-ghost use Rattle.pivot_check.specs.Parts.{live, left, live_in};
+ghost use Rattle.pivot_check.specs.Parts.{remaining, left, remaining_in};
 ghost use Rattle.pivot_check.specs.Merging.{BeginsBelow, RiseBehind, StaysRising, TakesPosting};
 
 use crate::active::ActiveBegins;
@@ -12,9 +12,9 @@ use crate::part::Part;
 
 // Does a least key stand first in the first part?
 fn is_in_first(first: &Part, second: &Part) -> bool
-    ensures first { result ≡ true → BeginsBelow (live first.now) (live second.now) }
+    ensures first { result ≡ true → BeginsBelow (remaining first.now) (remaining second.now) }
     ensures first_some { result ≡ true → 0 < left first.now }
-    ensures second { result ≡ false → BeginsBelow (live second.now) (live first.now) }
+    ensures second { result ≡ false → BeginsBelow (remaining second.now) (remaining first.now) }
     ensures second_some { result ≡ false → 0 < left first.now + left second.now → 0 < left second.now }
 {
     let Some(x) = first.first() else {
@@ -30,12 +30,13 @@ fn is_in_first(first: &Part, second: &Part) -> bool
 // posting of that answers whoever may ask in its place, it is dropped.
 fn move_first(from: &mut Part, to: &mut Part, active: &ActiveBegins)
     requires some { 0 < left from.old }
-    requires rising { IsTrue (keys_rise (live to.old ++ live from.old)) }
+    requires rising { IsTrue (keys_rise (remaining to.old ++ remaining from.old)) }
     requires room { length to.old.written.items < vec_capacity to.old.written }
-    ensures made { MakesFor (reach_of active.now) (live to.old) (live to.new) (live to.new ++ live from.new)
-        (live to.old ++ live from.old) }
-    ensures rising { IsTrue (keys_rise (live to.new ++ live from.new)) }
-    ensures other { StaysRising (live from.old) (live to.old) (live to.new) }
+    ensures made { MakesFor (reach_of active.now) (remaining to.old) (remaining to.new) (remaining to.new
+        ++ remaining from.new)
+        (remaining to.old ++ remaining from.old) }
+    ensures rising { IsTrue (keys_rise (remaining to.new ++ remaining from.new)) }
+    ensures other { StaysRising (remaining from.old) (remaining to.old) (remaining to.new) }
     ensures moved { TakesPosting (left from.old) (left from.new) to.old to.new }
 {
     let written = from.take_first();
@@ -50,8 +51,9 @@ pub(crate) fn move_least(first: &mut Part, second: &mut Part, to: &mut Part, act
     requires rising { RiseBehind to.old first.old second.old }
     requires some { 0 < left first.old + left second.old }
     requires room { length to.old.written.items < vec_capacity to.old.written }
-    ensures made { MakesFor (reach_of active.now) (live to.old) (live to.new) (live_in to.new first.new second.new)
-        (live_in to.old first.old second.old) }
+    ensures made { MakesFor (reach_of active.now) (remaining to.old) (remaining to.new)
+        (remaining_in to.new first.new second.new)
+        (remaining_in to.old first.old second.old) }
     ensures rising { RiseBehind to.new first.new second.new }
     ensures moved { TakesPosting (left first.old + left second.old) (left first.new + left second.new) to.old to.new }
 {

@@ -2,7 +2,7 @@
 ghost use Rattle.std.specs.Prelude.{◌≡◌, ◌≤◌, ◌+◌, ◌-◌, ◌^◌, ◌++◌, IsTrue, Bool, length};
 ghost use Rattle.std.specs.Vec.{vec_capacity};
 ghost use Rattle.pivot_check.specs.Postings.{Posting, keys_rise, are_upto, least};
-ghost use Rattle.pivot_check.specs.Parts.{live, left, live_in};
+ghost use Rattle.pivot_check.specs.Parts.{remaining, left, remaining_in};
 
 use crate::bound::Bound;
 use crate::part::Part;
@@ -20,10 +20,10 @@ pub(crate) struct WrittenRun {
     pub(crate) second: Part,
     // what was made of their least keys
     pub(crate) made: Part,
-    ghost first_rises: { IsTrue (keys_rise (live made ++ live first)) },
-    ghost second_rises: { IsTrue (keys_rise (live made ++ live second)) },
+    ghost first_rises: { IsTrue (keys_rise (remaining made ++ remaining first)) },
+    ghost second_rises: { IsTrue (keys_rise (remaining made ++ remaining second)) },
     ghost room: { left first + left second ≤ vec_capacity made.written - length made.written.items },
-    ghost upto: { IsTrue (are_upto last (live_in made first second)) },
+    ghost upto: { IsTrue (are_upto last (remaining_in made first second)) },
 }
 
 // No postings.
@@ -46,7 +46,7 @@ impl WrittenRun {
         requires rising { IsTrue (keys_rise written.items) }
         requires upto { IsTrue (are_upto last written.items) }
         ensures same { (c : Posting → Bool)
-            → least c (live_in result.made result.first result.second) ≡ least c written.items }
+            → least c (remaining_in result.made result.first result.second) ≡ least c written.items }
         ensures last { result.last ≡ last }
         ensures left { left result.first + left result.second ≡ 0 }
         ensures made { left result.made ≡ length written.items }

@@ -3,7 +3,7 @@ ghost use Rattle.std.specs.Prelude.{◌≡◌, ◌≤◌, ◌<◌, ◌+◌, ◌*
 ghost use Rattle.marks.specs.Lent.{lent_mark};
 ghost use Rattle.marks.specs.Marked.{marks_of};
 ghost use Rattle.pivot_check.specs.Postings.{CountCovered, least, lesser, is_asked, asked_of, covered_of};
-ghost use Rattle.pivot_check.specs.Parts.{live};
+ghost use Rattle.pivot_check.specs.Parts.{remaining};
 ghost use Rattle.pivot_check.specs.Bounds.{KeepsFound, IsScanned, in_span};
 ghost use Rattle.pivot_check.specs.Places.{asked_there};
 
@@ -99,7 +99,8 @@ impl Part {
     fn covered_by(&self, mark: MarkRef<'_>) -> Span
         ensures order { result.first ≤ result.end }
         ensures within { result.end ≤ length self.now.written.items }
-        ensures covered { CountCovered (lent_mark mark.entry) (live self.now) (in_span result self.now.written.items) }
+        ensures covered { CountCovered (lent_mark mark.entry) (remaining self.now)
+            (in_span result self.now.written.items) }
     {
         let span = covered(&self.written[self.start..], mark);
         Span {
@@ -118,7 +119,7 @@ impl Part {
         begin: u64,
         flagged: bool,
     ) -> Option<u64>
-        ensures { result ≡ lesser found (least (asked_of (lent_mark mark.entry) begin flagged) (live self.now)) }
+        ensures { result ≡ lesser found (least (asked_of (lent_mark mark.entry) begin flagged) (remaining self.now)) }
     {
         if !self.can_improve(found, begin, flagged) {
             return found;
@@ -159,7 +160,7 @@ impl Part {
     fn scan_mark(&self, mark: MarkRef<'_>, scan: Scan, begin: u64, flagged: bool) -> Scan
         requires { IsScanned scan begin flagged self.now.written.items }
         ensures found { result.found
-            ≡ lesser scan.found (least (asked_of (lent_mark mark.entry) begin flagged) (live self.now)) }
+            ≡ lesser scan.found (least (asked_of (lent_mark mark.entry) begin flagged) (remaining self.now)) }
         ensures looked { IsScanned result begin flagged self.now.written.items }
     {
         if !self.can_improve(scan.found, begin, flagged) {
@@ -179,7 +180,7 @@ impl Part {
     ) -> Scan
         requires { IsScanned scan begin flagged self.now.written.items }
         ensures found { result.found
-            ≡ lesser scan.found (least (asked_there (marks_of marks.now) place begin flagged) (live self.now)) }
+            ≡ lesser scan.found (least (asked_there (marks_of marks.now) place begin flagged) (remaining self.now)) }
         ensures looked { IsScanned result begin flagged self.now.written.items }
     {
         match marks.get(place as usize) {
@@ -197,7 +198,7 @@ impl Part {
         flagged: bool,
     ) -> Option<u64>
         ensures { result
-            ≡ lesser found (least (covered_of (marks_of order.now.marks.now) begin flagged) (live self.now)) }
+            ≡ lesser found (least (covered_of (marks_of order.now.marks.now) begin flagged) (remaining self.now)) }
     {
         if !self.can_improve(found, begin, flagged) {
             return found;
@@ -215,7 +216,8 @@ impl Part {
 
     // The first of what is left.
     pub(crate) fn first(&self) -> Option<&Written>
-        ensures some { IfSome result (λ w. live self.now ≡ w.now ∷ drop (self.now.start + 1) self.now.written.items) }
+        ensures some { IfSome result (λ w. remaining self.now
+            ≡ w.now ∷ drop (self.now.start + 1) self.now.written.items) }
         ensures there { IfSome result (λ w. self.now.start < length self.now.written.items) }
         ensures none { result ≡ None → length self.now.written.items ≤ self.now.start }
     {

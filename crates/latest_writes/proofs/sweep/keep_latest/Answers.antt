@@ -6,7 +6,7 @@ use Rattle.model.specs.Map.{KeyWrite}
 use Rattle.latest_writes.proofs.Holding.{under, one_more, one_for_last}
 use Rattle.latest_writes.proofs.Sweeping.{begun, left_out, kept_more, ended}
 use Rattle.latest_writes.proofs.sweep.keep_latest.Goals.{then-not-is_superseded+in_ok-push, else-not-is_superseded}
-use Rattle.latest_writes.specs.Held.{HasOneOfEach}
+use Rattle.latest_writes.specs.Buffered.{HasOneOfEach}
 
 pub loop-entry-init : goal.loop-entry-init
 loop-entry-init c = rw (c.new-kept.ensures.items, c.into_iter-entry-iterator.ensures.into_iter_gives) record {

@@ -7,9 +7,9 @@ use Rattle.merging_runs.specs.Value.{size_partial, size_old}
 abbrev pub invariant-runs : goal.invariant-runs
 invariant-runs g l = record {
   agree : g.R.Run.agree (nat_le l.oldest) l.runs.items l.fn.runs.items;
-  whole : size_old g.R.Run.from g.R.Run.sizes g.R.Run.held l.oldest l.runs.items ≡ 0;
+  whole : size_old g.R.Run.from g.R.Run.sizes g.R.Run.elements l.oldest l.runs.items ≡ 0;
   left : left_above l.oldest (map g.R.Run.sizes l.runs.items) ≤ left_above l.oldest (map g.R.Run.sizes l.fn.runs.items);
 }
 
 abbrev pub decreases-runs : goal.decreases-runs
-decreases-runs g l = size_partial g.R.Run.from g.R.Run.sizes g.R.Run.held l.oldest l.runs.items
+decreases-runs g l = size_partial g.R.Run.from g.R.Run.sizes g.R.Run.elements l.oldest l.runs.items

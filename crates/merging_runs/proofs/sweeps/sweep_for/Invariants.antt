@@ -7,11 +7,11 @@ use Rattle.merging_runs.specs.Value.{size_partial, size_old}
 abbrev pub invariant-runs : goal.invariant-runs
 invariant-runs g l = record {
   agree : g.R.Run.agree (nat_le l.oldest) l.runs.items l.fn.runs.items;
-  whole : size_old g.R.Run.from g.R.Run.sizes g.R.Run.held l.oldest l.runs.items ≡ 0;
-  paid : size_partial g.R.Run.from g.R.Run.sizes g.R.Run.held l.oldest l.fn.runs.items + l.rest
-      ≡ size_partial g.R.Run.from g.R.Run.sizes g.R.Run.held l.oldest l.runs.items + l.most;
+  whole : size_old g.R.Run.from g.R.Run.sizes g.R.Run.elements l.oldest l.runs.items ≡ 0;
+  paid : size_partial g.R.Run.from g.R.Run.sizes g.R.Run.elements l.oldest l.fn.runs.items + l.rest
+      ≡ size_partial g.R.Run.from g.R.Run.sizes g.R.Run.elements l.oldest l.runs.items + l.most;
   left : left_above l.oldest (map g.R.Run.sizes l.runs.items) ≤ left_above l.oldest (map g.R.Run.sizes l.fn.runs.items);
 }
 
 abbrev pub decreases-runs : goal.decreases-runs
-decreases-runs g l = size_partial g.R.Run.from g.R.Run.sizes g.R.Run.held l.oldest l.runs.items
+decreases-runs g l = size_partial g.R.Run.from g.R.Run.sizes g.R.Run.elements l.oldest l.runs.items

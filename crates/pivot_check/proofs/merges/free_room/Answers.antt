@@ -12,5 +12,5 @@ returns-clause-same c = λ t.
 pub returns-clause-from : goal.returns-clause-from
 returns-clause-from c = λ o most lt. omega (arith, c.nothing.ensures.number, c.nothing-2.ensures.number)
 
-pub returns-clause-held : goal.returns-clause-held
-returns-clause-held c = omega (arith, c.nothing.ensures.none, c.nothing-2.ensures.none, c.nothing.result.written.ok.0, c.nothing-2.result.written.ok.0)
+pub returns-clause-fewer : goal.returns-clause-fewer
+returns-clause-fewer c = omega (arith, c.nothing.ensures.none, c.nothing-2.ensures.none, c.nothing.result.written.ok.0, c.nothing-2.result.written.ok.0)

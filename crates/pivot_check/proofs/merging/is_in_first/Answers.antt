@@ -2,18 +2,18 @@ use Rattle.pivot_check.proofs.merging.is_in_first.Goals as goal
 use Rattle.std.proofs.Common.{◌+◌, drop, arith}
 use Rattle.pivot_check.proofs.Joined.{begins_below}
 use Rattle.pivot_check.proofs.Walks.{le_from_not}
-use Rattle.pivot_check.specs.Parts.{live}
+use Rattle.pivot_check.specs.Parts.{remaining}
 
 pub returns-clause-first : goal.returns-clause-first
 returns-clause-first c = λ low.
     let x = c.args.first.now in
     let y = c.args.second.now in
-    begins_below (live x) (drop (x.start + 1) x.written.items) (live y) (drop (y.start + 1) y.written.items) c.in-Some.x.now c.in-Some-first.y.now
+    begins_below (remaining x) (drop (x.start + 1) x.written.items) (remaining y) (drop (y.start + 1) y.written.items) c.in-Some.x.now c.in-Some-first.y.now
     c.in-Some.ensures.some c.in-Some-first.ensures.some y.rising (grind arith)
 
 pub returns-clause-second : goal.returns-clause-second
 returns-clause-second c = λ high.
     let x = c.args.first.now in
     let y = c.args.second.now in
-    begins_below (live y) (drop (y.start + 1) y.written.items) (live x) (drop (x.start + 1) x.written.items) c.in-Some-first.y.now c.in-Some.x.now
+    begins_below (remaining y) (drop (y.start + 1) y.written.items) (remaining x) (drop (x.start + 1) x.written.items) c.in-Some-first.y.now c.in-Some.x.now
     c.in-Some-first.ensures.some c.in-Some.ensures.some x.rising (le_from_not c.in-Some.x.now.key c.in-Some-first.y.now.key (grind arith))

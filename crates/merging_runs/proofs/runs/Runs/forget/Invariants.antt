@@ -1,7 +1,7 @@
 use Rattle.merging_runs.proofs.runs.Runs.forget.Given as goal
 use Rattle.std.proofs.Common.{◌≡◌}
 use Rattle.std.specs.Prelude.{nat_le}
-use Rattle.merging_runs.specs.Held.{whole_upto}
+use Rattle.merging_runs.specs.Contents.{whole_upto}
 use Rattle.merging_runs.specs.RunSizes.{left_above}
 
 abbrev pub invariant-old : goal.invariant-old
@@ -12,4 +12,4 @@ invariant-old g l = record {
 }
 
 abbrev pub decreases-old : goal.decreases-old
-decreases-old g l = whole_upto l.oldest l.self.held
+decreases-old g l = whole_upto l.oldest l.self.contents

@@ -3,7 +3,7 @@ use Rattle.std.proofs.Common.{◌≡◌, ◌++◌, ℕ, true, length, subst, sym
 use Rattle.std.specs.Vec.{vec_capacity}
 use Rattle.pivot_check.proofs.Joined.{both_agree, joined, both_upto, none_left}
 use Rattle.pivot_check.specs.Inside.{in_run}
-use Rattle.pivot_check.specs.Parts.{live, left, live_in}
+use Rattle.pivot_check.specs.Parts.{remaining, left, remaining_in}
 use Rattle.pivot_check.specs.Postings.{asked_in, keys_rise, are_upto}
 use Rattle.pivot_check.specs.declared.part.Part.{Part}
 
@@ -19,11 +19,11 @@ invariant_of-self c =
     let none : left made ≡ 0 = omega (arith, empty) in
     let nothing = none_left made none in
     record {
-      first_rises = (λ i. keys_rise (nothing i ++ live (value i))) ∙ was.made.rising;
-      second_rises = (λ i. keys_rise (nothing i ++ live more.made)) ∙ more.made.rising;
+      first_rises = (λ i. keys_rise (nothing i ++ remaining (value i))) ∙ was.made.rising;
+      second_rises = (λ i. keys_rise (nothing i ++ remaining more.made)) ∙ more.made.rising;
       room = omega (arith, empty, ap left value, ap (λ (p : Part). vec_capacity p.written) after, c.requires.room.1);
-      upto = subst (λ (n : ℕ). are_upto n (live_in made first more.made) ≡ true) (sym c.max-self.ensures)
-          (both_upto was.last more.last (in_run was) (in_run more) (live_in made first more.made) was.upto more.upto
+      upto = subst (λ (n : ℕ). are_upto n (remaining_in made first more.made) ≡ true) (sym c.max-self.ensures)
+          (both_upto was.last more.last (in_run was) (in_run more) (remaining_in made first more.made) was.upto more.upto
           (λ t. joined t was more made first c.requires.first c.requires.second none value));
     }
 
@@ -33,5 +33,5 @@ returns-clause-agree c = λ begins b asks keys flagged.
     let was = c.args.self.now in
     let more = c.args.second in
     let none : left c.replace.new.dest ≡ 0 = ap left c.replace.ensures.after ∙ omega (arith, c.requires.room.0) in
-    both_agree asked was more (live_in c.replace.new.dest c.replace.result more.made)
+    both_agree asked was more (remaining_in c.replace.new.dest c.replace.result more.made)
     (joined asked was more c.replace.new.dest c.replace.result c.requires.first c.requires.second none c.replace.ensures.value)

@@ -6,7 +6,7 @@ use Rattle.pivot_check.proofs.Writers.{asked_above}
 use Rattle.pivot_check.proofs.Sweeps.{all_parts, both_rise, fewer_in, fewer_left, upto_later}
 use Rattle.pivot_check.specs.Agreeing.{least-append, lesser_none}
 use Rattle.pivot_check.specs.Inside.{in_run}
-use Rattle.pivot_check.specs.Parts.{live}
+use Rattle.pivot_check.specs.Parts.{remaining}
 use Rattle.pivot_check.specs.Postings.{Posting, asked_in, keys_rise, least, are_upto}
 
 pub invariant_of-self : goal.invariant_of-self
@@ -17,8 +17,8 @@ invariant_of-self c =
     let second = c.sweep-2.ensures.left in
     let made = c.sweep-3.ensures.left in
     record {
-      first_rises = (λ i. keys_rise (made i ++ first i)) ∙ both_rise o (live was.made) (live was.first) was.first_rises;
-      second_rises = (λ i. keys_rise (made i ++ second i)) ∙ both_rise o (live was.made) (live was.second) was.second_rises;
+      first_rises = (λ i. keys_rise (made i ++ first i)) ∙ both_rise o (remaining was.made) (remaining was.first) was.first_rises;
+      second_rises = (λ i. keys_rise (made i ++ second i)) ∙ both_rise o (remaining was.made) (remaining was.second) was.second_rises;
       room = omega (
         arith,
         was.room,
@@ -28,7 +28,8 @@ invariant_of-self c =
         c.sweep-3.ensures.capacity,
       );
       upto = ap (are_upto was.last)
-          (all_parts o (live was.made) (live was.first) (live was.second) (live c.sweep-3.new.self) (live c.sweep.new.self) (live c.sweep-2.new.self) made first
+          (all_parts o (remaining was.made) (remaining was.first) (remaining was.second) (remaining c.sweep-3.new.self) (remaining c.sweep.new.self)
+          (remaining c.sweep-2.new.self) made first
           second) ∙ upto_later was.last o (in_run was) was.upto;
     }
 
@@ -43,8 +44,9 @@ returns-clause-agree c = λ b asks keys flagged.
     let above = asked_in keys b flagged in
     let one = λ (ps : List Posting). least-append above ps [] ∙ lesser_none (least above ps) in
     one (in_run c.free_room.new.run) ∙ c.free_room.ensures.same above
-    ∙ ap (least above) (all_parts o (live was.made) (live was.first) (live was.second) (live c.sweep-3.new.self) (live c.sweep.new.self)
-    (live c.sweep-2.new.self) c.sweep-3.ensures.left c.sweep.ensures.left c.sweep-2.ensures.left)
+    ∙ ap (least above) (all_parts o (remaining was.made) (remaining was.first) (remaining was.second) (remaining c.sweep-3.new.self)
+    (remaining c.sweep.new.self)
+    (remaining c.sweep-2.new.self) c.sweep-3.ensures.left c.sweep.ensures.left c.sweep-2.ensures.left)
     ∙ asked_above o b keys flagged (in_run was) (leb-true o b asks) ∙ sym (one (in_run was))
 
 pub returns-clause-swept : goal.returns-clause-swept
@@ -63,13 +65,13 @@ returns-clause-swept c =
       made = omega (arith, ap (λ (s : RunSize). s.made) sizes, fewer_left o was.made c.sweep-3.new.self c.sweep-3.ensures.left);
     }
 
-pub returns-clause-held : goal.returns-clause-held
-returns-clause-held c =
+pub returns-clause-fewer : goal.returns-clause-fewer
+returns-clause-fewer c =
     let was = c.args.self.now in
     let o = c.args.oldest in
     omega (
       arith,
-      c.free_room.ensures.held,
+      c.free_room.ensures.fewer,
       fewer_in o was.first c.sweep.new.self c.sweep.ensures.written,
       fewer_in o was.second c.sweep-2.new.self c.sweep-2.ensures.written,
       fewer_in o was.made c.sweep-3.new.self c.sweep-3.ensures.written,

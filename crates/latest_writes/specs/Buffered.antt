@@ -1,4 +1,4 @@
--- How much is held of the writes of a log while it is read.
+-- How much is buffered of the writes of a log while it is read.
 use Rattle.std.specs.Ordering.{is_lt}
 use Rattle.std.specs.Prelude.{◌≡◌, ◌≢◌, ◌≤◌, ℕ, ◌+◌, ◌-◌, ◌*◌, ◌^◌, max, min, ⊤, true, List, [], ◌∷◌, ◌++◌, length}
 use Rattle.std.specs.Prelude.{None, Some, sum_by}
@@ -18,10 +18,10 @@ HasOneOfEach [] = ⊤
 HasOneOfEach (w ∷ []) = ⊤
 HasOneOfEach (w ∷ v ∷ writes) = (is_lt (key_cmp w.0 v.0) ≡ true) × (w.1 ≢ None) × HasOneOfEach (v ∷ writes)
 
--- Writes are held that were kept when others were left out for the last time, with one of each key, and those that came
--- later. All weigh at most 8 MiB, or twice as much as those that were kept. `total` is their weight, and `limit` the
--- one at which it is done again.
-pub record IsHeld (writes : List KeyWrite) (total limit : ℕ) : Type 0 where
+-- Writes are buffered that were kept when others were left out for the last time, with one of each key, and those that
+-- came later. All weigh at most 8 MiB, or twice as much as those that were kept. `total` is their weight, and `limit`
+-- the one at which it is done again.
+pub record IsBuffered (writes : List KeyWrite) (total limit : ℕ) : Type 0 where
   pub kept : List KeyWrite
   pub later : List KeyWrite
   pub joined : writes ≡ kept ++ later

@@ -4,50 +4,50 @@ use Rattle.std.specs.Prelude.{◌≡◌, ℕ, ◌+◌, ◌*◌, ◌-◌, ◌^◌
 
 -- a run: a number that none of its numbers is below, one that none is above, and how much there is to free of it, which
 -- is one more than what stands in it
-pub record HeldRun : Type 0 where
+pub record RunContents : Type 0 where
   pub from : ℕ
   pub last : ℕ
   pub size : ℕ
 
 -- the runs; how much there is still to free of one that was taken out, of which nothing is asked any more; and how much
 -- work earlier steps have left over, none of which was enough for a run
-pub record Held : Type 0 where
-  pub runs : List HeldRun
+pub record Contents : Type 0 where
+  pub runs : List RunContents
   pub taken : ℕ
   pub credit : ℕ
 
 -- how much all runs hold, where each counts as one more: 2^64 - 1 where there was more
-abbrev pub size_in : List HeldRun → ℕ
+abbrev pub size_in : List RunContents → ℕ
 size_in rs = fold (λ n r. min (n + r.size) (2 ^ 64 - 1)) 0 rs
 
 -- how much there is to free of the runs that have no number above that one
-abbrev pub size_upto : ℕ → List HeldRun → ℕ
+abbrev pub size_upto : ℕ → List RunContents → ℕ
 size_upto oldest [] = 0
 size_upto oldest (r ∷ rs) = (if nat_le r.last oldest then r.size else 0) + size_upto oldest rs
 
 -- how much work it is to look at all that stands in the runs that may have numbers up to that one, and others above it:
 -- 8 for each element, and 2^63 for one run at most
-abbrev pub partial_upto : ℕ → List HeldRun → ℕ
+abbrev pub partial_upto : ℕ → List RunContents → ℕ
 partial_upto oldest [] = 0
 partial_upto oldest (r ∷ rs) =
     (if nat_le r.from oldest && nat_lt oldest r.last then min (8 * r.size) (2 ^ 63) else 0) + partial_upto oldest rs
 
 -- how much is to be freed of whole runs where the numbers up to that one are forgotten
-abbrev pub whole_upto : ℕ → Held → ℕ
+abbrev pub whole_upto : ℕ → Contents → ℕ
 whole_upto oldest h = h.taken + size_upto oldest h.runs
 
 -- how much garbage there is where the numbers up to that one are forgotten: what is to be freed, and what is to be
 -- looked at
-abbrev pub garbage_upto : ℕ → Held → ℕ
+abbrev pub garbage_upto : ℕ → Contents → ℕ
 garbage_upto oldest h = whole_upto oldest h + (partial_upto oldest h.runs - h.credit)
 
 -- nothing has changed but how much there is still to free of the one that was taken out
-pub record IsSameBut (old new : Held) : Type 0 where
+pub record IsSameBut (old new : Contents) : Type 0 where
   pub runs : new.runs ≡ old.runs
   pub credit : new.credit ≡ old.credit
 
 -- what there is to look at stays, and how much of it may be
-pub record HasSamePartial (oldest : ℕ) (old new : Held) : Type 0 where
+pub record HasSamePartial (oldest : ℕ) (old new : Contents) : Type 0 where
   pub partial : partial_upto oldest new.runs ≡ partial_upto oldest old.runs
   pub credit : new.credit ≡ old.credit
 
