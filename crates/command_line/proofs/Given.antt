@@ -15,7 +15,7 @@ use Rattle.clap.specs.declared.parser.matches.Found.{Found}
 use Rattle.clap.specs.declared.parser.matches.SubCommand.{SubCommand}
 use Rattle.command_line.specs.Asking.{AsksFor, HasNumber, HasText, CommandAsks}
 use Rattle.command_line.specs.Usage.{the_command_line}
-use Rattle.command_line.specs.declared.asked.Asked.{Asked}
+use Rattle.command_line.specs.declared.invocation.Invocation.{Invocation}
 
 pub text_given : (found : Found) (id text : Text) → Some text ≡ first_value found id → HasText (rows_of found) id text
 text_given found id text h = sym (first_value-rows found id) ∙ sym h
@@ -52,10 +52,10 @@ unfolding the_command_line
 is_free = refl
 
 -- what the command means that the parser met is what the words ask for
-pub met : (command : App) (words : List Text) (m : ArgMatches) (name : Text) (rows : List Row) (asked : Asked) → command ≡ the_command_line
+pub met : (command : App) (words : List Text) (m : ArgMatches) (name : Text) (rows : List Row) (invocation : Invocation) → command ≡ the_command_line
     → (is_simple_and_free command ≡ true → fault_of command words ≡ []) → HasMatchesOf command words m → Some name ≡ subcommand_name_of m
-    → Some rows ≡ option_map (λ p. p.1) (subcommand_rows (out-ArgMatches m).subcommand) → CommandAsks name rows asked → AsksFor words asked
-met command words m name rows asked is kinds matches named given means =
+    → Some rows ≡ option_map (λ p. p.1) (subcommand_rows (out-ArgMatches m).subcommand) → CommandAsks name rows invocation → AsksFor words invocation
+met command words m name rows invocation is kinds matches named given means =
     let all = matches (ap is_simple is ∙ is_plain) in
     record {
       options = rows;

@@ -21,8 +21,8 @@ use Rattle.command_line.proofs.Given.{both_given, is_plain}
 use Rattle.command_line.specs.Asking.{AskForNothing, Gives, HasText, LacksNumber, CommandAsks, name_of}
 use Rattle.command_line.specs.Ranges.{IsInRange}
 use Rattle.command_line.specs.Usage.{the_command_line}
-use Rattle.command_line.specs.declared.asked.Asked.{Asked}
-use Rattle.command_line.specs.declared.asked.Asked.TheVariants.{Create, Serve, Check, Compact, Play}
+use Rattle.command_line.specs.declared.invocation.Invocation.{Invocation}
+use Rattle.command_line.specs.declared.invocation.Invocation.TheVariants.{Create, Serve, Check, Compact, Play}
 
 -- ---- a number
 
@@ -55,7 +55,7 @@ differ a b same apart e = true≢false (sym same ∙ ap (bytes_eq a) e ∙ apart
 module _ (rows : List Row) where
   -- `create` asks for nothing
   pub create_lacks : (first_of (codes "data") rows ≡ None) ⊎ LacksNumber rows (codes "sectors") 4194304
-      → (asked : Asked) → IsInRange asked → CommandAsks (codes "create") rows asked → ⊥
+      → (invocation : Invocation) → IsInRange invocation → CommandAsks (codes "create") rows invocation → ⊥
   create_lacks why (Create file n) range means = elim why [
     | inl none ↦ none≢some (first_of (codes "data") rows) file.now none means.1.0
     | inr lacks ↦ lacks n range means.1.1
@@ -67,7 +67,7 @@ module _ (rows : List Row) where
 
   -- `serve` asks for nothing
   pub serve_lacks : (first_of (codes "data") rows ≡ None) ⊎ (first_of (codes "listen") rows ≡ None)
-      → (asked : Asked) → IsInRange asked → CommandAsks (codes "serve") rows asked → ⊥
+      → (invocation : Invocation) → IsInRange invocation → CommandAsks (codes "serve") rows invocation → ⊥
   serve_lacks why (Serve file listen) range means = elim why [
     | inl none ↦ none≢some (first_of (codes "data") rows) file.now none means.1.0
     | inr none ↦ none≢some (first_of (codes "listen") rows) listen.now none means.1.1
@@ -78,7 +78,7 @@ module _ (rows : List Row) where
   serve_lacks why (Play n) range means = differ (codes "serve") (codes "play") refl refl means.0
 
   -- `check` asks for nothing
-  pub check_lacks : first_of (codes "data") rows ≡ None → (asked : Asked) → IsInRange asked → CommandAsks (codes "check") rows asked → ⊥
+  pub check_lacks : first_of (codes "data") rows ≡ None → (invocation : Invocation) → IsInRange invocation → CommandAsks (codes "check") rows invocation → ⊥
   check_lacks none (Check file) range means = none≢some (first_of (codes "data") rows) file.now none means.1
   check_lacks none (Create file n) range means = differ (codes "check") (codes "create") refl refl means.0
   check_lacks none (Serve file listen) range means = differ (codes "check") (codes "serve") refl refl means.0
@@ -87,7 +87,7 @@ module _ (rows : List Row) where
 
   -- `compact` asks for nothing where an option has no text, or one of sectors that is no number in range
   pub compact_lacks_text : (first_of (codes "from") rows ≡ None) ⊎ (first_of (codes "to") rows ≡ None)
-      → (asked : Asked) → IsInRange asked → CommandAsks (codes "compact") rows asked → ⊥
+      → (invocation : Invocation) → IsInRange invocation → CommandAsks (codes "compact") rows invocation → ⊥
   compact_lacks_text why (Compact from to n) range means = elim why [
     | inl none ↦ none≢some (first_of (codes "from") rows) from.now none means.1.0
     | inr none ↦ none≢some (first_of (codes "to") rows) to.now none means.1.1
@@ -98,7 +98,7 @@ module _ (rows : List Row) where
   compact_lacks_text why (Play n) range means = differ (codes "compact") (codes "play") refl refl means.0
 
   pub compact_lacks_number : (text : Text) → HasText rows (codes "sectors") text → LacksNumber rows (codes "sectors") 4194304
-      → (asked : Asked) → IsInRange asked → CommandAsks (codes "compact") rows asked → ⊥
+      → (invocation : Invocation) → IsInRange invocation → CommandAsks (codes "compact") rows invocation → ⊥
   compact_lacks_number text has lacks (Compact from to (Some n)) range means = lacks n range means.1.2
   compact_lacks_number text has lacks (Compact from to None) range means = none≢some (first_of (codes "sectors") rows) text means.1.2 has
   compact_lacks_number text has lacks (Create file n) range means = differ (codes "compact") (codes "create") refl refl means.0
@@ -107,7 +107,7 @@ module _ (rows : List Row) where
   compact_lacks_number text has lacks (Play n) range means = differ (codes "compact") (codes "play") refl refl means.0
 
   -- `play` asks for nothing
-  pub play_lacks : LacksNumber rows (codes "sectors") 65536 → (asked : Asked) → IsInRange asked → CommandAsks (codes "play") rows asked → ⊥
+  pub play_lacks : LacksNumber rows (codes "sectors") 65536 → (invocation : Invocation) → IsInRange invocation → CommandAsks (codes "play") rows invocation → ⊥
   play_lacks lacks (Play n) range means = lacks n range means.1
   play_lacks lacks (Create file n) range means = differ (codes "play") (codes "create") refl refl means.0
   play_lacks lacks (Serve file listen) range means = differ (codes "play") (codes "serve") refl refl means.0
@@ -126,28 +126,28 @@ pub refused : (command : App) (words : List Text) (error : Error) → command �
     → (kind_of error ≡ OutOfMemory) ⊎ AskForNothing words
 refused command words error is kinds = elim kinds [
   | inl memory ↦ inl memory
-  | inr among ↦ inr (λ asked range asks. subst (IsAmong (kind_of error)) (ap (λ a. fault_of a words) is ∙ asks.taken) among)
+  | inr among ↦ inr (λ invocation range asks. subst (IsAmong (kind_of error)) (ap (λ a. fault_of a words) is ∙ asks.taken) among)
 ]
 
 -- it takes them, and they name no command
 pub unnamed : (command : App) (words : List Text) (m : ArgMatches) → command ≡ the_command_line → HasMatchesOf command words m
     → None ≡ option_map (λ p. p.1) (subcommand_rows_of m) → AskForNothing words
-unnamed command words m is matches none asked range asks =
+unnamed command words m is matches none invocation range asks =
     let all = matches (ap is_simple is ∙ is_plain) in
-    let named : subcommand_rows_of m ≡ Some (name_of asked, asks.options) = all.1 ∙ ap (λ a. subcommand_of a words) is ∙ asks.named in
+    let named : subcommand_rows_of m ≡ Some (name_of invocation, asks.options) = all.1 ∙ ap (λ a. subcommand_of a words) is ∙ asks.named in
     none≢some (option_map (λ (p : Text × List Row). p.1) (subcommand_rows_of m)) asks.options (sym none)
     (ap (option_map (λ (p : Text × List Row). p.1)) named)
 
 -- they name a command that asks for nothing
 pub meant_nothing : (command : App) (words : List Text) (m : ArgMatches) (name : Text) (rows : List Row) → command ≡ the_command_line
     → HasMatchesOf command words m → Some name ≡ subcommand_name_of m → Some rows ≡ option_map (λ p. p.1) (subcommand_rows_of m)
-    → ((asked : Asked) → IsInRange asked → CommandAsks name rows asked → ⊥) → AskForNothing words
-meant_nothing command words m name rows is matches named given nothing asked range asks =
+    → ((invocation : Invocation) → IsInRange invocation → CommandAsks name rows invocation → ⊥) → AskForNothing words
+meant_nothing command words m name rows is matches named given nothing invocation range asks =
     let all = matches (ap is_simple is ∙ is_plain) in
-    let here : ◌≡◌ {A = Option (Text × List Row)} (Some (name, rows)) (Some (name_of asked, asks.options)) =
+    let here : ◌≡◌ {A = Option (Text × List Row)} (Some (name, rows)) (Some (name_of invocation, asks.options)) =
     sym (both_given (out-ArgMatches m).subcommand name rows named given) ∙ all.1 ∙ ap (λ a. subcommand_of a words) is ∙ asks.named in
-    let same : (name ≡ name_of asked) × (rows ≡ asks.options) = both_same name (name_of asked) rows asks.options here in
-    nothing asked range (same.0, subst (λ r. Gives r asked) (sym same.1) asks.given)
+    let same : (name ≡ name_of invocation) × (rows ≡ asks.options) = both_same name (name_of invocation) rows asks.options here in
+    nothing invocation range (same.0, subst (λ r. Gives r invocation) (sym same.1) asks.given)
 
 -- ---- a refusal
 

@@ -6,7 +6,7 @@ ghost use Rattle.command_line.specs.Making.{IsOf, Makes};
 ghost use Rattle.command_line.specs.Usage.{sectors_up_to, text, wanted};
 ghost use Rattle.command_line.specs.Usage as usage;
 
-use crate::asked::{FILE_SECTORS_MAX, MEMORY_SECTORS_MAX, SECTORS_MIN};
+use crate::invocation::{FILE_SECTORS_MAX, MEMORY_SECTORS_MAX, SECTORS_MIN};
 use crate::texts::{
     AFTER_CHECK, AFTER_COMPACT, AFTER_CREATE, AFTER_PLAY, AFTER_PROGRAM, AFTER_SERVE,
 };

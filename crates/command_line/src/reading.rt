@@ -8,8 +8,8 @@ ghost use Rattle.command_line.specs.Asking.{MeansNothing};
 ghost use Rattle.command_line.specs.Ranges.{IsInRange};
 ghost use Rattle.command_line.specs.Refusals.{IsRefusalOf};
 
-use crate::asked::{Asked, FILE_SECTORS_MAX, MEMORY_SECTORS_MAX, SECTORS_MIN};
 use crate::commands::command;
+use crate::invocation::{FILE_SECTORS_MAX, Invocation, MEMORY_SECTORS_MAX, SECTORS_MIN};
 use crate::refusals::Refusal;
 use clap::error::ErrorKind;
 use clap::{ArgMatches, Error};
@@ -28,28 +28,28 @@ fn sectors(found: &ArgMatches<'_>, most: u64) -> Option<u64>
     if given > most { None } else { Some(given) }
 }
 
-fn create<'a>(found: &ArgMatches<'a>) -> Option<Asked<'a>>
+fn create<'a>(found: &ArgMatches<'a>) -> Option<Invocation<'a>>
     ensures range { IfSome result IsInRange }
     ensures means { IfSome result (CommandAsks (codes "create") (rows_of (found_of found.now))) }
     ensures nothing { (result ≡ None) → MeansNothing (codes "create") (rows_of (found_of found.now)) }
 {
-    Some(Asked::Create {
+    Some(Invocation::Create {
         data: found.get_str("data")?,
         sectors: sectors(found, FILE_SECTORS_MAX)?,
     })
 }
 
-fn play<'a>(found: &ArgMatches<'a>) -> Option<Asked<'a>>
+fn play<'a>(found: &ArgMatches<'a>) -> Option<Invocation<'a>>
     ensures range { IfSome result IsInRange }
     ensures means { IfSome result (CommandAsks (codes "play") (rows_of (found_of found.now))) }
     ensures nothing { (result ≡ None) → MeansNothing (codes "play") (rows_of (found_of found.now)) }
 {
-    Some(Asked::Play {
+    Some(Invocation::Play {
         sectors: sectors(found, MEMORY_SECTORS_MAX)?,
     })
 }
 
-fn compact<'a>(found: &ArgMatches<'a>) -> Option<Asked<'a>>
+fn compact<'a>(found: &ArgMatches<'a>) -> Option<Invocation<'a>>
     ensures range { IfSome result IsInRange }
     ensures means { IfSome result (CommandAsks (codes "compact") (rows_of (found_of found.now))) }
     ensures nothing { (result ≡ None) → MeansNothing (codes "compact") (rows_of (found_of found.now)) }
@@ -58,7 +58,7 @@ fn compact<'a>(found: &ArgMatches<'a>) -> Option<Asked<'a>>
         Some(_) => Some(sectors(found, FILE_SECTORS_MAX)?),
         None => None,
     };
-    Some(Asked::Compact {
+    Some(Invocation::Compact {
         from: found.get_str("from")?,
         to: found.get_str("to")?,
         sectors,
@@ -66,18 +66,18 @@ fn compact<'a>(found: &ArgMatches<'a>) -> Option<Asked<'a>>
 }
 
 // What the command of this name asks for, by what its options were given.
-fn asked<'a>(name: &str, found: &ArgMatches<'a>) -> Option<Asked<'a>>
+fn invocation<'a>(name: &str, found: &ArgMatches<'a>) -> Option<Invocation<'a>>
     ensures range { IfSome result IsInRange }
     ensures means { IfSome result (CommandAsks name.now (rows_of (found_of found.now))) }
     ensures nothing { (result ≡ None) → MeansNothing name.now (rows_of (found_of found.now)) }
 {
     match name {
         "create" => create(found),
-        "serve" => Some(Asked::Serve {
+        "serve" => Some(Invocation::Serve {
             data: found.get_str("data")?,
             listen: found.get_str("listen")?,
         }),
-        "check" => Some(Asked::Check {
+        "check" => Some(Invocation::Check {
             data: found.get_str("data")?,
         }),
         "compact" => compact(found),
@@ -93,18 +93,18 @@ fn asked<'a>(name: &str, found: &ArgMatches<'a>) -> Option<Asked<'a>>
 /// needs, and `Memory`.
 ///
 /// It may grow what `clap` keeps of the commands, the words and the error, and the refusal's text.
-pub fn parse<'a>(alloc: Global, words: &'a [&'a str]) -> Result<Asked<'a>, Refusal>
+pub fn parse<'a>(alloc: Global, words: &'a [&'a str]) -> Result<Invocation<'a>, Refusal>
     ensures range { IfOk result IsInRange }
     ensures asks { AnswersTo (map (λ word. word.now) words.now) result }
 {
     match read(alloc, words) {
-        Ok(asked) => Ok(asked),
+        Ok(invocation) => Ok(invocation),
         Err(error) => Err(refusal(alloc, &error)),
     }
 }
 
 // What the words ask for, or `clap`'s error.
-fn read<'a>(alloc: Global, words: &'a [&'a str]) -> Result<Asked<'a>, Error>
+fn read<'a>(alloc: Global, words: &'a [&'a str]) -> Result<Invocation<'a>, Error>
     ensures range { IfOk result IsInRange }
     ensures asks { IfOk result (AsksFor (map (λ word. word.now) words.now)) }
     ensures refuses { IfErr result (λ error.
@@ -112,12 +112,12 @@ fn read<'a>(alloc: Global, words: &'a [&'a str]) -> Result<Asked<'a>, Error>
 {
     let mut command = command(alloc)?;
     let found = command.try_get_matches_from_mut(words)?;
-    let asked = match found.subcommand() {
-        Some((name, inner)) => asked(name, inner),
+    let invocation = match found.subcommand() {
+        Some((name, inner)) => invocation(name, inner),
         None => None,
     };
-    match asked {
-        Some(asked) => Ok(asked),
+    match invocation {
+        Some(invocation) => Ok(invocation),
         None => Err(command.error(ErrorKind::InvalidValue, "no such command")?),
     }
 }

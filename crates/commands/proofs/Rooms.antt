@@ -17,9 +17,9 @@ needs_of map None some none = none
 needs_of map (Some n) some none = some
 
 -- a copy that isn't refused has room
-pub has_room : (map : KeyMap) (old : ℕ) (asked needed : Option ℕ) → Needs map needed → (HasTooFew asked needed → ⊥)
-    → copy_size map ≤ copy_count old asked needed
-has_room map old asked None needs enough = absurd (enough tt)
+pub has_room : (map : KeyMap) (old : ℕ) (requested needed : Option ℕ) → Needs map needed → (HasTooFew requested needed → ⊥)
+    → copy_size map ≤ copy_count old requested needed
+has_room map old requested None needs enough = absurd (enough tt)
 has_room map old None (Some n) needs enough = let is : n ≡ copy_size map = needs in omega (arith, is)
 has_room map old (Some a) (Some n) needs enough = let is : n ≡ copy_size map = needs in let here : n ≤ a = omega (arith, enough) in omega (arith, is, here)
 

@@ -27,15 +27,15 @@ use Rattle.commands.specs.declared.system.Lines.{Ghosts as Lines}
 -- how many sectors a copy is given, over an old device of so many, where so many were asked for and the map needs so
 -- many
 abbrev pub copy_count : ℕ → Option ℕ → Option ℕ → ℕ
-copy_count old asked None = old
+copy_count old requested None = old
 copy_count old None (Some needed) = max old needed
-copy_count old (Some asked) (Some needed) = max old asked
+copy_count old (Some requested) (Some needed) = max old requested
 
 -- the map needs more than were asked for, or more than a number can count
 abbrev pub HasTooFew : Option ℕ → Option ℕ → Type 0
-HasTooFew asked None = Unit {0}
+HasTooFew requested None = Unit {0}
 HasTooFew None (Some needed) = ⊥
-HasTooFew (Some asked) (Some needed) = asked < needed
+HasTooFew (Some requested) (Some needed) = requested < needed
 
 -- the log of a map takes so many sectors, if a number can count them
 abbrev pub Needs : KeyMap → Option ℕ → Type 0
@@ -92,23 +92,24 @@ pub data ReadsFile {F D : Type 0} (g : Ghosts D) (files : DataFiles F D) (name :
 -- written, and closed. The first of these that fails ends it, with its fault, and nothing but closing is done behind
 -- it.
 pub data Compacting {F P D O E : Type 0} (g : Ghosts D) (files : DataFiles F D) (out : Lines O) (err : Lines E)
-    (from to : List ℕ) (asked : Option ℕ) (old : Environment F P O E) : Result (Unit {0}) Fault → Environment F P O E
+    (from to : List ℕ) (requested : Option ℕ) (old : Environment F P O E) : Result (Unit {0}) Fault
+    → Environment F P O E
     → Type 0 where
   NotRead : (fault : Fault) (read : F) → ReadsFile g files from old.files (Err fault) read
-      → Compacting g files out err from to asked old (Err fault) (record old { files = read })
+      → Compacting g files out err from to requested old (Err fault) (record old { files = read })
   TooFew : (count : ℕ) (map : KeyMap) (needed : Option ℕ) (read : F)
       → ReadsFile g files from old.files (Ok (map, count)) read → Needs map needed
-      → HasTooFew asked needed
-      → Compacting g files out err from to asked old (Err LogFull) (record old { files = read })
+      → HasTooFew requested needed
+      → Compacting g files out err from to requested old (Err LogFull) (record old { files = read })
   NotMade : (count : ℕ) (map : KeyMap) (needed : Option ℕ) (error : Error) (fault : Fault) (read made : F)
-      → ReadsFile g files from old.files (Ok (map, count)) read → Needs map needed → (HasTooFew asked needed → ⊥)
-      → files.makes read to (copy_count count asked needed) (Err error) made → IsReportedAs error File fault
-      → Compacting g files out err from to asked old (Err fault) (record old { files = made })
+      → ReadsFile g files from old.files (Ok (map, count)) read → Needs map needed → (HasTooFew requested needed → ⊥)
+      → files.makes read to (copy_count count requested needed) (Err error) made → IsReportedAs error File fault
+      → Compacting g files out err from to requested old (Err fault) (record old { files = made })
   Made : (count : ℕ) (map : KeyMap) (needed : Option ℕ) (device copied : D) (result : Result (Unit {0}) Fault)
       (read made closed : F) (printed : O) (reported : E)
-      → ReadsFile g files from old.files (Ok (map, count)) read → Needs map needed → (HasTooFew asked needed → ⊥)
-      → files.makes read to (copy_count count asked needed) (Ok device) made
+      → ReadsFile g files from old.files (Ok (map, count)) read → Needs map needed → (HasTooFew requested needed → ⊥)
+      → files.makes read to (copy_count count requested needed) (Ok device) made
       → MayReport err.writes old.is_terminal old.err reported → Copies g out device map old.out result copied printed
       → files.closes made copied closed
-      → Compacting g files out err from to asked old result
+      → Compacting g files out err from to requested old result
       (record old { files = closed; out = printed; err = reported })

@@ -3,8 +3,8 @@
 use Rattle.std.specs.Prelude.{◌≡◌, ℕ, Result, Ok, Err}
 use Rattle.sector.specs.declared.device.Sectors.{Ghosts}
 use Rattle.sessions.specs.declared.hub.Hub.{Hub}
-use Rattle.command_line.specs.declared.asked.Asked.{Asked}
-use Rattle.command_line.specs.declared.asked.Asked.TheVariants.{Create, Serve, Check, Compact, Play}
+use Rattle.command_line.specs.declared.invocation.Invocation.{Invocation}
+use Rattle.command_line.specs.declared.invocation.Invocation.TheVariants.{Create, Serve, Check, Compact, Play}
 use Rattle.command_line.specs.declared.refusals.Refusal.{Refusal}
 use Rattle.scripts.specs.declared.faults.ScriptFault.{ScriptFault}
 use Rattle.commands.specs.Checking.{Checking}
@@ -31,7 +31,7 @@ module _ {F P S O E D V : Type 0} {g : Ghosts D} (files : DataFiles F D) (ports 
     (server : Turns V (Hub D g)) where
   module _ (player : Scripts S O) (out : Lines O) (err : Lines E) where
     -- what was asked for is done, and nothing else is called
-    abbrev pub Does : S → Environment F P O E → Asked → Result (Unit {0}) Fault → Environment F P O E → Type 0
+    abbrev pub Does : S → Environment F P O E → Invocation → Result (Unit {0}) Fault → Environment F P O E → Type 0
     Does scripts old (Create name sectors) ended new =
         Creating g files name.now sectors old.files ended new.files × (new ≡ record old { files = new.files })
     Does scripts old (Serve name listen) ended new =
@@ -47,19 +47,20 @@ module _ {F P S O E D V : Type 0} {g : Ghosts D} (files : DataFiles F D) (ports 
         × (new ≡ record old { out = new.out })
 
     -- how a command line ended: what was asked for was done, if its words ask for a command, and the ending is reported
-    abbrev pub EndsLine : S → Environment F P O E → Result Asked Refusal → Reported → Environment F P O E → Type 0
+    abbrev pub EndsLine : S → Environment F P O E → Result Invocation Refusal → Reported → Environment F P O E → Type 0
     EndsLine scripts old (Err refusal) reported new =
         ReportsEnding out.writes err.writes (of_refusal refusal) old.out old.err reported new.out new.err
         × (new ≡ record old { out = new.out; err = new.err })
-    EndsLine scripts old (Ok asked) reported new =
-        (ended : Result (Unit {0}) Fault) × (done : Environment F P O E) × Does scripts old asked ended done
+    EndsLine scripts old (Ok invocation) reported new =
+        (ended : Result (Unit {0}) Fault) × (done : Environment F P O E) × Does scripts old invocation ended done
         × ReportsEnding out.writes err.writes (of_outcome ended) done.out done.err reported new.out new.err
         × (new ≡ record done { out = new.out; err = new.err })
 
     -- A command line is run: the words say what is asked, and the status is that of the ending.
-    abbrev pub RunsAsked : {W : Type 0} → (W → Result Asked Refusal → Type 0) → W → S → Environment F P O E → ℕ
+    abbrev pub RunsInvocation : {W : Type 0} → (W → Result Invocation Refusal → Type 0) → W → S → Environment F P O E
+        → ℕ
         → Environment F P O E → Type 0
-    RunsAsked asks words scripts old status new =
-        (asked : Result Asked Refusal) × (reported : Reported) × asks words asked
-        × EndsLine scripts old asked reported new
+    RunsInvocation asks words scripts old status new =
+        (invocation : Result Invocation Refusal) × (reported : Reported) × asks words invocation
+        × EndsLine scripts old invocation reported new
         × (status ≡ reported.status)

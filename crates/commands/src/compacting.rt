@@ -1,7 +1,7 @@
 //! `compact`: copies the map of a data file into a new one.
 ghost use Rattle.std.specs.Prelude.{◌≡◌, ◌<◌, ◌≤◌, ◌⊎◌, ◌↔◌, Ok, OnOk, IfOk, IfErr, IsErrOf};
 ghost use Rattle.commit_log.specs.Copying.{write_sets_of, copy_size, IsCopyFault};
-ghost use Rattle.commit_log.specs.Reading.{FaultIs};
+ghost use Rattle.commit_log.specs.Reading.{NotesFaults};
 ghost use Rattle.commands.specs.Compacting.{copy_count, Compacting, Copies, HasTooFew, MayReport, ReadsFile};
 ghost use Rattle.commands.specs.LogCounts.{counts_of, log_line};
 ghost use Rattle.commands.specs.Faults.{IsFromOutput};
@@ -83,19 +83,19 @@ fn may_report<C: Clock, E: Lines>(clock: &C, begun: Option<Instant>, is_terminal
 
 /// How many sectors a copy is given: as many as the old device has, as were asked for, and as the map needs. `LogFull` exactly where the
 /// map needs more than were asked for, or more than a number can count. Takes no memory.
-pub fn copy_count(old: u64, asked: Option<u64>, needed: Option<u64>) -> Result<u64, Fault>
+pub fn copy_count(old: u64, requested: Option<u64>, needed: Option<u64>) -> Result<u64, Fault>
     ensures errors { IfErr result (λ fault. fault ≡ Fault.LogFull) }
-    ensures full { IsErrOf result Fault.LogFull ↔ HasTooFew asked needed }
-    ensures count { IfOk result (λ n. n ≡ copy_count old asked needed) }
+    ensures full { IsErrOf result Fault.LogFull ↔ HasTooFew requested needed }
+    ensures count { IfOk result (λ n. n ≡ copy_count old requested needed) }
 {
-    match (asked, needed) {
+    match (requested, needed) {
         (_, None) => Err(Fault::LogFull),
         (None, Some(needed)) => Ok(old.max(needed)),
-        (Some(asked), Some(needed)) => {
-            if asked < needed {
+        (Some(requested), Some(needed)) => {
+            if requested < needed {
                 Err(Fault::LogFull)
             } else {
-                Ok(old.max(asked))
+                Ok(old.max(requested))
             }
         }
     }
@@ -127,9 +127,8 @@ pub fn copy_device<D: Sectors, O: Lines>(
 
 // Writes the log of a map on a device, and counts what it then holds.
 fn copy_counts<D: Sectors>(alloc: Global, device: &mut D, map: &Map) -> Result<LogCounts, LogFault>
-    ensures fault { FaultIs (D.failures device.old) (D.failures device.new) result }
+    ensures calls { NotesFaults D.Sectors device.old device.new result }
     ensures errors { IfErr result IsCopyFault }
-    ensures size { D.size device.new ≡ D.size device.old }
     ensures full { IsErrOf result LogFault.Full ↔ (D.size device.old < copy_size map.now) }
     ensures counted { IfOk result (λ counts. counts ≡ counts_of (write_sets_of map.now) (D.size device.old)) }
     ensures copied { D.keeps_model → OnOk result (HoldsLog D.Sectors device.new (write_sets_of map.now)) }

@@ -1,5 +1,5 @@
 //! Runs a command line: reads it, runs the command that it names, and reports how that ended.
-ghost use Rattle.commands.specs.Running.{Does, RunsAsked};
+ghost use Rattle.commands.specs.Running.{Does, RunsInvocation};
 ghost use Rattle.commands.specs.Serving.{TakesOpened};
 ghost use Rattle.command_line.specs.Ranges.{IsInRange};
 
@@ -9,7 +9,7 @@ use crate::endings::{Ending, finish};
 use crate::faults::Fault;
 use crate::serving::serve;
 use crate::system::{DataFiles, Environment, Lines, Ports, Scripts, Words};
-use command_line::Asked;
+use command_line::Invocation;
 use sessions::Hub;
 use std::alloc::Global;
 use std::time::Clock;
@@ -30,12 +30,12 @@ pub fn run_command<
     E: Lines,
 >(clock: &C, alloc: Global, words: &W, environment: &mut Environment<F, P, O, E>, scripts: S) -> u8
     requires { TakesOpened P.takes }
-    ensures { RunsAsked F.DataFiles P.Ports P.Server.Turns S.Scripts O.Lines E.Lines W.asks words.now scripts
+    ensures { RunsInvocation F.DataFiles P.Ports P.Server.Turns S.Scripts O.Lines E.Lines W.asks words.now scripts
         environment.old result environment.new }
 {
-    match words.asked(alloc) {
-        Ok(asked) => {
-            let done = execute(clock, alloc, asked, environment, scripts);
+    match words.invocation(alloc) {
+        Ok(invocation) => {
+            let done = execute(clock, alloc, invocation, environment, scripts);
             finish(
                 &Ending::from(done),
                 &mut environment.out,
@@ -63,20 +63,25 @@ fn execute<
 >(
     clock: &C,
     alloc: Global,
-    asked: Asked<'_>,
+    invocation: Invocation<'_>,
     environment: &mut Environment<F, P, O, E>,
     scripts: S,
 ) -> Result<(), Fault>
     requires opened { TakesOpened P.takes }
-    requires range { IsInRange asked }
-    ensures { Does F.DataFiles P.Ports P.Server.Turns S.Scripts O.Lines E.Lines scripts environment.old asked.entry
+    requires range { IsInRange invocation }
+    ensures { Does F.DataFiles P.Ports P.Server.Turns S.Scripts O.Lines E.Lines scripts environment.old invocation.entry
         result environment.new }
 {
-    match asked {
-        Asked::Create { data, sectors } => create(&mut environment.files, data, sectors),
-        Asked::Serve { data, listen } => serve(alloc, environment, data, listen),
-        Asked::Check { data } => check(alloc, &mut environment.files, data, &mut environment.out),
-        Asked::Compact { from, to, sectors } => compact(
+    match invocation {
+        Invocation::Create { data, sectors } => create(&mut environment.files, data, sectors),
+        Invocation::Serve { data, listen } => serve(alloc, environment, data, listen),
+        Invocation::Check { data } => check(
+            alloc,
+            &mut environment.files,
+            data,
+            &mut environment.out,
+        ),
+        Invocation::Compact { from, to, sectors } => compact(
             clock,
             alloc,
             environment,
@@ -84,7 +89,7 @@ fn execute<
             to,
             sectors,
         ),
-        Asked::Play { sectors } => scripts
+        Invocation::Play { sectors } => scripts
             .play(alloc, sectors, &mut environment.out)
             .map_err(Fault::from),
     }

@@ -1,7 +1,7 @@
 //! What commands use of the system, as traits: words, files, turns, ports, scripts and lines. A command's contract says which of their
 //! calls it makes.
 
-use command_line::{Asked, Refusal, parse};
+use command_line::{Invocation, Refusal, parse};
 use scripts::{ScriptFault, play};
 use sector::{FileSectors, Sectors};
 use std::alloc::Global;
@@ -15,14 +15,14 @@ use std::time::Clock;
 pub trait Words {
     ghost use Rattle.std.specs.Prelude.{⊤, Result, IfOk};
     ghost use Rattle.command_line.specs.Ranges.{IsInRange};
-    ghost use Rattle.command_line.specs.declared.asked.Asked.{Asked};
+    ghost use Rattle.command_line.specs.declared.invocation.Invocation.{Invocation};
     ghost use Rattle.command_line.specs.declared.refusals.Refusal.{Refusal};
 
     /// `asks words answer`: one call of `asked`.
-    ghost asks: { Self → Result Asked Refusal → Type 0 } = { λ _ _. ⊤ };
+    ghost asks: { Self → Result Invocation Refusal → Type 0 } = { λ _ _. ⊤ };
 
     /// The command that is asked for, with numbers in its range, or why there is none.
-    fn asked(&self, alloc: Global) -> Result<Asked<'_>, Refusal>
+    fn invocation(&self, alloc: Global) -> Result<Invocation<'_>, Refusal>
         ensures range { IfOk result IsInRange }
         ensures asks { asks self.now result };
 }
@@ -242,7 +242,7 @@ impl Words for CommandLine<'_> {
 
     ghost asks = { λ line result. AnswersTo (argument_words line) result };
 
-    fn asked(&self, alloc: Global) -> Result<Asked<'_>, Refusal> {
+    fn invocation(&self, alloc: Global) -> Result<Invocation<'_>, Refusal> {
         parse(alloc, self.words)
     }
 }

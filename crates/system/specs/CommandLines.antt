@@ -3,7 +3,7 @@ use Rattle.std.specs.Prelude.{◌≡◌, ℕ, List, map}
 use Rattle.std.specs.Borrow.{Bor, MutBor}
 use Rattle.sector.specs.declared.device.Sectors.{Ghosts}
 use Rattle.sessions.specs.declared.hub.Hub.{Hub}
-use Rattle.commands.specs.Running.{RunsAsked}
+use Rattle.commands.specs.Running.{RunsInvocation}
 use Rattle.commands.specs.Words.{AnswersTo}
 use Rattle.commands.specs.declared.system.Environment.{Environment}
 use Rattle.commands.specs.declared.system.DataFiles.{Ghosts as DataFiles}
@@ -19,5 +19,6 @@ module _ {F P S O E D V : Type 0} {g : Ghosts D} (files : DataFiles F D) (ports 
     abbrev pub RunsWords : List (Bor (List ℕ)) → S → O → E → ℕ → Type 0
     RunsWords words reader o e status =
         (old : Environment F P (MutBor O) (MutBor E)) × (new : Environment F P (MutBor O) (MutBor E))
-        × RunsAsked files ports server player out err AnswersTo (map (λ word. word.now) words) reader old status new
+        × RunsInvocation files ports server player out err AnswersTo (map (λ word. word.now) words) reader old status
+        new
         × (old.out.now ≡ o) × (old.err.now ≡ e)

@@ -1,5 +1,5 @@
 //! The program's commands: their texts and statuses.
-use command_line::{Asked, Refusal, parse};
+use command_line::{Invocation, Refusal, parse};
 use commands::{
     BAD_LINE, DONE, Ending, FAULT, Fault, Opener, REFUSED, Reported, Turns, check_device, finish,
     format_device, keep_standard, report, serve_turns,
@@ -302,24 +302,24 @@ fn failing_input_and_output(rt: HostRuntime) -> Result<(), Fail> {
 }
 
 /// What the words ask for, in short: a command's letter and its number of sectors, 0 where it has none.
-fn asked(alloc: Global, words: &[&str]) -> Result<(char, u64), Refusal> {
+fn invocation(alloc: Global, words: &[&str]) -> Result<(char, u64), Refusal> {
     match parse(alloc, words)? {
-        Asked::Create { data, sectors } if data == "f" => Ok(('c', sectors)),
-        Asked::Serve { data, listen } if data == "f" && listen == "a" => Ok(('s', 0)),
-        Asked::Check { data } if data == "f" => Ok(('k', 0)),
-        Asked::Play { sectors } => Ok(('p', sectors)),
+        Invocation::Create { data, sectors } if data == "f" => Ok(('c', sectors)),
+        Invocation::Serve { data, listen } if data == "f" && listen == "a" => Ok(('s', 0)),
+        Invocation::Check { data } if data == "f" => Ok(('k', 0)),
+        Invocation::Play { sectors } => Ok(('p', sectors)),
         _ => Ok(('?', 0)),
     }
 }
 
 fn created(alloc: Global, number: &str) -> Result<(char, u64), Refusal> {
     let words = ["ssikvd", "create", "--data", "f", "--sectors", number];
-    asked(alloc, words.as_slice())
+    invocation(alloc, words.as_slice())
 }
 
 fn played_over(alloc: Global, number: &str) -> Result<(char, u64), Refusal> {
     let words = ["ssikvd", "play", "--sectors", number];
-    asked(alloc, words.as_slice())
+    invocation(alloc, words.as_slice())
 }
 
 fn is_refused(answer: Result<(char, u64), Refusal>) -> bool {
@@ -344,10 +344,10 @@ fn what_words_ask_for(rt: HostRuntime) -> Result<(), Fail> {
     for (number, sectors) in [("2", 2), ("+3", 3), ("0065", 65), ("65536", 65_536)] {
         assert!(rt; played_over(rt.alloc(), number) == Ok(('p', sectors)));
     }
-    assert!(rt; asked(rt.alloc(), PLAY) == Ok(('p', 4_096)));
-    assert!(rt; asked(rt.alloc(), PLAY_NINE) == Ok(('p', 9)));
-    assert!(rt; asked(rt.alloc(), SERVE_F) == Ok(('s', 0)));
-    assert!(rt; asked(rt.alloc(), CHECK_F) == Ok(('k', 0)));
+    assert!(rt; invocation(rt.alloc(), PLAY) == Ok(('p', 4_096)));
+    assert!(rt; invocation(rt.alloc(), PLAY_NINE) == Ok(('p', 9)));
+    assert!(rt; invocation(rt.alloc(), SERVE_F) == Ok(('s', 0)));
+    assert!(rt; invocation(rt.alloc(), CHECK_F) == Ok(('k', 0)));
     Ok(())
 }
 

@@ -12,15 +12,15 @@ use Rattle.command_line.proofs.Lacking.{meant_nothing, passed_on, refused, unnam
 use Rattle.command_line.proofs.reading.read.Goals.{in-Some, in-None}
 use Rattle.command_line.proofs.reading.read.Goals as goal
 
-pub returns-in-Some-asked-clause-asks : goal.returns-in-Some-asked-clause-asks
-returns-in-Some-asked-clause-asks c = elim c.match-subcommand.branch [
+pub returns-in-Some-invocation-clause-asks : goal.returns-in-Some-invocation-clause-asks
+returns-in-Some-invocation-clause-asks c = elim c.match-subcommand.branch [
   | in-Some w ↦
       let rows = rows_of (found_of w.in-Some.inner.now) in
-      let means : CommandAsks w.in-Some.name.now rows c.in-Some-asked.asked =
-      subst (λ r. IfSome r (CommandAsks w.in-Some.name.now rows)) (sym w.asked-is ∙ c.in-Some-asked.is) w.asked-asked.ensures.means in
-      met (app_of c.in_ok-command.command) (map (λ word. word.now) c.args.words.now) c.in_ok-found.found w.in-Some.name.now rows c.in-Some-asked.asked
+      let means : CommandAsks w.in-Some.name.now rows c.in-Some-invocation.invocation =
+      subst (λ r. IfSome r (CommandAsks w.in-Some.name.now rows)) (sym w.invocation-is ∙ c.in-Some-invocation.is) w.invocation-invocation.ensures.means in
+      met (app_of c.in_ok-command.command) (map (λ word. word.now) c.args.words.now) c.in_ok-found.found w.in-Some.name.now rows c.in-Some-invocation.invocation
       c.in_ok-command.ensures.takes c.in_ok-found.ensures.kinds c.in_ok-found.ensures.ok.2 w.in-Some.ensures.name w.in-Some.ensures.rows means
-  | in-None w ↦ let never = sym w.asked-is ∙ c.in-Some-asked.is in cc
+  | in-None w ↦ let never = sym w.invocation-is ∙ c.in-Some-invocation.is in cc
 ]
 
 pub returns-in_err-found-clause-refuses : goal.returns-in_err-found-clause-refuses
@@ -36,7 +36,7 @@ returns-clause-refuses c = inr (elim c.match-subcommand.branch [
   | in-Some w ↦
       meant_nothing (app_of c.in_ok-command.command) (map (λ word. word.now) c.args.words.now) c.in_ok-found.found w.in-Some.name.now
       (rows_of (found_of w.in-Some.inner.now)) c.in_ok-command.ensures.takes c.in_ok-found.ensures.ok.2 w.in-Some.ensures.name w.in-Some.ensures.rows
-      (w.asked-asked.ensures.nothing (sym w.asked-is ∙ c.in-None-asked.is))
+      (w.invocation-invocation.ensures.nothing (sym w.invocation-is ∙ c.in-None-invocation.is))
   | in-None w ↦
       unnamed (app_of c.in_ok-command.command) (map (λ word. word.now) c.args.words.now) c.in_ok-found.found c.in_ok-command.ensures.takes
       c.in_ok-found.ensures.ok.2 w.in-None.ensures.rows

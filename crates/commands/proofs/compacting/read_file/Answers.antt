@@ -12,7 +12,7 @@ returns-in_err-map g c =
     let p = err_from_is_err_and c.from_residual-in_err-map.result c.from_residual-in_err-map.ensures.1 in
     rw (p.1, p.2) (NotRead c.in_ok-device.device c.read_map-read.new.device c.in_err-map.field-0.0 c.open_to_read.new.self c.close.new.self
     c.in_ok-device.ensures (record {
-      fault = c.in_err-map.ensures.fault;
+      fault = c.in_err-map.ensures.calls.1;
       alone = c.in_err-map.ensures.errors;
       found = c.in_err-map.ensures.refused;
       during = c.in_err-map.ensures.during;
@@ -23,7 +23,7 @@ returns g c =
     rw c.count-count.ensures
     (Read c.in_ok-device.device c.read_map-read.new.device c.in_ok-map.map c.in_ok-map.field-0-1 c.open_to_read.new.self c.close.new.self
     c.in_ok-device.ensures (record {
-      fault = c.in_ok-map.ensures.fault.0;
+      fault = c.in_ok-map.ensures.calls.1.0;
       alone = tt;
       found = λ keeps. let m = c.in_ok-map.ensures.map keeps in (m.0, m.1, m.2.0);
       during = c.in_ok-map.ensures.during;

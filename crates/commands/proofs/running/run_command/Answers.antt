@@ -4,7 +4,7 @@ use Rattle.commands.specs.Endings.{ReportsEnding}
 
 pub returns-in-Ok : goal.returns-in-Ok
 returns-in-Ok g c = (
-  Ok c.in-Ok.asked,
+  Ok c.in-Ok.invocation,
   c.finish.result,
   c.in-Ok.ensures.asks,
   (

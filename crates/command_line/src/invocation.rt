@@ -11,7 +11,7 @@ pub(crate) const MEMORY_SECTORS_MAX: u64 = 65_536;
 
 /// A command, and what it is to work on.
 #[derive(Debug, Drop)]
-pub enum Asked<'a> {
+pub enum Invocation<'a> {
     /// Make a data file of so many sectors, 2 to 4,194,304, and format it.
     Create {
         data: &'a str,

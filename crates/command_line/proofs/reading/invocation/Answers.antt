@@ -4,7 +4,7 @@ use Rattle.clap.specs.Walk.{Text, rows_of}
 use Rattle.command_line.specs.Asking.{MeansNothing}
 use Rattle.command_line.proofs.Given.{none_given, text_given}
 use Rattle.command_line.proofs.Lacking.{check_lacks, serve_lacks}
-use Rattle.command_line.proofs.reading.asked.Goals as goal
+use Rattle.command_line.proofs.reading.invocation.Goals as goal
 
 pub returns-in_ok-get_str-in-serve-2-clause-means : goal.returns-in_ok-get_str-in-serve-2-clause-means
 returns-in_ok-get_str-in-serve-2-clause-means c =
