@@ -1,7 +1,7 @@
 -- What calls that only read a device change.
 use Rattle.std.specs.Prelude.{◌≡◌, ◌+◌, ◌*◌, ◌^◌, ◌<◌, ◌≤◌, ℕ, List, length, take, drop, Result, MatchResult, OnOk}
 use Rattle.std.specs.Prelude.{slice_get, Some}
-use Rattle.sector.specs.Counts.{Rose, Stayed}
+use Rattle.sector.specs.Counts.{IsCounted, Rose, Stayed}
 use Rattle.sector.specs.SectorModel.{LeavesNoMore, LeavesOnly, ReadsNoMore}
 use Rattle.sector.specs.declared.device.Sectors.{Ghosts}
 use Rattle.commit_log.specs.declared.faults.LogFault.{LogFault}
@@ -18,6 +18,19 @@ FaultIs before now result = MatchResult result (λ _. now ≡ before) (ReportsFa
 -- so it is of calls of the device, of which at `Ok` there was one at least
 abbrev pub FaultIsCounted : {T : Type 0} → ℕ → ℕ → Result T LogFault → Type 0
 FaultIsCounted before now result = MatchResult result (λ _. Stayed before now) (ReportsFailure before now)
+
+module _ {D : Type 0} (g : Ghosts D) (old new : D) where
+  -- calls of a device came out so: it has as many sectors as before, and the first that failed was the last
+  abbrev pub CountsCalls : {A E : Type 0} → Result A E → Type 0
+  CountsCalls result = (g.size new ≡ g.size old) × IsCounted result (g.failures old) (g.failures new)
+
+  -- so did what calls the device, once at least where it succeeds
+  abbrev pub CountsFaults : {A : Type 0} → Result A LogFault → Type 0
+  CountsFaults result = (g.size new ≡ g.size old) × FaultIsCounted (g.failures old) (g.failures new) result
+
+  -- so did what may call the device
+  abbrev pub NotesFaults : {A : Type 0} → Result A LogFault → Type 0
+  NotesFaults result = (g.size new ≡ g.size old) × FaultIs (g.failures old) (g.failures new) result
 
 -- n sectors from this one on are within a device of that size, and fit behind these bytes
 pub record CanRead (size at n : ℕ) (bytes : List ℕ) : Type 0 where

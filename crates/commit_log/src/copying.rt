@@ -3,10 +3,9 @@
 ghost use Rattle.std.specs.Prelude.{◌≡◌, ◌⊎◌, ◌≤◌, ◌+◌, ◌/◌, ◌^◌, [], length, vec_capacity, OnOk, IfOk, IfErr};
 ghost use Rattle.std.specs.Prelude.{IfSome};
 ghost use Rattle.std.specs.Prelude.{IfNone};
-ghost use Rattle.sector.specs.Counts.{IsCounted};
 ghost use Rattle.model.specs.Map.{IsMap, IsInBounds};
 ghost use Rattle.commit_log.specs.LogImage.{span};
-ghost use Rattle.commit_log.specs.Reading.{FaultIsCounted, OnlyReads};
+ghost use Rattle.commit_log.specs.Reading.{CountsCalls, CountsFaults, OnlyReads};
 ghost use Rattle.commit_log.specs.LogState.{FitsBehind, HoldsLog, OnlyWrites};
 ghost use Rattle.commit_log.specs.Recovery.{map_after};
 ghost use Rattle.commit_log.specs.Copying.{write_sets_of, set_count, copy_size, open_record, ReadsFrom, ReadsRecords};
@@ -51,8 +50,7 @@ pub fn copy_sectors(map: &Map) -> Option<u64>
 /// Writes a record's open gate, and its body behind it.
 fn write_open_record<D: Sectors>(device: &mut D, gate: u64, body: &[u8]) -> Result<(), DeviceFault>
     requires { FitsBehind (D.size device.old) gate body.now }
-    ensures size { D.size device.new ≡ D.size device.old }
-    ensures failures { IsCounted result (D.failures device.old) (D.failures device.new) }
+    ensures calls { CountsCalls D.Sectors device.old device.new result }
     ensures written { D.keeps_model → OnOk result (ReadsFrom (D.may_read device.new) gate (open_record body.now)) }
     ensures alone { D.keeps_model
         → OnlyWrites D.Sectors gate (1 + length body.now / SECTOR_SIZE) device.old device.new }
@@ -68,8 +66,7 @@ fn write_records<D: Sectors>(
     body: &mut Vec<u8>,
 ) -> Result<u64, DeviceFault>
     requires { HasRoomToCopy (D.size device.old) map.now (vec_capacity body.old) }
-    ensures size { D.size device.new ≡ D.size device.old }
-    ensures failures { IsCounted result (D.failures device.old) (D.failures device.new) }
+    ensures calls { CountsCalls D.Sectors device.old device.new result }
     ensures number { IfOk result (λ n. n ≡ length (write_sets_of map.now)) }
     ensures map { IsMap map.now × IsInBounds map.now }
     ensures copied { D.keeps_model → OnOk result (ReadsRecords (D.may_read device.new) (write_sets_of map.now)) }
@@ -97,8 +94,7 @@ fn write_records<D: Sectors>(
 /// Writes the records of a map behind a first sector of zeros, and once they are settled the head.
 fn write_log<D: Sectors>(device: &mut D, map: &Map, body: &mut Vec<u8>) -> Result<u64, DeviceFault>
     requires { HasRoomToCopy (D.size device.old) map.now (vec_capacity body.old) }
-    ensures size { D.size device.new ≡ D.size device.old }
-    ensures failures { IsCounted result (D.failures device.old) (D.failures device.new) }
+    ensures calls { CountsCalls D.Sectors device.old device.new result }
     ensures number { IfOk result (λ n. n ≡ length (write_sets_of map.now)) }
     ensures copied { D.keeps_model → OnOk result (HoldsLog D.Sectors device.new (write_sets_of map.now)) }
     ensures alone { D.keeps_model → OnlyWrites D.Sectors 0 (copy_size map.now) device.old device.new }
@@ -114,9 +110,8 @@ fn write_log<D: Sectors>(device: &mut D, map: &Map, body: &mut Vec<u8>) -> Resul
 /// Settles a device, and sees that its first sector holds zeros.
 fn settle_zeros<D: Sectors>(device: &mut D) -> Result<(), LogFault>
     requires { 1 ≤ D.size device.old }
-    ensures fault { FaultIsCounted (D.failures device.old) (D.failures device.new) result }
+    ensures calls { CountsFaults D.Sectors device.old device.new result }
     ensures errors { IfErr result (λ e. (e ≡ LogFault.Device) ⊎ (e ≡ LogFault.NotEmpty)) }
-    ensures size { D.size device.new ≡ D.size device.old }
     ensures only_reads { D.keeps_model → OnlyReads D.Sectors device.old device.new }
     ensures zeros { D.keeps_model → OnOk result (LeavesZeros (D.may_leave device.new)) }
     ensures first { D.keeps_model → FindsFirst D.Sectors device.old result }
@@ -152,8 +147,7 @@ fn settle_zeros<D: Sectors>(device: &mut D) -> Result<(), LogFault>
 pub fn copy_into<D: Sectors>(alloc: Global, device: &mut D, map: &Map) -> Result<u64, LogFault>
     // When each fault comes, and what it leaves.
     ensures fails { FailsToCopy D.Sectors map.now device.old device.new result }
-    ensures fault { FaultIsCounted (D.failures device.old) (D.failures device.new) result }
-    ensures size { D.size device.new ≡ D.size device.old }
+    ensures calls { CountsFaults D.Sectors device.old device.new result }
 
     // `NotEmpty` is reported of an image that the device might have held, by its first sector.
     ensures first { D.keeps_model → FindsFirst D.Sectors device.old result }

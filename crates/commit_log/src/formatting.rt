@@ -1,9 +1,8 @@
 //! Makes a device an empty log: first a closed gate, then the head.
 ghost use Rattle.std.specs.Prelude.{◌≡◌, ◌≢◌, ◌<◌, ◌≤◌, ◌↔◌, [], List, ℕ, OnOk, IsErrOf, IfErr};
 ghost use Rattle.sector.specs.SectorModel.{LeavesOnly};
-ghost use Rattle.sector.specs.Counts.{IsCounted};
 ghost use Rattle.commit_log.specs.LogState.{HoldsLog, IsBeingMade, OnlyFormats};
-ghost use Rattle.commit_log.specs.Reading.{FaultIsCounted};
+ghost use Rattle.commit_log.specs.Reading.{CountsCalls, CountsFaults};
 
 use crate::faults::LogFault;
 use crate::formats::CURRENT;
@@ -19,8 +18,7 @@ pub fn format<D: Sectors>(device: &mut D) -> Result<(), LogFault>
     ensures full { IsErrOf result LogFault.Full ↔ (D.size device.old < 2) }
     ensures unchanged { IsErrOf result LogFault.Full → device.new ≡ device.old }
     ensures errors { IfErr result (λ e. e ≢ LogFault.Full → e ≡ LogFault.Device) }
-    ensures fault { FaultIsCounted (D.failures device.old) (D.failures device.new) result }
-    ensures size { D.size device.new ≡ D.size device.old }
+    ensures calls { CountsFaults D.Sectors device.old device.new result }
     ensures formatted { D.keeps_model → OnOk result (HoldsLog D.Sectors device.new []) }
 
     // A crash at any moment of the call finds the head only where it finds the closed gate, and no other sector changed.
@@ -37,8 +35,7 @@ pub fn format<D: Sectors>(device: &mut D) -> Result<(), LogFault>
 
 fn write_head<D: Sectors>(device: &mut D) -> Result<(), DeviceFault>
     requires { 2 ≤ D.size device.old }
-    ensures size { D.size device.new ≡ D.size device.old }
-    ensures failures { IsCounted result (D.failures device.old) (D.failures device.new) }
+    ensures calls { CountsCalls D.Sectors device.old device.new result }
     ensures formatted { D.keeps_model → OnOk result (HoldsLog D.Sectors device.new []) }
     // A crash at any moment of the call finds the head only where it finds the closed gate, and no other sector changed.
     ensures any_moment { D.keeps_model

@@ -4,8 +4,8 @@ ghost use Rattle.model.specs.Map.{after_writes};
 ghost use Rattle.commit_log.specs.declared.formats.LogFormat.{LogFormat};
 ghost use Rattle.commit_log.specs.Format.{current, head_sector};
 ghost use Rattle.commit_log.specs.RecordFormat.{FitsFormat};
-ghost use Rattle.commit_log.specs.Reading.{CanRead, CountsAtLeast, FaultIs, FaultIsCounted, HasRead, IsGrown};
-ghost use Rattle.commit_log.specs.Reading.{LeavesAsBefore, OfEachRead, OnlyReads};
+ghost use Rattle.commit_log.specs.Reading.{CanRead, CountsAtLeast, CountsFaults, HasRead, IsGrown};
+ghost use Rattle.commit_log.specs.Reading.{LeavesAsBefore, NotesFaults, OfEachRead, OnlyReads};
 ghost use Rattle.commit_log.specs.LogFaults.{IsDeviceOrMemory, IsOpenFault, IsReadMapFault};
 ghost use Rattle.commit_log.specs.Opening.{HoldsHead, IsFitRecord, MightHold, ReadsLog, ReadsRecord, ReadingGives};
 ghost use Rattle.commit_log.specs.MapReading.{HoldsMapOf, IsMapRefusal};
@@ -28,9 +28,8 @@ fn read_sectors<D: Sectors>(
     bytes: &mut Vec<u8>,
 ) -> Result<(), LogFault>
     requires { CanRead (D.size device.old) at n bytes.old.items }
-    ensures fault { FaultIs (D.failures device.old) (D.failures device.new) result }
+    ensures calls { NotesFaults D.Sectors device.old device.new result }
     ensures errors { IfErr result IsDeviceOrMemory }
-    ensures size { D.size device.new ≡ D.size device.old }
     ensures only_reads { D.keeps_model → OnlyReads D.Sectors device.old device.new }
     ensures grown { OnOk result (IsGrown (SECTOR_SIZE * n) bytes.old.items bytes.new.items) }
     ensures bytes { D.keeps_model → HasRead result (D.may_read device.old) at n bytes.old.items bytes.new.items }
@@ -61,8 +60,7 @@ fn read_record<D: Sectors>(
     index: u64,
 ) -> Result<Option<Record>, LogFault>
     requires { CountsAtLeast at (D.size device.old) count }
-    ensures fault { FaultIs (D.failures device.old) (D.failures device.new) result }
-    ensures size { D.size device.new ≡ D.size device.old }
+    ensures calls { NotesFaults D.Sectors device.old device.new result }
     ensures only_reads { D.keeps_model → OnlyReads D.Sectors device.old device.new }
     ensures errors { IfErr result IsDeviceOrMemory }
     ensures fit { IfOk result (λ o. IfSome o (IsFitRecord format index before.now at count)) }
@@ -122,8 +120,7 @@ pub(crate) fn read_records<D: Sectors>(
     count: u64,
 ) -> Result<Found, LogFault>
     requires { CountsAtLeast 2 (D.size device.old) count }
-    ensures fault { FaultIs (D.failures device.old) (D.failures device.new) result }
-    ensures size { D.size device.new ≡ D.size device.old }
+    ensures calls { NotesFaults D.Sectors device.old device.new result }
     ensures only_reads { D.keeps_model → OnlyReads D.Sectors device.old device.new }
     ensures range { IfOk result (λ found. (found.gate < count) × (found.records ≤ found.gate)) }
     ensures errors { IfErr result IsReadMapFault }
@@ -201,9 +198,8 @@ pub(crate) fn format_of(sector: &Sector) -> Option<LogFormat>
 /// Settles a device, and reads the format of the log whose head its first sector is, if it is one and there is room for a gate behind
 /// it. Answers it with the number of sectors. Takes no memory.
 fn settle_and_read_head<D: Sectors>(device: &mut D) -> Result<(Option<LogFormat>, u64), LogFault>
-    ensures fault { FaultIsCounted (D.failures device.old) (D.failures device.new) result }
+    ensures calls { CountsFaults D.Sectors device.old device.new result }
     ensures errors { IfErr result (λ e. e ≡ LogFault.Device) }
-    ensures size { D.size device.new ≡ D.size device.old }
     ensures count { IfOk result (λ r. r.1 ≡ D.size device.new) }
     ensures room { IfOk result (λ r. IfSome r.0 (λ f. 2 ≤ r.1)) }
     ensures during { D.keeps_model → LeavesAsBefore D.Sectors device.old device.new }
@@ -232,8 +228,7 @@ fn settle_and_read_head<D: Sectors>(device: &mut D) -> Result<(Option<LogFormat>
 /// It takes memory for the writes of the log, which are collected: up to twice that of the map they make, and 8 MiB. The map is
 /// made of them, and one record is held at a time. The time is that of one digest of what is read and of a sort of the writes.
 pub(crate) fn read_log<D: Sectors>(alloc: Global, device: &mut D) -> Result<Found, LogFault>
-    ensures fault { FaultIsCounted (D.failures device.old) (D.failures device.new) result }
-    ensures size { D.size device.new ≡ D.size device.old }
+    ensures calls { CountsFaults D.Sectors device.old device.new result }
     ensures short { D.size device.old < 2 → IsErrAnd result (λ e. (e ≡ LogFault.NotALog) ⊎ (e ≡ LogFault.Device)) }
     ensures range { IfOk result
         (λ found. (found.gate < D.size device.new) × (found.records ≤ found.gate) × (D.size device.new < 2 ^ 64)) }
@@ -260,8 +255,7 @@ pub(crate) fn read_log<D: Sectors>(alloc: Global, device: &mut D) -> Result<Foun
 /// first is the head of no format, `Damaged` where an open gate has not its record behind it, `Memory` where memory is refused. After
 /// each the device may be read again. It takes the memory that `Log::open` takes.
 pub fn read_map<D: Sectors>(alloc: Global, device: &mut D) -> Result<(Map, u8), LogFault>
-    ensures fault { FaultIsCounted (D.failures device.old) (D.failures device.new) result }
-    ensures size { D.size device.new ≡ D.size device.old }
+    ensures calls { CountsFaults D.Sectors device.old device.new result }
     ensures short { D.size device.old < 2 → IsErrAnd result (λ e. (e ≡ LogFault.NotALog) ⊎ (e ≡ LogFault.Device)) }
     ensures errors { IfErr result IsReadMapFault }
 

@@ -1,6 +1,6 @@
 //! The order in which a record becomes durable: its body and the next closed gate, a sync, its open gate, a sync.
 ghost use Rattle.std.specs.Prelude.{◌≡◌, ◌<◌, ◌≤◌, ◌+◌, ◌/◌, length};
-ghost use Rattle.sector.specs.Counts.{IsCounted};
+ghost use Rattle.commit_log.specs.Reading.{CountsCalls};
 ghost use Rattle.commit_log.specs.RecordFormat.{open_gate, closed_gate};
 ghost use Rattle.commit_log.specs.LogState.{AtOk, FitsBehind, HoldsBoth, LeavesEither, LeavesStaged, OfNextRecord};
 ghost use Rattle.commit_log.specs.LogState.{OfStaged};
@@ -25,8 +25,7 @@ pub fn open_gate() -> Sector
 /// Writes a record's body and a closed gate behind it, and settles them. The record's own gate stays as it is.
 fn stage<D: Sectors>(device: &mut D, gate: u64, body: &[u8]) -> Result<(), DeviceFault>
     requires { FitsBehind (D.size device.old) gate body.now }
-    ensures size { D.size device.new ≡ D.size device.old }
-    ensures failures { IsCounted result (D.failures device.old) (D.failures device.new) }
+    ensures calls { CountsCalls D.Sectors device.old device.new result }
     ensures syncs { D.syncs device.new ≤ D.syncs device.old + 1 }
 
     // At `Ok` each crash leaves the record behind its gate.
@@ -49,8 +48,7 @@ fn stage<D: Sectors>(device: &mut D, gate: u64, body: &[u8]) -> Result<(), Devic
 /// Opens the gate of a record that was staged, and settles it.
 fn open_staged<D: Sectors>(device: &mut D, gate: u64) -> Result<(), DeviceFault>
     requires { gate < D.size device.old }
-    ensures size { D.size device.new ≡ D.size device.old }
-    ensures failures { IsCounted result (D.failures device.old) (D.failures device.new) }
+    ensures calls { CountsCalls D.Sectors device.old device.new result }
     ensures syncs { D.syncs device.new ≤ D.syncs device.old + 1 }
     ensures acknowledged { D.keeps_model
         → OfStaged D.Sectors device.old gate (AtOk result (HoldsBoth D.Sectors device.new)) }
@@ -66,8 +64,7 @@ fn open_staged<D: Sectors>(device: &mut D, gate: u64) -> Result<(), DeviceFault>
 /// Writes a record's body and a closed gate behind it, and opens its gate once these are settled.
 pub fn write_record<D: Sectors>(device: &mut D, gate: u64, body: &[u8]) -> Result<(), DeviceFault>
     requires { FitsBehind (D.size device.old) gate body.now }
-    ensures size { D.size device.new ≡ D.size device.old }
-    ensures failures { IsCounted result (D.failures device.old) (D.failures device.new) }
+    ensures calls { CountsCalls D.Sectors device.old device.new result }
     ensures syncs { D.syncs device.new ≤ D.syncs device.old + 2 }
 
     // At `Ok` reads give the log with the record, and a crash leaves it.

@@ -15,7 +15,7 @@ records g c keeps = records_written g.D.Sectors (write_sets_of c.args.map.now) c
 
 settled : (g : Over) (c : After-write g) → g.D.Sectors.keeps_model → Ready g.D.Sectors (write_sets_of c.args.map.now) c.sync.new.self
 settled g c keeps = ready g.D.Sectors (write_sets_of c.args.map.now) c.write_records.new.device c.sync.new.self (g.D.Sectors.size c.sync.new.self)
-    (omega (arith, c.requires.room, c.write_records.ensures.size, c.sync.ensures.size))
+    (omega (arith, c.requires.room, c.write_records.ensures.calls.0, c.sync.ensures.size))
     (write_sets_are_proper c.args.map.now c.write_records.ensures.map.0 c.write_records.ensures.map.1) (c.in_ok-records.ensures.copied keeps).records
     (c.in_ok-records.ensures.copied keeps).behind (c.in_ok-sync.ensures.settles keeps)
 
@@ -76,5 +76,5 @@ returns-clause-copied g c keeps =
     let is = settled g (goal.at.returns-clause-copied g c).After-write keeps in
     let head = being_headed g.D.Sectors (write_sets_of c.args.map.now) c.sync.new.self c.write.new.self is (c.write.ensures.crash keeps) in
     headed g.D.Sectors (write_sets_of c.args.map.now) c.write.new.self c.sync-2.new.self (g.D.Sectors.size c.sync-2.new.self)
-    (omega (arith, c.requires.room, c.write_records.ensures.size, c.sync.ensures.size, c.write.ensures.counts.sectors, c.sync-2.ensures.size)) head
+    (omega (arith, c.requires.room, c.write_records.ensures.calls.0, c.sync.ensures.size, c.write.ensures.counts.sectors, c.sync-2.ensures.size)) head
     (λ s read. c.in_ok-write.ensures.written keeps s read ∙ c.head_sector.ensures) (c.in_ok-sync-2.ensures.settles keeps)

@@ -70,8 +70,8 @@ loop-left-preserved g c =
       ahead = c.next_payload_len-len.ensures.rest ∙ ap (λ (l : KeyMap). drop c.min-count.result l) c.loop-left.invariant.ahead ∙ sym rest;
       in_bounds = subst IsInBounds (sym rest) (bounds_drop c.min-count.result c.loop-left.pairs c.loop-left.invariant.in_bounds);
       memory = omega (arith, c.loop-left.invariant.memory, c.encode_pairs-digest.ensures.capacity);
-      size = c.write_open_record.ensures.size ∙ c.loop-left.invariant.size;
-      failures = c.in_ok-write_open_record.ensures.failures.0 ∙ c.loop-left.invariant.failures;
+      size = c.write_open_record.ensures.calls.0 ∙ c.loop-left.invariant.size;
+      failures = c.in_ok-write_open_record.ensures.calls.1.0 ∙ c.loop-left.invariant.failures;
       copied = copied_more g.D.Sectors c.args.device.now c.args.map.now c.loop-left.device c.write_open_record.new.device c.loop-left.pairs
           c.encode_pairs-digest.new.pairs c.loop-left.gate _ c.loop-left.records c.min-count.result c.next_payload_len-len.result c.loop-left.digest
           c.deref.result.now c.encode_pairs-digest.result

@@ -32,8 +32,8 @@ returns-in_err-record-clause-found g c keeps image size reads = grind (arith, co
 
 pub records-preserved : goal.records-preserved
 records-preserved g c = record {
-  size = c.read_record.ensures.size ∙ c.read.ensures.counts.sectors ∙ c.records.invariant.size;
-  failures = c.in_ok-record.ensures.fault ∙ c.in-Ok.ensures.failures.0 ∙ c.records.invariant.failures;
+  size = c.read_record.ensures.calls.0 ∙ c.read.ensures.counts.sectors ∙ c.records.invariant.size;
+  failures = c.in_ok-record.ensures.calls.1 ∙ c.in-Ok.ensures.failures.0 ∙ c.records.invariant.failures;
   only_reads = λ keeps. reads_joined g.D.Sectors _ _ c.read.new.self _ (c.records.invariant.only_reads keeps) (c.read.ensures.reads keeps)
       (c.read.ensures.crash keeps) (c.read.ensures.time keeps) (c.read_record.ensures.only_reads keeps);
   in_range = omega (arith, (rw c.in-Some.is at c.in_ok-record.ensures.fit).sectors);
