@@ -8,7 +8,7 @@ use Rattle.model.specs.Map.{KeyWrite}
 use Rattle.sector.specs.Counts.{Rose, Stayed}
 use Rattle.sector.specs.declared.device.Sectors.{Ghosts}
 use Rattle.commit_log.specs.LogState.{is_log_stopped, used_sectors, sector_count, failure_count, record_count}
-use Rattle.commit_log.specs.LogState.{sync_count}
+use Rattle.commit_log.specs.LogState.{log_device, sync_count}
 use Rattle.commit_log.specs.declared.log.Log.{Log}
 use Rattle.snapshot.specs.View.{View}
 use Rattle.engine.specs.declared.engine.Engine.{Engine}
@@ -74,3 +74,10 @@ pub record AddsOneAtMost {D : Type 0} {g : Ghosts D} (old new : Log D g) : Type 
   pub syncs : sync_count new ≤ sync_count old + 2
   pub quiet : record_count new ≡ record_count old → Stayed (failure_count old) (failure_count new)
       → sync_count new ≡ sync_count old
+
+-- What a request does to the log: nothing to one that has stopped, and else it adds one record at most. No failure is
+-- forgotten.
+pub record UsesLogOnce {D : Type 0} {g : Ghosts D} (old new : Log D g) : Type 0 where
+  pub still : is_log_stopped old ≡ true → log_device new ≡ log_device old
+  pub failures : failure_count old ≤ failure_count new
+  pub records : AddsOneAtMost old new

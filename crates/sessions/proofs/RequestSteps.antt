@@ -13,7 +13,9 @@ use Rattle.model.specs.ReplyText.{reply_text}
 use Rattle.model.specs.declared.refusals.Memory.{Memory}
 use Rattle.sector.specs.SectorModel.{LeavesOnly}
 use Rattle.sector.specs.declared.device.Sectors.{Ghosts}
+use Rattle.commit_log.specs.declared.log.Log.{Log}
 use Rattle.snapshot.specs.Made.{is_refused}
+use Rattle.engine.specs.Changes.{UsesLogOnce}
 use Rattle.engine.specs.Meaning.{StandsFor, Leads, IsNotRefused, device_of, failures_of, has_risen, response_to}
 use Rattle.engine.specs.Meaning.{response_to_read, IsLeftByCommit}
 use Rattle.engine.specs.declared.engine.Engine.{Engine}
@@ -48,6 +50,21 @@ others-put s t (e ∷ es) = grind (arith, common_steps, others-put s t es)
 leave-own : (m : State) (s : ℕ) (q : Operation) → is_commit q ≡ false → IsTrue (takes_memory q) → leave (step m s q false).0 s ≡ leave m s
 unfolding step
 leave-own m s q no_commit takes = grind (arith, common_steps, others-put)
+
+-- ---- the log
+
+module _ {D : Type 0} {g : Ghosts D} (old : Log D g) where
+  -- where the log is as it was, nothing was asked of its device
+  pub uses_none : (new : Log D g) → new ≡ old → UsesLogOnce old new
+  uses_none new same = subst (λ (l : Log D g). UsesLogOnce old l) (sym same) (record {
+    still = λ _. refl;
+    failures = omega arith;
+    records = record { kept = omega arith; one = omega arith; same = λ _. refl; syncs = omega arith; quiet = λ _ _. refl };
+  })
+
+  -- nor was more asked of it, where it is as a part of the request left it
+  pub uses_before : (mid new : Log D g) → new ≡ mid → UsesLogOnce old mid → UsesLogOnce old new
+  uses_before mid new same asks = subst (λ (l : Log D g). UsesLogOnce old l) (sym same) asks
 
 -- ---- the parts of a request
 

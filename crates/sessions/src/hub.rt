@@ -1,6 +1,6 @@
 //! The hub: the sessions that are present, over one engine, one event at a time.
 ghost use Rattle.std.specs.Prelude.{◌≡◌, ◌↔◌, ◌≤◌, ℕ, true, false, [], length, map};
-ghost use Rattle.engine.specs.Changes.{AddsOneAtMost};
+ghost use Rattle.engine.specs.Changes.{UsesLogOnce};
 ghost use Rattle.engine.specs.Meaning.{IsReadOnly, StandsFor as EngineStandsFor, device_of};
 ghost use Rattle.model.specs.Laws.{IsOrderedByPlace};
 ghost use Rattle.model.specs.Machine.{State};
@@ -213,9 +213,7 @@ impl<D: Sectors> Hub<D> {
     fn serve(&mut self, s: u64) -> Outcome
         ensures step { HubLeads self.old self.new (Serves s) result }
         ensures crash { SurvivesEvent self.old self.new (Serves s) }
-        ensures still { is_stopped self.old ≡ true → device self.new ≡ device self.old }
-        ensures device { failures self.old ≤ failures self.new }
-        ensures records { AddsOneAtMost (log self.old) (log self.new) }
+        ensures once { UsesLogOnce (log self.old) (log self.new) }
     {
         match self.sessions.get_mut(s) {
             Some(session) => session.serve(&mut self.engine, s),
@@ -259,9 +257,7 @@ impl<D: Sectors> Hub<D> {
     fn apply(&mut self, event: &Event<'_>) -> Outcome
         ensures step { HubLeads self.old self.new (event_of event.now) result }
         ensures crash { SurvivesEvent self.old self.new (event_of event.now) }
-        ensures still { is_stopped self.old ≡ true → device self.new ≡ device self.old }
-        ensures device { failures self.old ≤ failures self.new }
-        ensures records { AddsOneAtMost (log self.old) (log self.new) }
+        ensures once { UsesLogOnce (log self.old) (log self.new) }
     {
         match event {
             Event::Joined(s) => self.join(*s),

@@ -1,12 +1,12 @@
 //! Executes one request of a session, and writes its reply to the session's output.
-ghost use Rattle.std.specs.Prelude.{◌≡◌, ◌≤◌, [], true, false};
+ghost use Rattle.std.specs.Prelude.{◌≡◌, ◌≤◌, [], false};
 ghost use Rattle.model.specs.declared.values.TheConstants.{PAIRS_MAX};
 ghost use Rattle.model.specs.KeyBytes.{key_bytes, end_bytes};
 ghost use Rattle.model.specs.Operations.{operation_of, IsFit};
 ghost use Rattle.model.specs.Operations.Operation.{Get, Range, Abort as ToAbort, Commit as ToCommit};
 ghost use Rattle.model.specs.Operations.Response.{Done};
-ghost use Rattle.engine.specs.Changes.{AddsOneAtMost};
-ghost use Rattle.engine.specs.Meaning.{failures_of, device_of, has_engine_stopped, log_of, response_to};
+ghost use Rattle.engine.specs.Changes.{UsesLogOnce};
+ghost use Rattle.engine.specs.Meaning.{log_of, response_to};
 ghost use Rattle.sessions.specs.Calls.{range_of, Writes, refusal_to_read, Executes, Aborts, ServesHead, has_failed};
 ghost use Rattle.sessions.specs.Crashes.{SurvivesCommit, SurvivesRequest, SurvivesHead};
 ghost use Rattle.sessions.specs.SessionStreams.{asks};
@@ -82,9 +82,7 @@ fn commit<D: Sectors>(engine: &mut Engine<D>, s: u64, out: &mut ReplyBuffer) -> 
     requires { out.old ≡ [] }
     ensures step { Executes engine.old engine.new s ToCommit (has_failed engine.old engine.new) out.new result }
     ensures crash { SurvivesCommit engine.old engine.new s }
-    ensures still { has_engine_stopped engine.old ≡ true → device_of engine.new ≡ device_of engine.old }
-    ensures device { failures_of engine.old ≤ failures_of engine.new }
-    ensures records { AddsOneAtMost (log_of engine.old) (log_of engine.new) }
+    ensures once { UsesLogOnce (log_of engine.old) (log_of engine.new) }
 {
     match engine.commit(s) {
         Ok(number) => {
@@ -122,9 +120,7 @@ fn execute<D: Sectors>(
     ensures step { Executes engine.old engine.new s (operation_of command.entry) (has_failed engine.old engine.new)
         out.new result }
     ensures crash { SurvivesRequest engine.old engine.new s (operation_of command.entry) }
-    ensures still { has_engine_stopped engine.old ≡ true → device_of engine.new ≡ device_of engine.old }
-    ensures device { failures_of engine.old ≤ failures_of engine.new }
-    ensures records { AddsOneAtMost (log_of engine.old) (log_of engine.new) }
+    ensures once { UsesLogOnce (log_of engine.old) (log_of engine.new) }
 {
     match command {
         Command::Begin => {
@@ -162,9 +158,7 @@ fn execute_request<D: Sectors>(
     ensures step { Executes engine.old engine.new s (asks request.now) (has_failed engine.old engine.new) out.new
         result }
     ensures crash { SurvivesRequest engine.old engine.new s (asks request.now) }
-    ensures still { has_engine_stopped engine.old ≡ true → device_of engine.new ≡ device_of engine.old }
-    ensures device { failures_of engine.old ≤ failures_of engine.new }
-    ensures records { AddsOneAtMost (log_of engine.old) (log_of engine.new) }
+    ensures once { UsesLogOnce (log_of engine.old) (log_of engine.new) }
 {
     match command(request) {
         Ok(command) => execute(engine, s, command, out),
@@ -212,9 +206,7 @@ pub(crate) fn serve_request<D: Sectors>(
     requires { out.old ≡ [] }
     ensures step { ServesHead engine.old engine.new s (has_failed engine.old engine.new) inbox.now out.new result }
     ensures crash { SurvivesHead engine.old engine.new s inbox.now }
-    ensures still { has_engine_stopped engine.old ≡ true → device_of engine.new ≡ device_of engine.old }
-    ensures device { failures_of engine.old ≤ failures_of engine.new }
-    ensures records { AddsOneAtMost (log_of engine.old) (log_of engine.new) }
+    ensures once { UsesLogOnce (log_of engine.old) (log_of engine.new) }
 {
     match decode(inbox) {
         Decoded::Whole(request, used) => match execute_request(engine, s, &request, out) {

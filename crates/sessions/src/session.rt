@@ -46,9 +46,9 @@ impl Model for Session {
 }
 
 impl Session {
-    ghost use Rattle.std.specs.Prelude.{◌≡◌, ◌≤◌, ◌++◌, true, length, drop, IfOk};
-    ghost use Rattle.engine.specs.Changes.{AddsOneAtMost};
-    ghost use Rattle.engine.specs.Meaning.{failures_of, device_of, has_engine_stopped, log_of};
+    ghost use Rattle.std.specs.Prelude.{◌≡◌, ◌≤◌, ◌++◌, length, drop, IfOk};
+    ghost use Rattle.engine.specs.Changes.{UsesLogOnce};
+    ghost use Rattle.engine.specs.Meaning.{log_of};
     ghost use Rattle.model.specs.Bounds.{range_reply_max};
     ghost use Rattle.sessions.specs.Calls.{ServesSession};
     ghost use Rattle.sessions.specs.Crashes.{SurvivesServe};
@@ -125,9 +125,7 @@ impl Session {
     pub(crate) fn serve<D: Sectors>(&mut self, engine: &mut Engine<D>, s: u64) -> Outcome
         ensures step { ServesSession engine.old engine.new s self.old self.new result }
         ensures crash { SurvivesServe engine.old engine.new s self.old }
-        ensures still { has_engine_stopped engine.old ≡ true → device_of engine.new ≡ device_of engine.old }
-        ensures device { failures_of engine.old ≤ failures_of engine.new }
-        ensures records { AddsOneAtMost (log_of engine.old) (log_of engine.new) }
+        ensures once { UsesLogOnce (log_of engine.old) (log_of engine.new) }
     {
         if !self.is_ready() {
             return Outcome::Idle;

@@ -1,7 +1,7 @@
 use Rattle.sessions.proofs.requests.commit.Goals as goal
 use Rattle.std.proofs.Common.{refl, ap, ◌∙◌, Err}
 use Rattle.commit_log.specs.LogState.{log_device}
-use Rattle.sessions.proofs.RequestSteps.{survives_after, executes_commit}
+use Rattle.sessions.proofs.RequestSteps.{uses_before, survives_after, executes_commit}
 
 pub returns-in-Ok-clause-crash : goal.returns-in-Ok-clause-crash
 returns-in-Ok-clause-crash g c =
@@ -28,3 +28,20 @@ pub returns-in-Err-Memory-clause-step : goal.returns-in-Err-Memory-clause-step
 returns-in-Err-Memory-clause-step g c =
     let same = rw (c.in-Err-Memory.is ∙ ap Err c.in-Err-Memory.field-0-is) at c.commit.ensures.step in
     (refl, (λ m h. (m, (same.0 m).0 h, refl)), c.requires, same.1)
+
+pub returns-in-Ok-clause-once : goal.returns-in-Ok-clause-once
+returns-in-Ok-clause-once g c =
+    uses_before c.args.engine.now.log c.commit.new.self.log c.reclaim_step.new.self.log c.reclaim_step.ensures.keeps.log
+    (record { still = c.commit.ensures.still; failures = c.commit.ensures.device; records = c.commit.ensures.appends.once })
+
+pub returns-in-Err-Refused-clause-once : goal.returns-in-Err-Refused-clause-once
+returns-in-Err-Refused-clause-once g c =
+    uses_before c.args.engine.now.log c.commit.new.self.log c.reclaim_step-in-Err-Refused.new.self.log c.reclaim_step-in-Err-Refused.ensures.keeps.log
+    (record { still = c.commit.ensures.still; failures = c.commit.ensures.device; records = c.commit.ensures.appends.once })
+
+pub returns-in-Err-Memory-clause-once : goal.returns-in-Err-Memory-clause-once
+returns-in-Err-Memory-clause-once g c = record {
+  still = c.commit.ensures.still;
+  failures = c.commit.ensures.device;
+  records = c.commit.ensures.appends.once;
+}

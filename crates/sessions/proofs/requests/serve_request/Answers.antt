@@ -1,7 +1,7 @@
 use Rattle.sessions.proofs.requests.serve_request.Goals as goal
 use Rattle.std.proofs.Common.{refl, ap}
 use Rattle.commit_log.specs.LogState.{log_device}
-use Rattle.sessions.proofs.RequestSteps.{survives_head, aborts_left}
+use Rattle.sessions.proofs.RequestSteps.{uses_before, uses_none, survives_head, aborts_left}
 
 pub returns-in-Err-clause-step : goal.returns-in-Err-clause-step
 returns-in-Err-clause-step g c = (
@@ -27,3 +27,12 @@ returns-in-Err-clause-crash g c =
 
 pub returns-in-Ok-clause-step : goal.returns-in-Ok-clause-step
 returns-in-Ok-clause-step g c = (c.in-Whole.request, (c.in-Whole.ensures.whole c.in-Whole.request c.in-Whole.used).0 (refl, refl), c.in-Ok.ensures.step)
+
+pub returns-in-Err-clause-once : goal.returns-in-Err-clause-once
+returns-in-Err-clause-once g c = uses_before _ _ _ c.abort_transaction.ensures.log c.execute_request.ensures.once
+
+pub returns-in-More-clause-once : goal.returns-in-More-clause-once
+returns-in-More-clause-once g c = uses_none _ _ refl
+
+pub returns-in-Bad-clause-once : goal.returns-in-Bad-clause-once
+returns-in-Bad-clause-once g c = uses_none _ _ c.abort_transaction-in-Bad.ensures.log
