@@ -18,3 +18,4 @@ mod AllThatLeft
 mod Peers
 mod Shorts
 mod Progress
+mod Widths

@@ -13,7 +13,7 @@ use Rattle.stream_driver.specs.Traffic.{Traffic}
 use Rattle.event_loop.specs.Leavings.{LingerOn}
 use Rattle.event_loop.specs.Lingerings.{Lingerers, lingers_in, unless_failed}
 use Rattle.event_loop.specs.Turns.{Accepted, DrivesReady, EndsWithGarbage, IsTurn, Rests, accepted_joins, accepts_now}
-use Rattle.event_loop.specs.Turns.{is_reported_of}
+use Rattle.event_loop.specs.Turns.{SetsWidth, is_reported_of}
 use Rattle.event_loop.specs.declared.connections.Backlog.{Backlog}
 use Rattle.event_loop.specs.declared.connections.TheConstants.{LINGERER}
 use Rattle.event_loop.specs.declared.polling.Poller.{Poller}
@@ -25,7 +25,8 @@ pub none_closed : (backlog : Backlog) (events : List Event) (all : Lingerers) �
 none_closed backlog events all e = grind arith
 
 module _ {D : Type 0} {g : Ghosts D} (reports : Type 0) (traffic : Socket
-    → Traffic) (old driven accepted new : EventLoop D g) (turns_are : new.turns ≡ driven.turns) (next_is : driven.next ≡ old.next) (port_is : driven.port
+    → Traffic) (old driven accepted new : EventLoop D g) (turns_are : new.turns ≡ driven.turns) (next_width_is : new.next_width
+    ≡ driven.next_width) (next_is : driven.next ≡ old.next) (port_is : driven.port
     ≡ old.port) (backlog_is : driven.backlog ≡ old.backlog)
     (refused_is : driven.refused ≡ old.refused) (lingerers_are : lingers_in accepted.lingering
     ≡ unless_failed accepted.backlog (lingers_in driven.lingering)) (rests : Rests accepted new) (ended_with : WasReported old.poller.poll
@@ -42,23 +43,29 @@ module _ {D : Type 0} {g : Ghosts D} (reports : Type 0) (traffic : Socket
       Leads old.hub new.hub (λ h l. (k : Point) × DrivenAll reports (traffic_through traffic) h drives.ready k drives.driven
       × Adds k (accepted_joins b driven accepted accepts) l)
 
+  abbrev Widths : (poller : Poller) → Drives poller → Type 0
+  Widths poller drives = SetsWidth old driven (items poller.events) drives.ready drives.driven
+
   -- it is a turn, with that as its part before the last step
   abbrev Turned : Type 0
   Turned = (turn : IsTurn reports traffic old new) × (turn.accepted ≡ accepted)
 
   pub turned_by : (poller : Poller) → new.poller ≡ poller → (b : Bool) → accepts_now old.backlog (items new.poller.events) ≡ b
-      → (reported : Bool) → reported ≡ is_reported_of LINGERER (items poller.events) → (drives : Drives poller) → Linger poller drives reported
+      → (reported : Bool) → reported ≡ is_reported_of LINGERER (items poller.events) → (drives : Drives poller) → Widths poller drives
+      → Linger poller drives reported
       → (accepts : Accepted b driven accepted) → IsRun poller drives b accepts → Turned
-  turned_by poller same b due reported reported_is drives linger accepts run =
-      subst (λ (poller : Poller). (drives : Drives poller) → Linger poller drives (is_reported_of LINGERER (items poller.events))
+  turned_by poller same b due reported reported_is drives widths linger accepts run =
+      subst (λ (poller : Poller). (drives : Drives poller) → Widths poller drives → Linger poller drives (is_reported_of LINGERER (items poller.events))
       → (accepts : Accepted b driven accepted) → IsRun poller drives b accepts → Turned) same
-      (λ drives linger accepts run. subst (λ (b : Bool). (accepts : Accepted b driven accepted) → IsRun new.poller drives b accepts
+      (λ drives widths linger accepts run. subst (λ (b : Bool). (accepts : Accepted b driven accepted) → IsRun new.poller drives b accepts
       → Turned) due (λ accepts run. (
         record {
           reported = ended_with;
           driven = driven;
           drives = drives;
+          widths = widths;
           turns_are = turns_are;
+          next_width_is = next_width_is;
           next_is = next_is;
           port_is = port_is;
           backlog_is = backlog_is;
@@ -71,7 +78,7 @@ module _ {D : Type 0} {g : Ghosts D} (reports : Type 0) (traffic : Socket
           run = run;
         },
         refl,
-      )) accepts run) drives (subst (Linger poller drives) reported_is linger) accepts run
+      )) accepts run) drives widths (subst (Linger poller drives) reported_is linger) accepts run
 
 -- and with the step of the garbage it ends so
 pub ends_with : {D : Type 0} {g : Ghosts D} (reports : Type 0) (traffic : Socket → Traffic) (old accepted new : EventLoop D g)

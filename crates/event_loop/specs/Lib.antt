@@ -10,6 +10,7 @@ pub mod Order
 pub mod Outcomes
 pub mod Polls
 pub mod Sockets
+pub mod Spares
 pub mod Tables
 pub mod TableBytes
 pub mod Turns

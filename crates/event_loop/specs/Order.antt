@@ -2,7 +2,7 @@
 -- others one that writes, and one that reads.
 use Rattle.std.specs.Prelude.{◌≡◌, ◌⊎◌, ℕ, zero, suc, ◌+◌, ◌-◌, ◌*◌, ◌/◌, ◌<◌, ◌≤◌, ◌==◌, ◌&&◌, ◌||◌, nat_le, nat_lt}
 use Rattle.std.specs.Prelude.{max, min, not}
-use Rattle.std.specs.Prelude.{Bool, true, false, cond, Option, Some, None}
+use Rattle.std.specs.Prelude.{Bool, true, false, cond, length, List, Option, Some, None}
 use Rattle.sector.specs.declared.device.Sectors.{Ghosts}
 use Rattle.sessions.specs.StandsFor.{has_written}
 use Rattle.sessions.specs.declared.events.TheConstants.{SESSIONS_MAX}
@@ -13,7 +13,7 @@ use Rattle.stream_driver.specs.declared.buffered.TheConstants.{LIGHT_MAX, SHARE_
 use Rattle.stream_driver.specs.declared.entries.Entry.{Entry}
 use Rattle.stream_driver.specs.declared.entries.EntryState.{EntryState}
 use Rattle.stream_driver.specs.declared.entries.EntryState.TheVariants.{Idle, Ready, Gone}
-use Rattle.event_loop.specs.Tables.{is_ready}
+use Rattle.event_loop.specs.Tables.{is_ready, slot_at}
 use Rattle.event_loop.specs.declared.order.Kind.{Kind}
 use Rattle.event_loop.specs.declared.order.Kind.TheVariants.{Any, Reader, Writer}
 use Rattle.event_loop.specs.declared.order.TheConstants.{WIDENED_BY, WIDTH_MIN, WIDTH_PARTS}
@@ -112,6 +112,12 @@ module _ {T D : Type 0} {g : Ghosts D} (hub : Hub D g) where
       share_of_slot turns (nat_lt (light_below slots key) turns.width) (nat_lt (late_below slots key) (turns.width - 1))
       key (slots key)
 
+  -- how many more of those that take no turns it might drive, or of those that are late, where these are fewer: over so
+  -- many places
+  abbrev pub unused_in : Turns → (ℕ → Option (Entry (BufferedStream T))) → ℕ → ℕ
+  unused_in turns slots places =
+      min (turns.width - light_below slots places) (turns.width - 1 - late_below slots places)
+
   -- it took no turns
   abbrev pub takes_none : Option (Entry (BufferedStream T)) → Bool
   takes_none None = false
@@ -143,6 +149,14 @@ module _ {T : Type 0} where
   abbrev pub takes_turns : Option (Entry (BufferedStream T)) → Bool
   takes_turns None = false
   takes_turns (Some entry) = is_heavy entry.stream
+
+  -- how many of those below a key have streams that are heavy, and how many of all
+  abbrev pub heavy_below : (ℕ → Option (Entry (BufferedStream T))) → ℕ → ℕ
+  heavy_below slots zero = 0
+  heavy_below slots (suc key) = heavy_below slots key + is_one (takes_turns (slots key))
+
+  abbrev pub heavy_streams : List (Option (Entry (BufferedStream T))) → ℕ
+  heavy_streams slots = heavy_below (slot_at slots) (length slots)
 
   -- an entry that is ready has its share of the turn; or it is passed over, and waits with none
   abbrev pub in_turn : EntryState → Option ℕ → Entry (BufferedStream T) → Entry (BufferedStream T)

@@ -1,6 +1,7 @@
 -- What one turn of the loop does to its hub and its table.
 use Rattle.std.specs.List.{list_any}
-use Rattle.std.specs.Prelude.{◌≡◌, ◌≢◌, ◌==◌, ◌||◌, ◌⊎◌, ℕ, ◌+◌, ◌<◌, ◌≤◌, Bool, true, false, List, [], Option, Some}
+use Rattle.std.specs.Prelude.{◌≡◌, ◌≢◌, ◌==◌, ◌||◌, ◌⊎◌, ℕ, ◌+◌, ◌-◌, ◌/◌, ◌<◌, ◌≤◌, Bool, true, false, List, []}
+use Rattle.std.specs.Prelude.{Option, Some}
 use Rattle.std.specs.Prelude.{Result}
 use Rattle.std.specs.declared.io.Error.{Error}
 use Rattle.std.specs.declared.time.Duration.{Duration}
@@ -31,7 +32,8 @@ use Rattle.stream_driver.specs.declared.entries.EntryState.TheVariants.{Gone, Re
 use Rattle.event_loop.specs.Accepts.{Accepts, AsksOnce}
 use Rattle.event_loop.specs.Leavings.{EndAll, LingerOn}
 use Rattle.event_loop.specs.Lingerings.{lingers_in, unless_failed}
-use Rattle.event_loop.specs.Order.{AreNext, after_turn, behind, is_ready_slot, share_at, takes_none, takes_turns}
+use Rattle.event_loop.specs.Order.{AreNext, after_turn, behind, heavy_streams, is_ready_slot, share_at, takes_none}
+use Rattle.event_loop.specs.Order.{takes_turns, unused_in, width_after}
 use Rattle.event_loop.specs.Progress.{GetsOn, UsesTurn}
 use Rattle.event_loop.specs.Polls.{WasAskedOnce, after_wait, polls_of}
 use Rattle.event_loop.specs.Sockets.{IsNewSocket, SocketsReport, all_interests}
@@ -42,6 +44,7 @@ use Rattle.event_loop.specs.declared.connections.Backlog.TheVariants.{Empty, Mor
 use Rattle.event_loop.specs.declared.connections.TheConstants.{LINGERER}
 use Rattle.event_loop.specs.declared.lingering.TheConstants.{LINGERING_MAX}
 use Rattle.event_loop.specs.declared.listener.Port.{Port}
+use Rattle.event_loop.specs.declared.order.TheConstants.{WIDTH_PARTS}
 use Rattle.event_loop.specs.declared.order.Turns.{Turns}
 use Rattle.event_loop.specs.declared.server.EventLoop.{EventLoop}
 use Rattle.event_loop.specs.declared.server.TheConstants.{LISTENER}
@@ -115,6 +118,21 @@ abbrev pub accepted_joins : {D : Type 0} {g : Ghosts D} (accepts : Bool) (old ne
 accepted_joins true old new accepted = joins_of accepted.became.0
 accepted_joins false old new untouched = []
 
+-- Of those that take no turns as many may be driven as the turn before has left. By how many more it might have driven,
+-- and how many streams turned out heavy in it, the next is as wide.
+pub record SetsWidth {D : Type 0} {g : Ghosts D} (old new : EventLoop D g) (events : List Event)
+    (ready driven : List (Option (Entry (BufferedStream Socket)))) : Type 0 where
+  pub width_is : new.turns.width ≡ old.next_width / WIDTH_PARTS
+  pub next_is : new.next_width ≡ width_after old.next_width
+      (unused_in old.hub new.turns (λ key. after_poll events key (slot_at old.table.slots key)) SESSIONS_MAX)
+      (heavy_streams driven - heavy_streams ready)
+
+-- whose turn it was, how wide the next is, and what the last poll reported
+pub record KeepsTurns {D : Type 0} {g : Ghosts D} (old new : EventLoop D g) : Type 0 where
+  pub turns : new.turns ≡ old.turns
+  pub next_width : new.next_width ≡ old.next_width
+  pub poller : new.poller ≡ old.poller
+
 -- the sessions that are ready were driven, by the events of the last poll, and the drives ended
 abbrev pub DrivesAndEnds :
     {D : Type 0} {g : Ghosts D} → Type 0 → (Socket → Traffic) → EventLoop D g → EventLoop D g → Type 0
@@ -123,6 +141,7 @@ DrivesAndEnds {D} {g} reports traffic old new =
     new.table.slots)
     × EndAll (g.moment (device new.hub)) drives.driven (lingers_in old.lingering) new.table.slots
     (lingers_in new.lingering)
+    × SetsWidth old new (items old.poller.events) drives.ready drives.driven
 
 -- the poll reported this token
 abbrev pub is_reported_of : Token → List Event → Bool
@@ -144,7 +163,9 @@ pub record IsTurn {D : Type 0} {g : Ghosts D} (reports : Type 0) (traffic : Sock
   pub driven : EventLoop D g
   pub drives : DrivesReady reports traffic (items new.poller.events) old.turns old.hub old.table.slots driven.turns
       driven.hub driven.table.slots
+  pub widths : SetsWidth old driven (items new.poller.events) drives.ready drives.driven
   pub turns_are : new.turns ≡ driven.turns
+  pub next_width_is : new.next_width ≡ driven.next_width
   pub next_is : driven.next ≡ old.next
   pub port_is : driven.port ≡ old.port
   pub backlog_is : driven.backlog ≡ old.backlog

@@ -10,11 +10,13 @@
 //! are passed over and late until they have had a turn: who becomes ready later doesn't wait for them. Of those that are late it drives one
 //! less than it is wide, besides those that have a turn. The width grows while none of them turns out heavy, as the window of TCP does
 //! (Jacobson, Congestion Avoidance and Control, 1988), and falls where several do.
-ghost use Rattle.std.specs.Prelude.{◌≡◌, ◌-◌, ◌*◌, ◌<◌, ◌≤◌, nat_lt, not, ℕ, Bool, Some};
+ghost use Rattle.std.specs.Prelude.{◌≡◌, ◌-◌, ◌*◌, ◌<◌, ◌≤◌, length, nat_lt, not, ℕ, Bool, Some};
 ghost use Rattle.event_loop.specs.declared.order.Kind.TheVariants.{Any};
-ghost use Rattle.event_loop.specs.Order.{AreNext, ComesNearer, HasNextTurn, after_turn, behind, has_turn, in_turn};
-ghost use Rattle.event_loop.specs.Order.{is_late_entry, is_of_kind, is_one, is_writer, late_in, light_in};
-ghost use Rattle.event_loop.specs.Order.{share_at, share_in_turn, waits_as, width_after, writes_in};
+ghost use Rattle.event_loop.specs.Order.{AreNext, ComesNearer, HasNextTurn, after_turn, behind, has_turn};
+ghost use Rattle.event_loop.specs.Order.{heavy_streams};
+ghost use Rattle.event_loop.specs.Order.{in_turn, is_late_entry, is_of_kind, is_one, is_writer, late_in, light_in};
+ghost use Rattle.event_loop.specs.Order.{share_at, share_in_turn, takes_turns, unused_in, waits_as};
+ghost use Rattle.event_loop.specs.Order.{width_after, writes_in};
 ghost use Rattle.event_loop.specs.Tables.{slot_at};
 
 use crate::socket::Socket;
@@ -295,8 +297,9 @@ pub(crate) fn take_turns<D: Sectors>(
     turns: Turns,
     table: &mut Slab<Entry<BufferedStream<Socket>>>,
 ) -> usize
-    ensures { (key : ℕ) → slot_at table.new.slots key
+    ensures shares { (key : ℕ) → slot_at table.new.slots key
         ≡ after_turn (share_at hub.now turns (slot_at table.old.slots) key) (slot_at table.old.slots key) }
+    ensures unused { result ≡ unused_in hub.now turns (slot_at table.old.slots) (length table.old.slots) }
 {
     let mut left = Left {
         light: turns.width,
@@ -310,13 +313,23 @@ pub(crate) fn take_turns<D: Sectors>(
     left.light.min(left.late)
 }
 
+// Is there an entry at a key whose stream is heavy?
+fn is_heavy_at(table: &Slab<Entry<BufferedStream<Socket>>>, key: usize) -> bool
+    ensures { result ≡ takes_turns (slot_at table.now.slots key) }
+{
+    match table.get(key) {
+        Some(entry) => entry.stream.is_heavy(),
+        None => false,
+    }
+}
+
 /// How many streams are heavy. Takes no memory.
-pub(crate) fn heavy_streams(table: &Slab<Entry<BufferedStream<Socket>>>) -> usize {
+pub(crate) fn heavy_streams(table: &Slab<Entry<BufferedStream<Socket>>>) -> usize
+    ensures { result ≡ heavy_streams table.now.slots }
+{
     let mut count: usize = 0;
-    for (_key, entry) in table.iter() {
-        if entry.stream.is_heavy() {
-            count = count.saturating_add(1);
-        }
+    for key in 0..table.capacity() {
+        count += usize::from(is_heavy_at(table, key));
     }
     count
 }

@@ -87,7 +87,9 @@ impl<D: Sectors> EventLoop<D> {
     ghost use Rattle.event_loop.specs.Loops.{HasItsSessions, HasAddress, ListensFor, hub_of};
     ghost use Rattle.event_loop.specs.Sockets.{SocketsReport};
     ghost use Rattle.event_loop.specs.TableBytes.{KeepBytes};
-    ghost use Rattle.event_loop.specs.Turns.{Accepted, DrivesAndEnds, EndsWithGarbage, IsTurn, IsUntouched, Rests};
+    ghost use Rattle.event_loop.specs.Turns.{Accepted, DrivesAndEnds, EndsWithGarbage, IsTurn, IsUntouched};
+    ghost use Rattle.event_loop.specs.Turns.{KeepsTurns};
+    ghost use Rattle.event_loop.specs.Turns.{Rests};
     ghost use Rattle.event_loop.specs.Turns.{EachBecomesReady, EachGetsOn, EachHasItsTurn, TurnsAreRuns, Waits};
     ghost use Rattle.event_loop.specs.Turns.{accepts_now, has_work, is_reported_of, turn_waits};
     ghost use Rattle.event_loop.specs.Waits.{nanos_of};
@@ -291,8 +293,7 @@ impl<D: Sectors> EventLoop<D> {
     fn collect_garbage(&mut self)
         ensures collects { CollectsStep self.old.hub self.new.hub self.new.has_garbage }
         ensures rests { Rests self.old self.new }
-        ensures poller { self.new.poller ≡ self.old.poller }
-        ensures turns { self.new.turns ≡ self.old.turns }
+        ensures keeps { KeepsTurns self.old self.new }
     {
         self.has_garbage = self.hub.reclaim_step();
         self.spare.ask_again(self.alloc);
@@ -303,8 +304,7 @@ impl<D: Sectors> EventLoop<D> {
         ensures accepts { Accepted (accepts_now self.old.backlog (items self.old.poller.events)) self.old self.new }
         ensures lingerers { lingers_in self.new.lingering
             ≡ unless_failed self.new.backlog (lingers_in self.old.lingering) }
-        ensures poller { self.new.poller ≡ self.old.poller }
-        ensures turns { self.new.turns ≡ self.old.turns }
+        ensures keeps { KeepsTurns self.old self.new }
     {
         if self.accepts_now() {
             self.accept();
@@ -316,8 +316,7 @@ impl<D: Sectors> EventLoop<D> {
         ensures accepts { Accepted true self.old self.new }
         ensures lingerers { lingers_in self.new.lingering
             ≡ unless_failed self.new.backlog (lingers_in self.old.lingering) }
-        ensures poller { self.new.poller ≡ self.old.poller }
-        ensures turns { self.new.turns ≡ self.old.turns }
+        ensures keeps { KeepsTurns self.old self.new }
     {
         self.backlog = accept_some(
             self.alloc,
@@ -347,9 +346,10 @@ impl<D: Sectors> EventLoop<D> {
         let width = self.next_width / WIDTH_PARTS;
         self.turns = next_turns(&self.hub, &self.table, self.turns, width);
         let unused = take_turns(&self.hub, self.turns, &mut self.table);
-        let heavy = heavy_streams(&self.table);
+        let heavy_before = heavy_streams(&self.table);
         drive_ready(&mut self.hub, &mut self.table);
-        let turned_out = heavy_streams(&self.table).saturating_sub(heavy);
+        let heavy_after = heavy_streams(&self.table);
+        let turned_out = heavy_after.saturating_sub(heavy_before);
         self.next_width = next_width(self.next_width, unused, turned_out);
         end_drives(
             self.hub.device(),

@@ -4,8 +4,9 @@
 //! it has joined, until it meets a block of just the size that is asked for. So each turn has it join what its own step freed, and no
 //! request pays for many. A block of the size of one that was freed before would be met at once, and all else left for a request to sort.
 //! So each is of another size than the last two.
-ghost use Rattle.std.specs.Prelude.{◌≡◌, ◌+◌, nat_lt, cond};
-ghost use Rattle.event_loop.specs.declared.spare.TheConstants.{SPARE_MAX, SPARE_MIN, SPARE_STEP};
+ghost use Rattle.std.specs.Prelude.{◌≡◌, ◌≤◌, IfSome, vec_capacity};
+ghost use Rattle.event_loop.specs.Spares.{size_behind};
+ghost use Rattle.event_loop.specs.declared.spare.TheConstants.{SPARE_MIN};
 
 use std::alloc::Global;
 
@@ -27,7 +28,7 @@ pub struct Spare {
 
 // The size behind this one: the next of three, round.
 fn size_behind(size: usize) -> usize
-    ensures { result ≡ cond (nat_lt size SPARE_MAX) (size + SPARE_STEP) SPARE_MIN }
+    ensures { result ≡ size_behind size }
 {
     if size < SPARE_MAX {
         size.saturating_add(SPARE_STEP)
@@ -38,7 +39,9 @@ fn size_behind(size: usize) -> usize
 
 impl Spare {
     /// No block. Takes no memory.
-    pub(crate) fn none() -> Spare {
+    pub(crate) fn none() -> Spare
+        ensures { result.size ≡ SPARE_MIN }
+    {
         Spare {
             block: None,
             size: SPARE_MIN,
@@ -46,7 +49,10 @@ impl Spare {
     }
 
     /// Asks for a block in place of the last, of another size; a refusal changes nothing.
-    pub(crate) fn ask_again(&mut self, alloc: Global) {
+    pub(crate) fn ask_again(&mut self, alloc: Global)
+        ensures size { self.new.size ≡ size_behind self.old.size }
+        ensures block { IfSome self.new.block (λ b. self.new.size ≤ vec_capacity b) }
+    {
         self.size = size_behind(self.size);
         self.block = Vec::with_capacity(alloc, self.size).ok();
     }

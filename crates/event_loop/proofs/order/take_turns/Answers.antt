@@ -1,11 +1,13 @@
 use Rattle.event_loop.proofs.order.take_turns.Goals as goal
-use Rattle.std.proofs.Common.{◌≡◌, ◌+◌, ◌-◌, ◌∙◌, Some, ap, subst, sym}
+use Rattle.std.proofs.Common.{◌≡◌, ◌+◌, ◌-◌, ◌∙◌, Some, ap, arith, min, subst, sym}
 use Rattle.event_loop.proofs.Ordering.{TurnedBelow, turned_none, turned_some}
 use Rattle.event_loop.proofs.order.take_turns.Goals.{in-Some, in_default}
 use Rattle.slab.specs.Slab.{Slab}
 use Rattle.stream_driver.specs.declared.buffered.BufferedStream.{BufferedStream}
 use Rattle.stream_driver.specs.declared.entries.Entry.{Entry}
-use Rattle.event_loop.specs.Order.{late_in, light_in}
+use Rattle.event_loop.proofs.Widths.{unused_over}
+use Rattle.event_loop.specs.Order.{late_in, light_below, light_in}
+use Rattle.event_loop.specs.Tables.{slot_at}
 use Rattle.event_loop.specs.declared.socket.Socket.{Socket}
 
 pub loop-key-preserved : goal.loop-key-preserved
@@ -31,3 +33,13 @@ loop-key-preserved g c =
           (subst (λ l. TurnedBelow hub c.args.turns (key + 1) l.light l.late old mid) (sym w.left-is)
           (turned_none hub c.args.turns key left.light left.late old mid c.loop-key.invariant (sym w.in_default.ensures.value)))
     ]
+
+pub returns-clause-unused : goal.returns-clause-unused
+returns-clause-unused g c =
+    let hub = c.args.hub.now in
+    let slots = c.args.table.now.slots in
+    let turns = c.args.turns in
+    let end = c.loop-key.key in
+    c.min.ensures ∙ ap (λ n. min n c.loop-key.left.late) c.loop-key.invariant.light_is
+    ∙ ap (λ n. min (turns.width - light_below hub (slot_at slots) end) n) c.loop-key.invariant.late_is
+    ∙ unused_over hub turns slots end (omega (arith, c.capacity-key-end.ensures.slots, c.loop-key-test.false))

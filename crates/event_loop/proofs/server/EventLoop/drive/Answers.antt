@@ -1,5 +1,5 @@
 use Rattle.event_loop.proofs.server.EventLoop.drive.Goals as goal
-use Rattle.std.proofs.Common.{◌≤◌, subst, sym}
+use Rattle.std.proofs.Common.{◌≤◌, ◌-◌, ◌∙◌, ap, subst, sym}
 use Rattle.mio.specs.Events.{items}
 use Rattle.sessions.specs.declared.events.TheConstants.{SESSIONS_MAX}
 use Rattle.stream_driver.proofs.States.{leads_map, stands_after}
@@ -11,7 +11,10 @@ use Rattle.event_loop.proofs.Ordering.{few_enough, wide_enough}
 use Rattle.event_loop.proofs.Peers.{drives_use, drives_wait, ended_rested, leads_lack}
 use Rattle.event_loop.proofs.TableBytes.{drives_bytes}
 use Rattle.event_loop.proofs.Tables.{below_after}
+use Rattle.event_loop.proofs.Widths.{unused_polled}
+use Rattle.event_loop.specs.Order.{heavy_streams, unused_in, width_after}
 use Rattle.event_loop.specs.Sockets.{CameShort}
+use Rattle.event_loop.specs.Tables.{after_poll, slot_at}
 use Rattle.event_loop.specs.declared.order.TheConstants.{WIDTH_MIN}
 use Rattle.event_loop.specs.contracts.socket.SocketStream.TheImpl.{ghosts}
 
@@ -20,7 +23,7 @@ drive_ready-requires g c =
     polled_sessions c.args.self.now.table.slots c.take_turns-unused.new.table.slots (items c.events.result.now)
     (turns_taken c.args.self.now.hub c.next_turns-self.result c.args.self.now.table.slots c.take_turns-unused.new.table.slots (items c.events.result.now)
     (polled_turned c.args.self.now.hub c.args.self.now.turns c.next_turns-self.result c.args.self.now.table.slots c.make_polled_ready.new.table.slots
-    (items c.events.result.now) c.make_polled_ready.ensures c.take_turns-unused.new.table.slots c.take_turns-unused.ensures))
+    (items c.events.result.now) c.make_polled_ready.ensures c.take_turns-unused.new.table.slots c.take_turns-unused.ensures.shares))
     c.args.self.now.hub c.args.self.now.sessions
 
 pub invariant_of-self : goal.invariant_of-self
@@ -32,7 +35,7 @@ invariant_of-self g c =
     let later = c.drive_ready.new.hub in
     let events = items c.events.result.now in
     let turned = polled_turned old.hub old.turns c.next_turns-self.result old.table.slots c.make_polled_ready.new.table.slots events c.make_polled_ready.ensures
-    ready c.take_turns-unused.ensures in
+    ready c.take_turns-unused.ensures.shares in
     let turns = turns_taken old.hub c.next_turns-self.result old.table.slots ready events turned in
     let ended = c.end_drives.ensures.ended in
     record {
@@ -79,7 +82,7 @@ pub returns-clause-drives : goal.returns-clause-drives
 returns-clause-drives g c =
     let old = c.args.self.now in
     let turned = polled_turned old.hub old.turns c.next_turns-self.result old.table.slots c.make_polled_ready.new.table.slots (items old.poller.events)
-    (rw c.events.ensures at c.make_polled_ready.ensures) c.take_turns-unused.new.table.slots c.take_turns-unused.ensures in (
+    (rw c.events.ensures at c.make_polled_ready.ensures) c.take_turns-unused.new.table.slots c.take_turns-unused.ensures.shares in (
       record {
         turn_of = polled_next old.hub old.turns c.next_turns-self.result old.table.slots c.make_polled_ready.new.table.slots (items old.poller.events)
             (rw c.events.ensures at c.make_polled_ready.ensures) c.next_turns-self.ensures.next;
@@ -95,6 +98,17 @@ returns-clause-drives g c =
         ended = rw c.device.ensures at c.end_drives.ensures.ended;
       },
       rw c.device.ensures at c.end_drives.ensures.left,
+      record {
+        width_is = c.next_turns-self.ensures.width;
+        next_is = c.next_width-self.ensures.is
+            ∙ ap (λ n. width_after old.next_width n c.saturating_sub-turned_out.result)
+            (c.take_turns-unused.ensures.unused ∙ unused_polled old.hub c.next_turns-self.result old.table.slots c.make_polled_ready.new.table.slots
+            (items old.poller.events) old.places (rw c.events.ensures at c.make_polled_ready.ensures))
+            ∙ ap (width_after old.next_width (unused_in old.hub c.next_turns-self.result (λ key. after_poll (items old.poller.events) key
+            (slot_at old.table.slots key)) SESSIONS_MAX))
+            (c.saturating_sub-turned_out.ensures ∙ ap (λ n. n - c.heavy_streams-heavy_before.result) c.heavy_streams-heavy_after.ensures
+            ∙ ap (λ n. heavy_streams c.drive_ready.new.table.slots - n) c.heavy_streams-heavy_before.ensures);
+      },
     )
 
 pub returns-clause-keeps : goal.returns-clause-keeps
@@ -104,7 +118,7 @@ returns-clause-keeps g c =
     let events = items c.events.result.now in
     let turns = turns_taken old.hub c.next_turns-self.result old.table.slots ready events
     (polled_turned old.hub old.turns c.next_turns-self.result old.table.slots c.make_polled_ready.new.table.slots events c.make_polled_ready.ensures
-    ready c.take_turns-unused.ensures) in
+    ready c.take_turns-unused.ensures.shares) in
     let has_own = polled_sessions old.table.slots ready events turns old.hub old.sessions in
     leads_map old.hub c.drive_ready.new.hub _ _ c.drive_ready.ensures.driven.leads (λ h k stands d has.
     drives_bytes ghosts.reports ghosts.traffic _ old.table.slots ready c.drive_ready.new.table.slots c.end_drives.new.table.slots events turns has_own.own

@@ -24,18 +24,20 @@ pub returns-clause-collects : goal.returns-clause-collects
 returns-clause-collects g c =
     let due : accepts_now c.args.self.now.backlog (items c.collect_garbage.new.self.poller.events)
     ≡ accepts_now c.drive.new.self.backlog (items c.drive.new.self.poller.events) =
-    ap (λ (p : Poller). accepts_now c.args.self.now.backlog (items p.events)) (c.collect_garbage.ensures.poller ∙ c.accept_reported.ensures.poller)
+    ap (λ (p : Poller). accepts_now c.args.self.now.backlog (items p.events)) (c.collect_garbage.ensures.keeps.poller ∙ c.accept_reported.ensures.keeps.poller)
     ∙ ap (λ backlog. accepts_now backlog (items c.drive.new.self.poller.events)) (sym c.drive.ensures.backlog)
     in
-    let same : c.collect_garbage.new.self.poller ≡ c.wait.new.self = c.collect_garbage.ensures.poller ∙ c.accept_reported.ensures.poller
+    let same : c.collect_garbage.new.self.poller ≡ c.wait.new.self = c.collect_garbage.ensures.keeps.poller ∙ c.accept_reported.ensures.keeps.poller
     ∙ c.drive.ensures.poller in
     ends_with ghosts.reports ghosts.traffic c.args.self.now c.accept_reported.new.self c.collect_garbage.new.self
-    (turned_by ghosts.reports ghosts.traffic c.args.self.now _ c.accept_reported.new.self c.collect_garbage.new.self (c.collect_garbage.ensures.turns
-    ∙ c.accept_reported.ensures.turns) c.drive.ensures.next c.drive.ensures.port c.drive.ensures.backlog
-    c.drive.ensures.refused c.accept_reported.ensures.lingerers c.collect_garbage.ensures.rests
+    (turned_by ghosts.reports ghosts.traffic c.args.self.now _ c.accept_reported.new.self c.collect_garbage.new.self (c.collect_garbage.ensures.keeps.turns
+    ∙ c.accept_reported.ensures.keeps.turns) (c.collect_garbage.ensures.keeps.next_width ∙ c.accept_reported.ensures.keeps.next_width)
+    c.drive.ensures.next c.drive.ensures.port c.drive.ensures.backlog c.drive.ensures.refused c.accept_reported.ensures.lingerers
+    c.collect_garbage.ensures.rests
     (subst (λ (p : Poller). WasReported c.args.self.now.poller.poll (items p.events)) (sym same) c.in_ok-wait.ensures.reported) c.wait.new.self same _ due
     c.is_reported-comes_more.result (c.is_reported-comes_more.ensures
     ∙ ap (λ (p : Poller). is_reported_of LINGERER (items p.events)) c.drive.ensures.poller) c.drive.ensures.drives.0
+    (record { width_is = c.drive.ensures.drives.2.width_is; next_is = c.drive.ensures.drives.2.next_is })
     (record { begun = lingers_in c.drive.new.self.lingering; left = c.drive.ensures.drives.1; turned = rw c.device.ensures at c.turn.ensures })
     c.accept_reported.ensures.accepts
     (rest_leads c.law_runs_follow.ensures.follow c.args.self.now.hub c.accept_reported.new.self c.collect_garbage.new.self c.collect_garbage.ensures.rests _
@@ -65,7 +67,7 @@ returns-in_err-wait-clause-waits g c =
 
 pub returns-clause-waits : goal.returns-clause-waits
 returns-clause-waits g c =
-    let same : c.collect_garbage.new.self.poller ≡ c.wait.new.self = c.collect_garbage.ensures.poller ∙ c.accept_reported.ensures.poller
+    let same : c.collect_garbage.new.self.poller ≡ c.wait.new.self = c.collect_garbage.ensures.keeps.poller ∙ c.accept_reported.ensures.keeps.poller
     ∙ c.drive.ensures.poller in record {
       polled = ap polls_of same ∙ c.in_ok-wait.ensures.polls;
       waited = ap (λ (p : Poller). nanos_of p.waited) same ∙ ap nanos_of c.wait.ensures.waited ∙ c.next_wait-wait.ensures;
