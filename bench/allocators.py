@@ -6,10 +6,11 @@
 For each allocator in turn, over a data file in memory: a load of N keys in random order; all of them written again; all again while an
 old transaction is open; that one's end, and turns until no garbage is left; then one RANGE of 100 pairs, the first request that allocates a long block.
 After that the program is started again over that log, in which each key is written three times, and over one in which each is written once; and a store
-of 128 values of 16,384 bytes is asked for all of them, again and again.
+of 128 values of 16,384 bytes is asked for all of them, again and again, by one client and then by 60 at once.
 
 The figures: the server's CPU time for each key of the load and of what was written again; the longest turn from the end on until nothing was
-left, and of that RANGE; the resident memory after each step, `later` some seconds after the end, while PINGs came. The longest turns are taken
+left, of that RANGE, and beside those 60 clients until they have left; the resident memory after each step, `later` some seconds after the end, while
+PINGs came. The longest turns are taken
 by a library that is preloaded as well (harness/polls.c). Needs Python 3, make and a C compiler, and for a million keys 2 GB of memory. jemalloc is
 Debian's libjemalloc2.
 """
@@ -23,7 +24,7 @@ import time
 sys.dont_write_bytecode = True
 
 from entry import parser_of, print_table, run_script, shown, words_of, write_results    # noqa: E402
-from pause_scenes import LARGE_VALUE, LONG_REPLY_PAIRS, PAIRS, Turns, fill_large, large_key, opened, set_all    # noqa: E402
+from pause_scenes import LARGE_VALUE, LONG_REPLY_PAIRS, PAIRS, Turns, fill_large, flood, large_key, opened, set_all    # noqa: E402
 from preloaded import build, environment    # noqa: E402
 from scale import about    # noqa: E402
 from servers import Listening    # noqa: E402
@@ -33,12 +34,14 @@ from stores import COMMIT_WRITES, Client, Store, scattered    # noqa: E402
 TUNABLES = "GLIBC_TUNABLES"
 LATER_SECONDS, PINGS_A_SECOND = 12, 100
 LARGE_RANGES = 60
+CROWD_SECONDS, LEAVING_SECONDS = 3, 0.3
 # Of each the variables of its environment.
 ALLOCATORS = {
     "C library": {},
     "mxfast=0": {TUNABLES: "glibc.malloc.mxfast=0"},
     "mxfast=0, trim_threshold=131072": {TUNABLES: "glibc.malloc.mxfast=0:glibc.malloc.trim_threshold=131072"},
     "trim_threshold=131072": {TUNABLES: "glibc.malloc.trim_threshold=131072"},
+    "trim_threshold=1000000000": {TUNABLES: "glibc.malloc.trim_threshold=1000000000"},
     "hugetlb=1": {TUNABLES: "glibc.malloc.hugetlb=1"},
     "jemalloc": {"MALLOC_CONF": ""},
     "jemalloc, decay at once": {"MALLOC_CONF": "dirty_decay_ms:0,muzzy_decay_ms:0"},
@@ -48,6 +51,7 @@ COLUMNS = {
     "load_us": "Load, us a key", "again_us": "Written again, us a key", "end_ms": "End, ms", "long_ms": "RANGE of 100, ms", "filled_mb": "Filled, MB",
     "again_mb": "Written again, MB", "after_mb": "After the old one, MB", "later_mb": "Later, MB", "opened_again_mb": "Opened again, MB",
     "opened_mb": "Opened, once written, MB", "opening_again_ms": "Opening again, ms", "large_us": "Largest RANGE, us",
+    "crowd_ms": "60 with largest RANGEs, ms",
 }
 
 
@@ -118,8 +122,8 @@ class Trial:
         self.note_memory("later")
 
 
-def large_range_us(options, variables):
-    """The CPU time of the largest RANGE, which is asked for again and again."""
+def largest_ranges(options, turns, variables):
+    """The CPU time of the largest RANGE, which one client asks for again and again, and the longest turn while a crowd does, and leaves."""
     with Store(options, 0, 2 * PAIRS, variables) as server:
         client, buffer = Client(server.address), bytearray(1 << 20)
         fill_large(client, LARGE_VALUE)
@@ -131,7 +135,12 @@ def large_range_us(options, variables):
             left = whole
             while left > 0:
                 left -= client.socket.recv_into(buffer)
-        return 1e6 * (server.processor_seconds() - before) / LARGE_RANGES
+        large_us = 1e6 * (server.processor_seconds() - before) / LARGE_RANGES
+        turns.begin()
+        flood(server.address, CROWD_SECONDS, LARGE_VALUE)
+        time.sleep(LEAVING_SECONDS)
+        client.ask(PING)
+        return {"large_us": large_us, "crowd_ms": turns.longest_ms()}
 
 
 def measure(options, name):
@@ -148,7 +157,7 @@ def measure(options, name):
             trial.found |= {"opened_again_mb": again.resident_bytes() / 1e6, "opening_again_ms": again.opening_ms}
         with Store(options, options.keys, 0, variables) as once:
             trial.found["opened_mb"] = once.resident_bytes() / 1e6
-        trial.found["large_us"] = large_range_us(options, variables)
+        trial.found |= largest_ranges(options, turns, variables)
     return trial.found
 
 

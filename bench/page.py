@@ -229,7 +229,8 @@ def compactions_table():
 
 ALLOCATORS = (
     ("load_us", "load, us of CPU time a key"), ("again_us", "written again, us of CPU time a key"), ("end_ms", "end of an old transaction, longest turn, ms"),
-    ("large_us", "the largest RANGE, us of CPU time"), ("again_mb", "memory, filled and written again, MB"),
+    ("large_us", "the largest RANGE, us of CPU time"), ("crowd_ms", "60 clients with the largest RANGEs, longest turn, ms"),
+    ("again_mb", "memory, filled and written again, MB"),
     ("later_mb", "after an old transaction, while all were written again, MB"),
     ("opened_again_mb", "started over the log in which each key is written three times, MB"),
     ("opened_mb", "started over a log in which each is written once, MB"))
