@@ -13,7 +13,8 @@ use Rattle.stream_driver.specs.declared.buffered.BufferedStream.{BufferedStream}
 use Rattle.stream_driver.specs.declared.entries.Entry.{Entry}
 use Rattle.event_loop.proofs.Slots.{Slots}
 use Rattle.event_loop.specs.Numbers.{HavePlaces}
-use Rattle.event_loop.specs.Order.{heavy_below, heavy_streams, is_one, late_below, late_in, light_below, light_in, takes_turns, unused_in}
+use Rattle.event_loop.specs.Order.{heavy_below, heavy_streams, is_one, late_below, late_in, light_below, light_in}
+use Rattle.event_loop.specs.Order.{takes_turns, unused_in}
 use Rattle.event_loop.specs.Tables.{after_event, after_poll, reported_slot, slot_at}
 use Rattle.event_loop.specs.declared.order.Turns.{Turns}
 
