@@ -9,7 +9,7 @@ After that the program is started again over that log, in which each key is writ
 of 128 values of 16,384 bytes is asked for all of them, again and again, by one client and then by 60 at once.
 
 The figures: the server's CPU time for each key of the load and of what was written again; the longest turn from the end on until nothing was
-left, of that RANGE, and beside those 60 clients until they have left; the resident memory after each step, `later` some seconds after the end, while
+left, of that RANGE, and next to those 60 clients until they have left; the resident memory after each step, `later` some seconds after the end, while
 PINGs came. The longest turns are taken
 by a library that is preloaded as well (harness/polls.c). Needs Python 3, make and a C compiler, and for a million keys 2 GB of memory. jemalloc is
 Debian's libjemalloc2.

@@ -238,7 +238,8 @@ ALLOCATORS = (
 
 def allocators_table():
     found = read("allocators")["rows"]
-    lines = [[what, *(shown(median(it[name] for it in of)) for of in found.values())] for name, what in ALLOCATORS]
+    measured = set.intersection(*(set(it) for of in found.values() for it in of))
+    lines = [[what, *(shown(median(it[name] for it in of)) for of in found.values())] for name, what in ALLOCATORS if name in measured]
     yield from table(["100,000 keys", *found], lines)
 
 
