@@ -370,7 +370,7 @@ CONSTANTS = (
     ("model/src/values.rt", "FRAME_MAX", "largest frame has # bytes"),
     ("model/src/values.rt", "RANGE_REPLY_MAX", "A reply has # bytes at most|a reply of # in each"),
     ("model/src/keys.rt", "SHORT_MAX", "a key of up to # bytes"),
-    ("command_line/src/asked.rt", "FILE_SECTORS_MAX", "#, which is 2 GiB"),
+    ("command_line/src/invocation.rt", "FILE_SECTORS_MAX", "#, which is 2 GiB"),
     ("sorted_pages/src/page.rt", "STEP", "places come in steps of #"),
     ("sorted_pages/src/page.rt", "PAGE_MAX", "places come in steps of [0-9]+, up to #"),
     ("pivot_check/src/bound.rt", "BLOCK", "bounds of its numbers, one for each # keys"),
