@@ -4,6 +4,7 @@ pub mod FirstBytes
 pub mod Flags
 pub mod Keys
 pub mod Placings
+pub mod PageGaps
 pub mod Seen
 pub mod Tails
 pub mod Together

@@ -60,6 +60,10 @@ module _ {X : Type 0} (hides : X → Bool) where
 -- ---- how many at the front are blank
 
 module _ {X : Type 0} (hides : ℕ → X → Bool) where
+  -- a number of a gap
+  pub in_gap : (n : ℕ) (es : List (Bytes × X)) (g : Gap) → AreHiddenIn hides es g → is_within n g ≡ true → AreHidden (hides n) es
+  in_gap n es g h t = let p = and_parts (nat_le g.from n) (nat_lt n g.to) t in h n (grind (arith, nat_tests)) (grind (arith, nat_tests))
+
   -- m sees nothing of the first n
   abbrev AreBlank : ℕ → ℕ → List (Bytes × X) → Type 0
   AreBlank m n es = AllByRecursion (λ e. hides m e.1 ≡ true) (take n es)
@@ -248,9 +252,6 @@ module _ {X : Type 0} (hides : ℕ → X → Bool) (shows : X → Bool) where
       let parts : one e.1 + count_by (λ (d : Bytes × X). shows d.1) es ≡ 0 = sym (sum_by-cons (λ (d : Bytes × X). one d.1) e es) ∙ c in
       (grind (arith, parts, h.0), none_shows n es (omega (arith, parts)) h.1)
 
-  in_gap : (n : ℕ) (es : List (Bytes × X)) (g : Gap) → AreHiddenIn hides es g → is_within n g ≡ true → AreHidden (hides n) es
-  in_gap n es g h t = let p = and_parts (nat_le g.from n) (nat_lt n g.to) t in h n (grind (arith, nat_tests)) (grind (arith, nat_tests))
-
   -- nothing is seen of what is known to be hidden
   pub rest_hidden : (n : ℕ) (es : List (Bytes × X)) (s : Summary) → IsSummary hides shows es s → is_known n s ≡ true → AreHidden (hides n) es
   rest_hidden n es s h t = elim (or_cases (nat_lt n s.first || (nat_le s.last n && s.showing == 0)) (is_within n s.gap || is_in_some n s.older) t) [
@@ -260,12 +261,12 @@ module _ {X : Type 0} (hides : ℕ → X → Bool) (shows : X → Bool) where
           ∙ grind (arith, nat_tests)) (h.after n (grind (arith, nat_tests)))
     ]
     | inr a ↦ elim (or_cases (is_within n s.gap) (is_in_some n s.older) a) [
-      | inl b ↦ in_gap n es s.gap h.gap b
+      | inl b ↦ in_gap hides n es s.gap h.gap b
       | inr b ↦ elim (or_cases (is_within n s.older.first) (is_within n s.older.second || is_within n s.older.third) b) [
-        | inl d ↦ in_gap n es s.older.first h.older.first d
+        | inl d ↦ in_gap hides n es s.older.first h.older.first d
         | inr d ↦ elim (or_cases (is_within n s.older.second) (is_within n s.older.third) d) [
-          | inl f ↦ in_gap n es s.older.second h.older.second f
-          | inr f ↦ in_gap n es s.older.third h.older.third f
+          | inl f ↦ in_gap hides n es s.older.second h.older.second f
+          | inr f ↦ in_gap hides n es s.older.third h.older.third f
         ]
       ]
     ]

@@ -3,10 +3,11 @@ use Rattle.std.specs.Borrow.{Lends, LendsIfOk, Fml, RattleType, MutBor}
 use Rattle.std.specs.Cmp.Lexicographic.{slice_cmp}
 use Rattle.std.specs.FinMap.Entries.{find, put}
 use Rattle.std.specs.Ordering.{nat_cmp}
-use Rattle.std.specs.Prelude.{◌≡◌, List, [], ◌∷◌, Result, is_some, if◌then◌else◌}
+use Rattle.std.specs.Prelude.{◌≡◌, ℕ, List, [], ◌∷◌, Result, is_some, slice_set, if◌then◌else◌}
 use Rattle.model.specs.Map.{Bytes}
 use Rattle.sorted_pages.specs.Pages.{Page, entries}
 use Rattle.sorted_pages.specs.contracts.page.Page.{the_row as page_row}
+use Rattle.sorted_pages.specs.contracts.page_list.PageList.{the_row as list_row}
 use Rattle.sorted_pages.specs.contracts.pages.SortedPages.{the_row as pages_row}
 use Rattle.sorted_pages.specs.declared.versioned.Versioned.{Ghosts}
 
@@ -19,6 +20,11 @@ abbrev pub with_value : {X : Type 0} → List (Page X) → Bytes → X → List 
 with_value [] k v = []
 with_value (p ∷ ps) k v =
     if is_some (find (slice_cmp nat_cmp) k p.0) then with_value_in p k v ∷ ps else p ∷ with_value ps k v
+
+-- once the borrow r ends, page i is what was written through r last
+abbrev pub lends_page : (T : RattleType) → Ghosts T.Denot → MutBor (List (Page T.Denot)) → ℕ → MutBor (Page T.Denot)
+    → Fml
+lends_page T g s i r = Lends (list_row T g) (page_row T g) s r (slice_set s.now i)
 
 -- once the borrow r ends, the key has the last value written through r
 abbrev pub lends_in_page : (T : RattleType) → Ghosts T.Denot → MutBor (Page T.Denot) → Bytes → MutBor T.Denot → Fml

@@ -6,6 +6,7 @@ pub mod Heads
 pub mod Summaries
 pub mod Pages
 pub mod Rooms
+pub mod PageGaps
 pub mod Ranges
 pub mod Lent
 pub mod Trims

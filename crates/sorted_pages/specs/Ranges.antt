@@ -10,7 +10,9 @@ use Rattle.model.specs.KeyBytes.{key_bytes, end_bytes}
 use Rattle.model.specs.Map.{Bytes, key_cmp, is_below, is_in_range}
 use Rattle.model.specs.declared.keys.KeyRef.{KeyRef}
 use Rattle.sorted_pages.specs.Blanks.{shown}
+use Rattle.sorted_pages.specs.Gaps.{is_within}
 use Rattle.sorted_pages.specs.Pages.{AreBelow, Page, entries}
+use Rattle.sorted_pages.specs.declared.gap.Gap.{Gap}
 use Rattle.sorted_pages.specs.declared.range.Entries.{Entries}
 
 -- the entries before the first whose key isn't below hi
@@ -18,14 +20,22 @@ abbrev pub up_to : {X : Type 0} → Option Bytes → List (Bytes × X) → List 
 up_to hi [] = []
 up_to hi (e ∷ es) = if is_below e.0 hi then e ∷ up_to hi es else []
 
--- the entries of pages, from a place of the first page on
-abbrev pub entries_from : {X : Type 0} → ℕ → List (Page X) → List (Bytes × X)
-entries_from at [] = []
-entries_from at (p ∷ ps) = drop at p.0 ++ entries ps
+-- the entries of pages, without those of each page of which the number is in the gap
+abbrev pub entries_outside : {X : Type 0} → ℕ → List (Page X) → List Gap → List (Bytes × X)
+entries_outside n [] gs = []
+entries_outside n (p ∷ ps) [] = p.0 ++ entries_outside n ps []
+entries_outside n (p ∷ ps) (g ∷ gs) =
+    if is_within n g then entries_outside n ps gs else p.0 ++ entries_outside n ps gs
+
+-- those of the first page from a place of it on, and those of the others
+abbrev pub entries_from : {X : Type 0} → ℕ → ℕ → List (Page X) → List Gap → List (Bytes × X)
+entries_from n at [] gs = []
+entries_from n at (p ∷ ps) gs = drop at p.0 ++ entries_outside n ps gs
 
 -- the entries that are left
 abbrev pub entries_left : {X : Type 0} → (ℕ → X → Bool) → Entries X → List (Bytes × X)
-entries_left hides r = up_to (end_bytes r.hi) (shown (hides r.number) (entries_from r.at r.pages.now))
+entries_left hides r = up_to (end_bytes r.hi)
+    (shown (hides r.number) (entries_from r.number r.at r.pages.now r.gaps.now))
 
 -- the entries that aren't hidden and whose keys are at least lo and below hi
 abbrev pub shown_in : {X : Type 0} → (X → Bool) → List (Page X) → Bytes → Option Bytes → List (Bytes × X)

@@ -3,7 +3,6 @@ ghost use Rattle.std.specs.Prelude.{◌≡◌, ◌+◌, ◌<◌, ◌≤◌, T, t
 ghost use Rattle.std.specs.Ordering.{nat_cmp};
 ghost use Rattle.std.specs.Cmp.Lexicographic.{slice_cmp};
 ghost use Rattle.std.specs.FinMap.Entries.{put, is_sorted};
-ghost use Rattle.std.specs.Vec.{vec_len};
 ghost use Rattle.model.specs.Map.{Bytes};
 ghost use Rattle.sorted_pages.specs.Pages.{AreAllFull, AreFull, AreLoose, IsCrowded, IsInOrder, IsInsertionPoint};
 ghost use Rattle.sorted_pages.specs.Pages.{StaysTight, count_at, entries, pushed, room_at};
@@ -11,6 +10,7 @@ ghost use Rattle.sorted_pages.specs.Rooms.{MakesOnePage, MakesRoom, SplitsPage, 
 
 use crate::insertion_point::InsertionPoint;
 use crate::page::{PAGE_MAX, Page};
+use crate::page_list::PageList;
 use crate::placing::{count_in, place, room_in};
 use crate::versioned::Versioned;
 use model::{Key, KeyRef};
@@ -26,7 +26,7 @@ const FILL: usize = 192;
 const FILL_PLACES: usize = 256;
 
 // Adds an entry of a new key where it would stand, in the room that was made for it.
-pub(crate) fn insert<V: Versioned>(pages: &mut [Page<V>], at: InsertionPoint, key: Key, value: V)
+pub(crate) fn insert<V: Versioned>(pages: &mut PageList<V>, at: InsertionPoint, key: Key, value: V)
     requires order { IsInOrder pages.old }
     requires point { IsInsertionPoint pages.old key at.page at.entry }
     requires room { 0 < room_at key pages.old }
@@ -35,74 +35,63 @@ pub(crate) fn insert<V: Versioned>(pages: &mut [Page<V>], at: InsertionPoint, ke
     ensures place { TakesPlace key pages.old pages.new }
     ensures tight { StaysTight 0 pages.old pages.new }
 {
-    pages[at.page].insert(at.entry, key, value);
-}
-
-// Has the page at `i`, where there is one, look at the value that was lent for writing last.
-pub(crate) fn look_again<V: Versioned>(pages: &mut Vec<Page<V>>, i: usize)
-    ensures { pages.new.items ≡ pages.old.items }
-{
-    if i < pages.len() {
-        pages[i].look_again();
-    }
+    pages.page_mut(at.page).insert(at.entry, key, value);
+    pages.look_again(at.page);
 }
 
 // Makes room for `n` more entries in the page where the key would stand.
-fn grow<V: Versioned>(pages: &mut Vec<Page<V>>, key: KeyRef<'_>, n: usize) -> Result<(), AllocError>
-    requires order { IsInOrder pages.old.items }
-    requires some { 0 < vec_len pages.old }
-    ensures room { MakesRoom n pages.old.items pages.new.items }
-    ensures made { OnOk result (n ≤ room_at key.entry.bytes.now pages.new.items) }
-    ensures pages { length pages.new.items ≡ length pages.old.items }
-    ensures count { count_at key.entry.bytes.now pages.new.items ≡ count_at key.entry.bytes.now pages.old.items }
+fn grow<V: Versioned>(pages: &mut PageList<V>, key: KeyRef<'_>, n: usize) -> Result<(), AllocError>
+    requires order { IsInOrder pages.old }
+    requires some { 0 < length pages.old }
+    ensures room { MakesRoom n pages.old pages.new }
+    ensures made { OnOk result (n ≤ room_at key.entry.bytes.now pages.new) }
+    ensures pages { length pages.new ≡ length pages.old }
+    ensures count { count_at key.entry.bytes.now pages.new ≡ count_at key.entry.bytes.now pages.old }
 {
-    let i = place(pages, key);
-    pages[i].reserve(n)
+    let i = place(pages.as_slice(), key);
+    let grown = pages.page_mut(i).reserve(n);
+    pages.look_again(i);
+    grown
 }
 
 // Splits the page where the key would stand, and gives both parts room for `n` entries.
 fn split<V: Versioned + Drop>(
-    pages: &mut Vec<Page<V>>,
+    pages: &mut PageList<V>,
     key: KeyRef<'_>,
     n: usize,
 ) -> Result<(), AllocError>
-    requires order { IsInOrder pages.old.items }
-    requires some { 0 < vec_len pages.old }
-    requires short { room_at key.bytes.now pages.old.items < n }
-    ensures room { MakesRoom n pages.old.items pages.new.items }
-    ensures some { 0 < vec_len pages.new }
-    ensures one { length pages.new.items ≤ length pages.old.items + 1 }
-    ensures split { OnOk result (IsCrowded key.entry.bytes.now n pages.old.items
-        → SplitsPage key.entry.bytes.now pages.old.items pages.new.items) }
+    requires order { IsInOrder pages.old }
+    requires some { 0 < length pages.old }
+    requires short { room_at key.bytes.now pages.old < n }
+    ensures room { MakesRoom n pages.old pages.new }
+    ensures some { 0 < length pages.new }
+    ensures one { length pages.new ≤ length pages.old + 1 }
+    ensures split { OnOk result (IsCrowded key.entry.bytes.now n pages.old
+        → SplitsPage key.entry.bytes.now pages.old pages.new) }
 {
-    pages.reserve(1)?;
-    let i = place(pages, key);
-    let page = &mut pages[i];
-    let cut = page.cut_for(key);
+    let i = place(pages.as_slice(), key);
+    let cut = pages.as_slice()[i].cut_for(key);
     if cut == 0 {
         return Ok(());
     }
-    let upper = page.split_off(cut, n)?;
-    match pages.insert(i + 1, upper) {
-        Ok(()) => Ok(()),
-        Err(_) => unreachable!(),
-    }
+    pages.split(i, cut, n)?;
+    Ok(())
 }
 
 // Splits the page where the key would stand, and makes room for `n` more entries in the part where it stands then.
 fn divide<V: Versioned + Drop>(
-    pages: &mut Vec<Page<V>>,
+    pages: &mut PageList<V>,
     key: KeyRef<'_>,
     n: usize,
 ) -> Result<(), AllocError>
-    requires order { IsInOrder pages.old.items }
-    requires some { 0 < vec_len pages.old }
-    requires short { room_at key.bytes.now pages.old.items < n }
-    ensures room { MakesRoom n pages.old.items pages.new.items }
-    ensures made { OnOk result (n ≤ room_at key.entry.bytes.now pages.new.items) }
-    ensures one { length pages.new.items ≤ length pages.old.items + 1 }
-    ensures split { OnOk result (IsCrowded key.entry.bytes.now n pages.old.items
-        → SplitsPage key.entry.bytes.now pages.old.items pages.new.items) }
+    requires order { IsInOrder pages.old }
+    requires some { 0 < length pages.old }
+    requires short { room_at key.bytes.now pages.old < n }
+    ensures room { MakesRoom n pages.old pages.new }
+    ensures made { OnOk result (n ≤ room_at key.entry.bytes.now pages.new) }
+    ensures one { length pages.new ≤ length pages.old + 1 }
+    ensures split { OnOk result (IsCrowded key.entry.bytes.now n pages.old
+        → SplitsPage key.entry.bytes.now pages.old pages.new) }
 {
     split(pages, key, n)?;
     grow(pages, key, n)
@@ -118,40 +107,38 @@ fn is_crowded(len: usize, n: usize) -> bool
 }
 
 // Makes the first page.
-fn start<V: Versioned + Drop>(pages: &mut Vec<Page<V>>, n: usize) -> Result<(), AllocError>
-    requires { pages.old.items ≡ [] }
-    ensures room { MakesRoom n pages.old.items pages.new.items }
-    ensures made { OnOk result ((k : Bytes) → n ≤ room_at k pages.new.items) }
-    ensures one { length pages.new.items ≤ 1 }
+fn start<V: Versioned + Drop>(pages: &mut PageList<V>, n: usize) -> Result<(), AllocError>
+    requires { pages.old ≡ [] }
+    ensures room { MakesRoom n pages.old pages.new }
+    ensures made { OnOk result ((k : Bytes) → n ≤ room_at k pages.new) }
+    ensures one { length pages.new ≤ 1 }
 {
-    let alloc = *pages.allocator();
-    pages.push(Page::with_room_in_steps(alloc, n)?)?;
-    Ok(())
+    pages.push(Page::with_room_in_steps(pages.allocator(), n)?)
 }
 
 // Makes room for `n` more entries in the page where the key would stand. A page that they would make too large is split.
 pub(crate) fn reserve<V: Versioned + Drop>(
-    pages: &mut Vec<Page<V>>,
+    pages: &mut PageList<V>,
     at: InsertionPoint,
     key: KeyRef<'_>,
     n: usize,
 ) -> Result<(), AllocError>
-    requires order { IsInOrder pages.old.items }
-    requires point { IsInsertionPoint pages.old.items key.bytes.now at.page at.entry }
-    ensures room { MakesRoom n pages.old.items pages.new.items }
-    ensures made { OnOk result (n ≤ room_at key.entry.bytes.now pages.new.items) }
-    ensures known { n ≤ room_at key.entry.bytes.now pages.old.items → IsOk result }
-    ensures split { OnOk result (IsCrowded key.entry.bytes.now n pages.old.items
-        → SplitsPage key.entry.bytes.now pages.old.items pages.new.items) }
-    ensures pages { MakesOnePage key.entry.bytes.now n pages.old.items pages.new.items }
+    requires order { IsInOrder pages.old }
+    requires point { IsInsertionPoint pages.old key.bytes.now at.page at.entry }
+    ensures room { MakesRoom n pages.old pages.new }
+    ensures made { OnOk result (n ≤ room_at key.entry.bytes.now pages.new) }
+    ensures known { n ≤ room_at key.entry.bytes.now pages.old → IsOk result }
+    ensures split { OnOk result (IsCrowded key.entry.bytes.now n pages.old
+        → SplitsPage key.entry.bytes.now pages.old pages.new) }
+    ensures pages { MakesOnePage key.entry.bytes.now n pages.old pages.new }
 {
-    if n <= room_in(pages, at.page) {
+    if n <= room_in(pages.as_slice(), at.page) {
         return Ok(());
     }
-    if pages.is_empty() {
+    if pages.as_slice().is_empty() {
         return start(pages, n);
     }
-    if is_crowded(count_in(pages, at.page), n) {
+    if is_crowded(count_in(pages.as_slice(), at.page), n) {
         return divide(pages, key, n);
     }
     grow(pages, key, n)
@@ -159,20 +146,19 @@ pub(crate) fn reserve<V: Versioned + Drop>(
 
 // Adds a page of one entry.
 fn push_page<V: Versioned + Drop>(
-    pages: &mut Vec<Page<V>>,
+    pages: &mut PageList<V>,
     key: Key,
     value: V,
 ) -> Result<(), AllocError>
-    requires order { IsInOrder pages.old.items }
-    requires sorted { T (is_sorted (slice_cmp nat_cmp) (entries pages.old.items ++ (key, value) ∷ [])) }
-    ensures order { IsInOrder pages.new.items }
-    ensures entries { entries pages.new.items ≡ pushed (is_ok result) (entries pages.old.items) (key, value) }
-    ensures loose { AreLoose pages.old.items → AreLoose pages.new.items }
-    ensures full { AreAllFull pages.old.items → AreFull pages.old.items → AreFull pages.new.items }
-    ensures tight { StaysTight FILL_PLACES pages.old.items pages.new.items }
+    requires order { IsInOrder pages.old }
+    requires sorted { T (is_sorted (slice_cmp nat_cmp) (entries pages.old ++ (key, value) ∷ [])) }
+    ensures order { IsInOrder pages.new }
+    ensures entries { entries pages.new ≡ pushed (is_ok result) (entries pages.old) (key, value) }
+    ensures loose { AreLoose pages.old → AreLoose pages.new }
+    ensures full { AreAllFull pages.old → AreFull pages.old → AreFull pages.new }
+    ensures tight { StaysTight FILL_PLACES pages.old pages.new }
 {
-    let alloc = *pages.allocator();
-    let mut page = Page::with_room(alloc, FILL_PLACES)?;
+    let mut page = Page::with_room(pages.allocator(), FILL_PLACES)?;
     page.push(key, value)?;
     pages.push(page)?;
     Ok(())
@@ -180,24 +166,24 @@ fn push_page<V: Versioned + Drop>(
 
 // Adds an entry above all others.
 pub(crate) fn push<V: Versioned + Drop>(
-    pages: &mut Vec<Page<V>>,
+    pages: &mut PageList<V>,
     key: Key,
     value: V,
 ) -> Result<(), AllocError>
-    requires order { IsInOrder pages.old.items }
-    requires sorted { T (is_sorted (slice_cmp nat_cmp) (entries pages.old.items ++ (key, value) ∷ [])) }
-    ensures order { IsInOrder pages.new.items }
-    ensures entries { entries pages.new.items ≡ pushed (is_ok result) (entries pages.old.items) (key, value) }
-    ensures loose { AreLoose pages.old.items → AreLoose pages.new.items }
-    ensures full { AreFull pages.old.items → AreFull pages.new.items }
-    ensures tight { StaysTight FILL_PLACES pages.old.items pages.new.items }
+    requires order { IsInOrder pages.old }
+    requires sorted { T (is_sorted (slice_cmp nat_cmp) (entries pages.old ++ (key, value) ∷ [])) }
+    ensures order { IsInOrder pages.new }
+    ensures entries { entries pages.new ≡ pushed (is_ok result) (entries pages.old) (key, value) }
+    ensures loose { AreLoose pages.old → AreLoose pages.new }
+    ensures full { AreFull pages.old → AreFull pages.new }
+    ensures tight { StaysTight FILL_PLACES pages.old pages.new }
 {
-    let count = pages.len();
+    let count = pages.as_slice().len();
     if count == 0 {
         return push_page(pages, key, value);
     }
-    if FILL <= pages[count - 1].len() {
+    if FILL <= pages.as_slice()[count - 1].len() {
         return push_page(pages, key, value);
     }
-    pages[count - 1].push(key, value)
+    pages.page_mut(count - 1).push(key, value)
 }

@@ -9,6 +9,7 @@ mod heads;
 mod insertion_point;
 mod older;
 mod page;
+mod page_list;
 mod pages;
 mod placing;
 mod range;

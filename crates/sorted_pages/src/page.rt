@@ -14,6 +14,7 @@ ghost use Rattle.sorted_pages.specs.Rooms.{HasRoomFor, IsEmptyFor};
 ghost use Rattle.sorted_pages.specs.Trims.{changed_at, passes};
 
 use crate::flagging::{copied_flags, next_flagged};
+use crate::gap::Gap;
 use crate::heads::{SoughtKey, first_head, renewed_head};
 use crate::summary::Summary;
 use crate::versioned::Versioned;
@@ -134,6 +135,7 @@ impl<V: Versioned> Page<V> {
     ghost use Rattle.model.specs.KeyBytes.{end_bytes};
     ghost use Rattle.sorted_pages.specs.Ranges.{IsFirstShown, IsLeastFrom};
     ghost use Rattle.sorted_pages.specs.Lent.{lends_in_page};
+    ghost use Rattle.sorted_pages.specs.Summaries.{AreHiddenIn};
 
     // An empty page with room for so many entries, in whole steps.
     pub(crate) fn with_room_in_steps(alloc: Global, room: usize) -> Result<Page<V>, AllocError>
@@ -241,6 +243,17 @@ impl<V: Versioned> Page<V> {
             return self.entries.len();
         }
         self.blank
+    }
+
+    // Numbers that see nothing of its entries: those of its last gap, and none where a value was lent for writing.
+    pub(crate) fn gap(&self) -> Gap
+        ensures { AreHiddenIn V.hides self.now.0 result }
+    {
+        let summary = self.summary.as_ref();
+        if summary.left_out.is_some() {
+            return Gap::none();
+        }
+        summary.gap
     }
 
     // The next place from this one on whose value has to be asked: one whose flag is true, where the number isn't below that of the page's

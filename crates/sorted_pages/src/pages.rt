@@ -10,14 +10,13 @@ ghost use Rattle.sorted_pages.specs.Pages.{IsInsertionPoint, is_together, room_a
 ghost use Rattle.sorted_pages.specs.declared.changing.TheConstants.{FILL_PLACES};
 ghost use Rattle.sorted_pages.specs.Rooms.{MakesOnePage, MakesRoom, SplitsPage, TakesPlace};
 
-use crate::changing::{self, look_again};
 use crate::insertion_point::InsertionPoint;
-use crate::page::Page;
+use crate::page_list::PageList;
 use crate::placing::{self, place};
 use crate::range::Entries;
 use crate::ranging::{RangeEnd, up_to, within};
-use crate::trimming;
 use crate::versioned::Versioned;
+use crate::{changing, trimming};
 use model::{Key, KeyRef, RangeRef};
 use std::alloc::{AllocError, Global};
 use std::marker::Model;
@@ -26,7 +25,7 @@ use std::marker::Model;
 /// entries by strictly rising key. Each place takes what an entry does and a byte, which says whether its value may show.
 #[derive(Drop)]
 pub struct SortedPages<V: Versioned> {
-    pub(crate) pages: Vec<Page<V>>,
+    pages: PageList<V>,
     // the page of the value that was lent for writing last
     lent: usize,
 }
@@ -37,9 +36,9 @@ impl<V: Versioned> Model for SortedPages<V> {
 
     ghost Value = { List (List (List ℕ × V) × ℕ) };
 
-    ghost view = { λ s. s.pages.items };
+    ghost view = { λ s. s.pages };
 
-    ghost invariant = { λ s. IsInOrder s.pages.items };
+    ghost invariant = { λ s. IsInOrder s.pages };
 }
 
 impl<V: Versioned> SortedPages<V> {
@@ -48,7 +47,7 @@ impl<V: Versioned> SortedPages<V> {
         ensures { result ≡ [] }
     {
         SortedPages {
-            pages: Vec::new(alloc),
+            pages: PageList::new(alloc),
             lent: 0,
         }
     }
@@ -57,11 +56,11 @@ impl<V: Versioned> SortedPages<V> {
     pub fn get(&self, key: KeyRef<'_>) -> Option<&V>
         ensures { option_copied result ≡ find (slice_cmp nat_cmp) key.entry.bytes.now (entries self.now) }
     {
-        if self.pages.is_empty() {
+        let pages = self.pages.as_slice();
+        if pages.is_empty() {
             return None;
         }
-        let i = place(&self.pages, key);
-        self.pages[i].get(key)
+        pages[place(pages, key)].get(key)
     }
 }
 
@@ -79,9 +78,9 @@ impl<V: Versioned> SortedPages<V> {
         ensures* writes_back { sem 𝓛 (lends_value V.row V.Versioned self.entry key.entry.bytes.now result) }
         ensures value { find (slice_cmp nat_cmp) key.entry.bytes.now (entries self.old) ≡ Some result.now }
     {
-        look_again(&mut self.pages, self.lent);
+        self.pages.look_again(self.lent);
         self.lent = i;
-        self.pages[i].value_at(key, j)
+        self.pages.page_mut(i).value_at(key, j)
     }
 
     /// Lends the key's value for writing, and says where it would be inserted if it has none: the map ends with what is written, and no
@@ -97,11 +96,12 @@ impl<V: Versioned> SortedPages<V> {
             → is_together j k (with_value self.old key.entry.bytes.now v) ≡ is_together j k self.old }
         ensures absent { IfErr result (λ at. IsInsertionPoint self.old key.entry.bytes.now at.page at.entry) }
     {
-        if self.pages.is_empty() {
+        let pages = self.pages.as_slice();
+        if pages.is_empty() {
             return Err(InsertionPoint { page: 0, entry: 0 });
         }
-        let page = place(&self.pages, key);
-        match self.pages[page].search(key) {
+        let page = place(pages, key);
+        match pages[page].search(key) {
             Ok(i) => Ok(self.value_at(key, page, i)),
             Err(entry) => Err(InsertionPoint { page, entry }),
         }
@@ -123,11 +123,12 @@ impl<V: Versioned> SortedPages<V> {
             ≡ shown_in (V.hides number) self.now range.entry.lo.bytes.now (end_bytes range.entry.hi) }
     {
         let pages = self.pages.as_slice();
+        let gaps = self.pages.gaps();
         match range.hi {
-            None => within(pages, range.lo, None, number),
+            None => within(pages, gaps, range.lo, None, number),
             Some(hi) => {
                 let RangeEnd { pages, least } = up_to(pages, hi);
-                within(pages, range.lo, least, number)
+                within(pages, gaps, range.lo, least, number)
             }
         }
     }
@@ -138,14 +139,14 @@ impl<V: Versioned + Drop> SortedPages<V> {
     pub fn room(&self, key: KeyRef<'_>) -> usize
         ensures { result ≡ room_at key.entry.bytes.now self.now }
     {
-        placing::room(&self.pages, key)
+        placing::room(self.pages.as_slice(), key)
     }
 
     /// How many more entries fit without memory where a new key would be inserted. The key isn't looked up. Takes no memory.
     pub fn room_in(&self, at: InsertionPoint) -> usize
         ensures { (k : Bytes) → IsInsertionPoint self.now k at.page at.entry → result ≡ room_at k self.now }
     {
-        placing::room_in(&self.pages, at.page)
+        placing::room_in(self.pages.as_slice(), at.page)
     }
 
     /// Does the key stand, or would it, in the page where a new key would be inserted? Looks at the first keys of two pages. Takes no
@@ -154,7 +155,7 @@ impl<V: Versioned + Drop> SortedPages<V> {
         ensures { (k : Bytes) → IsInsertionPoint self.now k at.page at.entry
             → result ≡ is_together k key.entry.bytes.now self.now }
     {
-        placing::is_placed_in(&self.pages, at.page, key)
+        placing::is_placed_in(self.pages.as_slice(), at.page, key)
     }
 
     /// Makes room for `n` more entries where a new key would be inserted. The entries stay, also where memory is refused, no key has less
@@ -210,7 +211,7 @@ impl<V: Versioned> SortedPages<V> {
     pub fn pages(&self) -> usize
         ensures { result ≡ length self.now }
     {
-        self.pages.len()
+        self.pages.as_slice().len()
     }
 
     /// How many entries all pages have places for, in use and free; 2^64 - 1 where there were more. Looks at each page, and takes no
@@ -219,6 +220,7 @@ impl<V: Versioned> SortedPages<V> {
         ensures { result ≡ places_in self.now }
     {
         self.pages
+            .as_slice()
             .iter()
             .fold(0, |sum: usize, page| sum.saturating_add(page.places()))
     }

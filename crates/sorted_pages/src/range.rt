@@ -1,9 +1,11 @@
 //! The entries of a range of which a begin number sees something, borrowed one by one.
-ghost use Rattle.std.specs.Prelude.{◌≡◌};
+ghost use Rattle.std.specs.Prelude.{◌≡◌, ◌≤◌, ◌+◌, List, drop, length, not};
+ghost use Rattle.std.specs.List.{position};
 ghost use Rattle.sorted_pages.specs.Blanks.{shown};
-ghost use Rattle.sorted_pages.specs.Pages.{entries};
-ghost use Rattle.sorted_pages.specs.Ranges.{entries_from};
+ghost use Rattle.sorted_pages.specs.Gaps.{is_within};
+ghost use Rattle.sorted_pages.specs.Ranges.{entries_from, entries_outside};
 
+use crate::gap::Gap;
 use crate::page::Page;
 use crate::versioned::Versioned;
 use model::KeyRef;
@@ -14,14 +16,45 @@ pub struct Entries<'a, V: Versioned> {
     // the pages that are left, and a place of the first of them: the entries before it aren't
     pub(crate) pages: &'a [Page<V>],
     pub(crate) at: usize,
+    // gaps of the pages behind the first
+    pub(crate) gaps: &'a [Gap],
     // the upper end, where there is one
     pub(crate) hi: Option<KeyRef<'a>>,
     pub(crate) number: u64,
 }
 
+// The gaps from the one at `i` on.
+pub(crate) fn gaps_from(gaps: &[Gap], i: usize) -> &[Gap]
+    ensures { result.now ≡ drop i gaps.now }
+{
+    match gaps.get(i..) {
+        Some(rest) => rest,
+        None => &[],
+    }
+}
+
+// The place of the first gap that doesn't have the number.
+fn first_without(gaps: &[Gap], number: u64) -> Option<usize>
+    ensures { result ≡ position (λ g. not (is_within number g)) gaps.now }
+{
+    gaps.iter().position(|gap| !gap.has(number))
+}
+
+// How many of the first pages have the number in their gaps.
+fn hidden_pages<V: Versioned>(pages: &[Page<V>], gaps: &[Gap], number: u64) -> usize
+    ensures within { result ≤ length pages.now }
+    ensures rest { entries_from number 0 (drop result pages.now) (drop (result + 1) gaps.now)
+        ≡ entries_outside number pages.now gaps.now }
+{
+    first_without(gaps, number)
+        .unwrap_or(gaps.len())
+        .min(pages.len())
+}
+
 // Where a range that has all keys of the pages begins in the first of them, where there is one.
 fn start<V: Versioned>(pages: &[Page<V>], number: u64) -> usize
-    ensures { shown (V.hides number) (entries_from result pages.now) ≡ shown (V.hides number) (entries pages.now) }
+    ensures { (gs : List Gap) → shown (V.hides number) (entries_from number result pages.now gs)
+        ≡ shown (V.hides number) (entries_from number 0 pages.now gs) }
 {
     match pages.first() {
         None => 0,
@@ -80,8 +113,10 @@ impl<'a, V: Versioned> Iterator for Entries<'a, V> {
                 self.at += 1;
                 return Some((key, &entry.1));
             }
-            self.pages = rest;
-            self.at = start(rest, self.number);
+            let hidden = hidden_pages(rest, self.gaps, self.number);
+            self.pages = &rest[hidden..];
+            self.gaps = gaps_from(self.gaps, hidden + 1);
+            self.at = start(self.pages, self.number);
         }
         None
     }

@@ -15,7 +15,7 @@ returns-clause-room g c =
         rooms = λ q. (let a = one.roomier.rooms q in let b = two.roomier.rooms q in omega arith);
         apart = λ j k t. one.roomier.apart j k (two.roomier.apart j k t);
       };
-      tight = tight-then (c.args.n + (STEP - 1)) c.args.pages.now.items c.split.new.pages.items c.grow.new.pages.items one.tight two.tight;
+      tight = tight-then (c.args.n + (STEP - 1)) c.args.pages.now c.split.new.pages c.grow.new.pages one.tight two.tight;
     }
 
 pub returns-clause-split : goal.returns-clause-split

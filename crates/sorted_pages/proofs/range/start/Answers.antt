@@ -4,4 +4,4 @@ use Rattle.std.proofs.lemmas.Grind.{common_steps}
 use Rattle.sorted_pages.proofs.Seen.{shown-append}
 
 pub returns-in-Some : goal.returns-in-Some
-returns-in-Some g c = grind (arith, common_steps, shown-append)
+returns-in-Some g c = λ gs. grind (arith, common_steps, shown-append)

@@ -1,6 +1,7 @@
 use Rattle.sorted_pages.proofs.ranging.up_to.Goals as goal
 use Rattle.std.proofs.Common.{◌+◌}
 use Rattle.sorted_pages.proofs.Ends.{ends_as, order_to}
+use Rattle.sorted_pages.proofs.PageGaps.{each-take}
 use Rattle.sorted_pages.proofs.Placings.{page_sorted}
 
 pub first_from-requires : goal.first_from-requires
@@ -12,5 +13,6 @@ returns g c =
     let ps = c.args.pages.now in
     record {
       order = order_to ps (c.place-i.result + 1) c.requires;
+      gaps = λ gs known. each-take g.V.Versioned.hides (c.place-i.result + 1) ps gs known;
       same = ends_as ps c.args.hi.bytes.now c.place-i.result c.index-pages-i.result _ c.place-i.ensures c.index-pages-i.is c.requires c.first_from.ensures;
     }

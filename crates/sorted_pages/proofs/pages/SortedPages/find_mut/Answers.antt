@@ -6,8 +6,8 @@ use Rattle.sorted_pages.proofs.Values.{entries-with_value, room-with_value, toge
 
 pub search-requires : goal.search-requires
 search-requires g c =
-    let at = rw c.deref.ensures.value at c.place-page.ensures in
-    page_sorted c.self.inside.pages.items c.args.key.bytes.now c.place-page.result c.index.result.now at c.index.ensures c.self.invariant
+    page_sorted c.as_slice-pages.result.now c.args.key.bytes.now c.place-page.result c.index-pages-page.result c.place-page.ensures c.index-pages-page.is
+    (rw (← c.as_slice-pages.ensures) at c.self.invariant)
 
 pub returns-in-Ok : goal.returns-in-Ok
 returns-in-Ok g c =
@@ -31,8 +31,9 @@ returns-in-Err g c =
     let ps = c.args.self.now in
     let k = c.args.key.bytes.now in
     let sorted = rw c.self.view_is at c.self.invariant.sorted in
-    let at = rw (c.deref.ensures.value, c.self.view_is) at c.place-page.ensures in
-    let is = rw c.self.view_is at c.index.ensures in
+    let same = c.as_slice-pages.ensures ∙ c.self.view_is in
+    let at = rw same at c.place-page.ensures in
+    let is = rw same at c.index-pages-page.is in
     let gap = c.in-Err.ensures.absent in (
       refl,
       record {
@@ -42,9 +43,9 @@ returns-in-Err g c =
         rooms = λ w q. room-with_value q ps k w sorted;
         together = λ w i j. together-with_value i j ps k w sorted;
         absent = record {
-          absent = find_at ps k c.place-page.result c.index.result.now at is ∙ gap.absent;
+          absent = find_at ps k c.place-page.result c.index-pages-page.result at is ∙ gap.absent;
           page = λ some. at;
-          gap = λ some p. rw (← page_at ps k c.place-page.result c.index.result.now p at is) gap;
+          gap = λ some p. rw (← page_at ps k c.place-page.result c.index-pages-page.result p at is) gap;
         };
       },
     )

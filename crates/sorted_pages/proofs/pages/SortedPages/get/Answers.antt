@@ -7,12 +7,11 @@ use Rattle.sorted_pages.specs.Pages.{Page, entries}
 
 pub get-requires : goal.get-requires
 get-requires g c =
-    let at = rw c.deref.ensures.value at c.place-i.ensures in
-    page_sorted c.self.inside.pages.items c.args.key.bytes.now c.place-i.result c.index.result.now at c.index.ensures c.self.invariant
+    page_sorted c.as_slice-pages.result.now c.args.key.bytes.now c.place.result c.index-pages-place.result c.place.ensures c.index-pages-place.is
+    (rw (← c.as_slice-pages.ensures) at c.self.invariant)
 
 pub returns : goal.returns
 returns g c =
-    let at = rw c.deref.ensures.value at c.place-i.ensures in
     c.get.ensures
-    ∙ sym (find_at c.self.inside.pages.items c.args.key.bytes.now c.place-i.result c.index.result.now at c.index.ensures)
-    ∙ ap (λ (l : List (Page g.row.V.Denot)). find key_cmp c.args.key.bytes.now (entries l)) c.self.view_is
+    ∙ sym (find_at c.as_slice-pages.result.now c.args.key.bytes.now c.place.result c.index-pages-place.result c.place.ensures c.index-pages-place.is)
+    ∙ ap (λ (l : List (Page g.row.V.Denot)). find key_cmp c.args.key.bytes.now (entries l)) (c.as_slice-pages.ensures ∙ c.self.view_is)

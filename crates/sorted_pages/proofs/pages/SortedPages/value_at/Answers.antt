@@ -1,17 +1,25 @@
 use Rattle.sorted_pages.proofs.pages.SortedPages.value_at.Goals as goal
-use Rattle.std.proofs.Common.{List, set, refl, ap, ◌∙◌, arith}
+use Rattle.std.proofs.Common.{◌≡◌, List, get_or, set, refl, subst, sym, ap, ◌∙◌, arith}
 use Rattle.std.specs.Prelude.{is_some}
+use Rattle.model.specs.Entries.{IsAt}
 use Rattle.sorted_pages.proofs.Placings.{find_at, inserted}
 use Rattle.sorted_pages.proofs.Values.{value_at}
 use Rattle.sorted_pages.specs.Lent.{with_value_in}
 use Rattle.sorted_pages.specs.Pages.{Page}
 
+pub value_at-requires : goal.value_at-requires
+value_at-requires g c =
+    let p = c.page_mut.result.now in
+    let same = c.look_again.ensures ∙ c.self.view_is in
+    let is : p ≡ get_or c.args.self.now c.args.i p = rw same at (c.page_mut.ensures.value p) in
+    subst (λ (q : Page g.row.V.Denot). IsAt q.0 c.args.key.bytes.now c.args.j) (sym is) (c.requires.entry p)
+
 pub invariant_of-self-lent : goal.invariant_of-self-lent
 invariant_of-self-lent g c = λ w.
     let same = c.look_again.ensures ∙ c.self.view_is in
     let k = c.args.key.bytes.now in
-    let p = c.index_mut.result.now in
-    let is = rw same at c.index_mut.ensures.value in
+    let p = c.page_mut.result.now in
+    let is : p ≡ get_or c.args.self.now c.args.i p = rw same at (c.page_mut.ensures.value p) in
     let order = rw c.self.view_is at c.self.invariant in
     rw same (inserted c.args.self.now k w c.args.i p (with_value_in p k w) c.requires.page is order refl (omega arith)).order
 
@@ -20,8 +28,8 @@ returns g c =
     let same = c.look_again.ensures ∙ c.self.view_is in
     let ps = c.args.self.now in
     let k = c.args.key.bytes.now in
-    let p = c.index_mut.result.now in
-    let is = rw same at c.index_mut.ensures.value in
+    let p = c.page_mut.result.now in
+    let is : p ≡ get_or c.args.self.now c.args.i p = rw same at (c.page_mut.ensures.value p) in
     let here = c.value_at.ensures.value in (
       (
         refl,
