@@ -6,7 +6,6 @@ ghost use Rattle.commands.specs.Compacting.{copy_count, Compacting, Copies, HasT
 ghost use Rattle.commands.specs.LogCounts.{counts_of, log_line};
 ghost use Rattle.commands.specs.Faults.{IsFromOutput};
 ghost use Rattle.commit_log.specs.LogState.{HoldsLog};
-ghost use Rattle.commands.specs.Notices.{copying_line};
 
 use crate::data::{LogCounts, print_counts};
 use crate::faults::Fault;

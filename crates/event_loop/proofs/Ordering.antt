@@ -30,10 +30,12 @@ use Rattle.stream_driver.specs.declared.entries.EntryState.TheVariants.{Idle, Go
 use Rattle.event_loop.proofs.Entries.{Remain, no_entry}
 use Rattle.event_loop.proofs.Polled.{IsSome, TakesTurns, answered_as_it_was, put_there}
 use Rattle.event_loop.proofs.Slots.{Slots}
+use Rattle.event_loop.proofs.Widths.{count_more}
 use Rattle.event_loop.specs.Numbers.{HasTablePlace, HavePlaces, WasRegisteredAs}
 use Rattle.event_loop.specs.Order.{AreNext, ComesNearer, HasNextTurn, after_turn, behind, has_turn, in_turn}
 use Rattle.event_loop.specs.Order.{is_of_kind}
-use Rattle.event_loop.specs.Order.{is_late_entry, is_ready_slot, late_below, late_in, light_below, light_in, share_at}
+use Rattle.event_loop.specs.Order.{is_late_entry, is_one, is_ready_slot, late_below, late_in, light_below, light_in}
+use Rattle.event_loop.specs.Order.{share_at}
 use Rattle.event_loop.specs.Order.{share_in_turn, share_of_slot}
 use Rattle.event_loop.specs.Order.{takes_none}
 use Rattle.event_loop.specs.Order.{takes_turns, waits_as, writes_in}
@@ -107,12 +109,12 @@ module _ {T D : Type 0} {g : Ghosts D} (hub : Hub D g) (turns : Turns) where
     pub late_is : late ≡ turns.width - 1 - late_below hub (slot_at old) count
 
   more_light : (slots : ℕ → Option (Entry (BufferedStream T))) (count : ℕ)
-      → light_below hub slots (count + 1) ≡ light_below hub slots count + light_in hub (slots count)
-  more_light slots count = let one_more : count + 1 ≡ suc count = omega arith in ap (light_below hub slots) one_more
+      → light_below hub slots (count + 1) ≡ light_below hub slots count + is_one (light_in hub (slots count))
+  more_light slots count = count_more (λ key. light_in hub (slots key)) count
 
   more_late : (slots : ℕ → Option (Entry (BufferedStream T))) (count : ℕ)
-      → late_below hub slots (count + 1) ≡ late_below hub slots count + late_in hub (slots count)
-  more_late slots count = let one_more : count + 1 ≡ suc count = omega arith in ap (late_below hub slots) one_more
+      → late_below hub slots (count + 1) ≡ late_below hub slots count + is_one (late_in hub (slots count))
+  more_late slots count = count_more (λ key. late_in hub (slots key)) count
 
   module _ (count light late : ℕ) (old mid : Slots (BufferedStream T)) (below : TurnedBelow count light late old mid) where
     -- the slot at the key is as it was
@@ -133,8 +135,8 @@ module _ {T D : Type 0} {g : Ghosts D} (hub : Hub D g) (turns : Turns) where
 
     -- with the one at the key
     turned_more : (light' late' : ℕ) (new : Slots (BufferedStream T)) → slot_at new count ≡ turned_here (slot_at old count)
-        → ((other : ℕ) → other ≢ count → slot_at new other ≡ slot_at mid other) → light' ≡ light - light_in hub (slot_at old count)
-        → late' ≡ late - late_in hub (slot_at old count) → TurnedBelow (count + 1) light' late' old new
+        → ((other : ℕ) → other ≢ count → slot_at new other ≡ slot_at mid other) → light' ≡ light - is_one (light_in hub (slot_at old count))
+        → late' ≡ late - is_one (late_in hub (slot_at old count)) → TurnedBelow (count + 1) light' late' old new
     turned_more light' late' new here others less fewer = record {
       slots = λ key. elim (cases_eq key count) [
         | inl same ↦
@@ -144,29 +146,29 @@ module _ {T D : Type 0} {g : Ghosts D} (hub : Hub D g) (turns : Turns) where
             others key differs ∙ below.slots key
             ∙ ap (λ b. cond b (turned_slot (slot_at old) key) (slot_at old key)) (same_below key count differs)
       ];
-      light_is = left_less turns.width (light_below hub (slot_at old) count) (light_in hub (slot_at old count)) light light'
+      light_is = left_less turns.width (light_below hub (slot_at old) count) (is_one (light_in hub (slot_at old count))) light light'
           (light_below hub (slot_at old) (count + 1)) below.light_is less (more_light (slot_at old) count);
-      late_is = left_less (turns.width - 1) (late_below hub (slot_at old) count) (late_in hub (slot_at old count)) late late'
+      late_is = left_less (turns.width - 1) (late_below hub (slot_at old) count) (is_one (late_in hub (slot_at old count))) late late'
           (late_below hub (slot_at old) (count + 1)) below.late_is fewer (more_late (slot_at old) count);
     }
 
     pub turned_some : (light' late' : ℕ) (entry after : Entry (BufferedStream T)) → slot_at mid count ≡ Some entry
         → after ≡ in_turn entry.state (share_in_turn hub turns (nat_lt 0 light) (nat_lt 0 late) count entry) entry
-        → light' ≡ light - light_in hub (Some entry) → late' ≡ late - late_in hub (Some entry)
+        → light' ≡ light - is_one (light_in hub (Some entry)) → late' ≡ late - is_one (late_in hub (Some entry))
         → TurnedBelow (count + 1) light' late' old (set mid count (Some after))
     turned_some light' late' entry after is taken less fewer =
         let was : Some entry ≡ slot_at old count = sym is ∙ stood in
         turned_more light' late' (set mid count (Some after))
         (put_there mid count entry after is ∙ ap (λ (x : Entry (BufferedStream T)). Some x) taken ∙ ap turned_here was)
-        (λ other differs. get_or-set_other mid count other (Some after) None differs) (less ∙ ap (λ slot. light - light_in hub slot) was)
-        (fewer ∙ ap (λ slot. late - late_in hub slot) was)
+        (λ other differs. get_or-set_other mid count other (Some after) None differs) (less ∙ ap (λ slot. light - is_one (light_in hub slot)) was)
+        (fewer ∙ ap (λ slot. late - is_one (late_in hub slot)) was)
 
     pub turned_none : slot_at mid count ≡ None → TurnedBelow (count + 1) light late old mid
     turned_none is =
         let was : None ≡ slot_at old count = sym is ∙ stood in
         turned_more light late mid (is ∙ ap turned_here was) (λ other differs. refl)
-        (let same : light ≡ light - 0 = omega arith in same ∙ ap (λ slot. light - light_in hub slot) was)
-        (let same : late ≡ late - 0 = omega arith in same ∙ ap (λ slot. late - late_in hub slot) was)
+        (let same : light ≡ light - 0 = omega arith in same ∙ ap (λ slot. light - is_one (light_in hub slot)) was)
+        (let same : late ≡ late - 0 = omega arith in same ∙ ap (λ slot. late - is_one (late_in hub slot)) was)
 
 -- the same keys wait
 next_as : (waits then : ℕ → Bool) → ((key : ℕ) → waits key ≡ then key) → (last next : ℕ) → HasNextTurn waits last next → HasNextTurn then last next

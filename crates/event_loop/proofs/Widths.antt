@@ -1,4 +1,4 @@
--- How many more a turn might have driven, over whichever places it is counted: beyond the last entry none counts.
+-- Counts of the entries of a table, over whichever places: beyond the last entry none counts.
 use Rattle.std.proofs.Common.{◌≡◌, ℕ, zero, suc, ◌+◌, ◌-◌, ◌≤◌, List, [], ◌∷◌, Option, Some, None, refl, sym, ap}
 use Rattle.std.proofs.Common.{◌∙◌, arith}
 use Rattle.std.proofs.Common.{length, min, Bool, true, false, ◌==◌}
@@ -13,7 +13,7 @@ use Rattle.stream_driver.specs.declared.buffered.BufferedStream.{BufferedStream}
 use Rattle.stream_driver.specs.declared.entries.Entry.{Entry}
 use Rattle.event_loop.proofs.Slots.{Slots}
 use Rattle.event_loop.specs.Numbers.{HavePlaces}
-use Rattle.event_loop.specs.Order.{heavy_below, heavy_streams, is_one, late_below, late_in, light_below, light_in}
+use Rattle.event_loop.specs.Order.{count_below, heavy_streams, is_one, late_below, late_in, light_below, light_in}
 use Rattle.event_loop.specs.Order.{takes_turns, unused_in}
 use Rattle.event_loop.specs.Tables.{after_event, after_poll, reported_slot, slot_at}
 use Rattle.event_loop.specs.declared.order.Turns.{Turns}
@@ -45,24 +45,31 @@ vacant (Some entry) never = absurd (never entry refl)
 beyond_places : {T : Type 0} (slots : Slots T) → HavePlaces slots → (key : ℕ) → SESSIONS_MAX ≤ key → slot_at slots key ≡ None
 beyond_places slots places key beyond = vacant (slot_at slots key) (λ entry e. omega (arith, beyond, (places key entry e).place))
 
+-- ---- counts
+
+-- beyond the last that passes the count stays
+count_beyond : (passes : ℕ → Bool) (n k : ℕ) → ((i : ℕ) → n ≤ i → passes i ≡ false) → count_below passes (n + k) ≡ count_below passes n
+count_beyond passes n zero none = ap (count_below passes) (plus_none n)
+count_beyond passes n (suc k) none =
+    ap (count_below passes) (one_more n k) ∙ ap (λ b. count_below passes (n + k) + is_one b) (none (n + k) (further n k))
+    ∙ plus_none (count_below passes (n + k)) ∙ count_beyond passes n k none
+
+count_same : (passes : ℕ → Bool) (m n : ℕ) → ((i : ℕ) → m ≤ i → passes i ≡ false) → ((i : ℕ) → n ≤ i → passes i ≡ false)
+    → count_below passes m ≡ count_below passes n
+count_same passes m n beyond_m beyond_n =
+    sym (count_beyond passes m (n - m) beyond_m) ∙ ap (count_below passes) (greater m n) ∙ count_beyond passes n (m - n) beyond_n
+
+-- with the one at the key
+pub count_more : (passes : ℕ → Bool) (key : ℕ) → count_below passes (key + 1) ≡ count_below passes key + is_one (passes key)
+count_more passes key = ap (count_below passes) (next_key key)
+
 module _ {T : Type 0} where
-  heavy_beyond : (slots : ℕ → Option (Entry (BufferedStream T))) (n k : ℕ) → ((i : ℕ) → n ≤ i → slots i ≡ None)
-      → heavy_below slots (n + k) ≡ heavy_below slots n
-  heavy_beyond slots n zero none = ap (heavy_below slots) (plus_none n)
-  heavy_beyond slots n (suc k) none =
-      ap (heavy_below slots) (one_more n k) ∙ ap (λ slot. heavy_below slots (n + k) + is_one (takes_turns slot)) (none (n + k) (further n k))
-      ∙ plus_none (heavy_below slots (n + k)) ∙ heavy_beyond slots n k none
-
-  -- with the one at the key
-  pub heavy_more : (slots : ℕ → Option (Entry (BufferedStream T))) (key : ℕ)
-      → heavy_below slots (key + 1) ≡ heavy_below slots key + is_one (takes_turns (slots key))
-  heavy_more slots key = ap (heavy_below slots) (next_key key)
-
   -- over as many places as the table has
-  pub heavy_over : (slots : Slots (BufferedStream T)) (places : ℕ) → length slots ≤ places → heavy_below (slot_at slots) places ≡ heavy_streams slots
+  pub heavy_over : (slots : Slots (BufferedStream T)) (places : ℕ) → length slots ≤ places
+      → count_below (λ key. takes_turns (slot_at slots key)) places ≡ heavy_streams slots
   heavy_over slots places long =
-      ap (heavy_below (slot_at slots)) (as_far (length slots) places long)
-      ∙ heavy_beyond (slot_at slots) (length slots) (places - length slots) (λ i beyond. get_or-eq_default slots None beyond)
+      let none = λ (i : ℕ) beyond. ap takes_turns (get_or-eq_default slots None {i} beyond) in
+      count_same (λ key. takes_turns (slot_at slots key)) places (length slots) (λ i beyond. none i (omega (arith, long, beyond))) none
 
   none_reported : (same reads_on : Bool) → reported_slot {T = T} same reads_on None ≡ None
   none_reported true reads_on = refl
@@ -76,27 +83,13 @@ module _ {T : Type 0} where
 
 module _ {T D : Type 0} {g : Ghosts D} (hub : Hub D g) where
   module _ (slots : ℕ → Option (Entry (BufferedStream T))) where
-    light_beyond : (n k : ℕ) → ((i : ℕ) → n ≤ i → slots i ≡ None) → light_below hub slots (n + k) ≡ light_below hub slots n
-    light_beyond n zero none = ap (light_below hub slots) (plus_none n)
-    light_beyond n (suc k) none =
-        ap (light_below hub slots) (one_more n k) ∙ ap (λ slot. light_below hub slots (n + k) + light_in hub slot) (none (n + k) (further n k))
-        ∙ plus_none (light_below hub slots (n + k)) ∙ light_beyond n k none
-
-    late_beyond : (n k : ℕ) → ((i : ℕ) → n ≤ i → slots i ≡ None) → late_below hub slots (n + k) ≡ late_below hub slots n
-    late_beyond n zero none = ap (late_below hub slots) (plus_none n)
-    late_beyond n (suc k) none =
-        ap (late_below hub slots) (one_more n k) ∙ ap (λ slot. late_below hub slots (n + k) + late_in hub slot) (none (n + k) (further n k))
-        ∙ plus_none (late_below hub slots (n + k)) ∙ late_beyond n k none
-
     pub unused_same : (turns : Turns) (m n : ℕ) → ((i : ℕ) → m ≤ i → slots i ≡ None) → ((i : ℕ) → n ≤ i → slots i ≡ None)
         → unused_in hub turns slots m ≡ unused_in hub turns slots n
     unused_same turns m n beyond_m beyond_n =
-        let light : light_below hub slots m ≡ light_below hub slots n =
-        sym (light_beyond m (n - m) beyond_m) ∙ ap (light_below hub slots) (greater m n) ∙ light_beyond n (m - n) beyond_n in
-        let late : late_below hub slots m ≡ late_below hub slots n =
-        sym (late_beyond m (n - m) beyond_m) ∙ ap (late_below hub slots) (greater m n) ∙ late_beyond n (m - n) beyond_n in
-        ap (λ k. min (turns.width - k) (turns.width - 1 - late_below hub slots m)) light
-        ∙ ap (λ k. min (turns.width - light_below hub slots n) (turns.width - 1 - k)) late
+        let same = λ (passes : Option (Entry (BufferedStream T)) → Bool) (none : passes None ≡ false).
+        count_same (λ key. passes (slots key)) m n (λ i beyond. ap passes (beyond_m i beyond) ∙ none) (λ i beyond. ap passes (beyond_n i beyond) ∙ none) in
+        ap (λ k. min (turns.width - k) (turns.width - 1 - late_below hub slots m)) (same (light_in hub) refl)
+        ∙ ap (λ k. min (turns.width - light_below hub slots n) (turns.width - 1 - k)) (same (late_in hub) refl)
 
   -- over as many places as the table has
   pub unused_over : (turns : Turns) (slots : Slots (BufferedStream T)) (places : ℕ) → length slots ≤ places

@@ -43,6 +43,11 @@ ComesNearer waits last next key = HasNextTurn waits last next → last < SESSION
 abbrev pub is_one : Bool → ℕ
 is_one b = cond b 1 0
 
+-- how many of the keys below one pass
+abbrev pub count_below : (ℕ → Bool) → ℕ → ℕ
+count_below passes zero = 0
+count_below passes (suc key) = count_below passes key + is_one (passes key)
+
 module _ {T D : Type 0} {g : Ghosts D} (hub : Hub D g) where
   -- has the session's open transaction written, or did the last drive that answered it append a record?
   abbrev pub is_writer : Entry (BufferedStream T) → Bool
@@ -74,23 +79,21 @@ module _ {T D : Type 0} {g : Ghosts D} (hub : Hub D g) where
   abbrev pub is_late_entry : Entry (BufferedStream T) → Bool
   is_late_entry entry = not (is_writer entry) && is_late entry.stream
 
-  -- one that is to be driven counts
-  abbrev pub light_in : Option (Entry (BufferedStream T)) → ℕ
-  light_in None = 0
-  light_in (Some entry) = is_one (is_ready entry.state && is_light entry)
+  -- and is to be driven
+  abbrev pub light_in : Option (Entry (BufferedStream T)) → Bool
+  light_in None = false
+  light_in (Some entry) = is_ready entry.state && is_light entry
 
-  abbrev pub late_in : Option (Entry (BufferedStream T)) → ℕ
-  late_in None = 0
-  late_in (Some entry) = is_one (is_ready entry.state && is_late_entry entry)
+  abbrev pub late_in : Option (Entry (BufferedStream T)) → Bool
+  late_in None = false
+  late_in (Some entry) = is_ready entry.state && is_late_entry entry
 
   -- how many of these are below a key
   abbrev pub light_below : (ℕ → Option (Entry (BufferedStream T))) → ℕ → ℕ
-  light_below slots zero = 0
-  light_below slots (suc key) = light_below slots key + light_in (slots key)
+  light_below slots = count_below (λ key. light_in (slots key))
 
   abbrev pub late_below : (ℕ → Option (Entry (BufferedStream T))) → ℕ → ℕ
-  late_below slots zero = 0
-  late_below slots (suc key) = late_below slots key + late_in (slots key)
+  late_below slots = count_below (λ key. late_in (slots key))
 
   -- How many bytes it may be sent in this turn: a whole share where it takes turns and has this. A light one where it
   -- takes none, or is late, and is among so many that the turn drives; and none where it is passed over.
@@ -150,13 +153,9 @@ module _ {T : Type 0} where
   takes_turns None = false
   takes_turns (Some entry) = is_heavy entry.stream
 
-  -- how many of those below a key have streams that are heavy, and how many of all
-  abbrev pub heavy_below : (ℕ → Option (Entry (BufferedStream T))) → ℕ → ℕ
-  heavy_below slots zero = 0
-  heavy_below slots (suc key) = heavy_below slots key + is_one (takes_turns (slots key))
-
+  -- how many of them have streams that are heavy
   abbrev pub heavy_streams : List (Option (Entry (BufferedStream T))) → ℕ
-  heavy_streams slots = heavy_below (slot_at slots) (length slots)
+  heavy_streams slots = count_below (λ key. takes_turns (slot_at slots key)) (length slots)
 
   -- an entry that is ready has its share of the turn; or it is passed over, and waits with none
   abbrev pub in_turn : EntryState → Option ℕ → Entry (BufferedStream T) → Entry (BufferedStream T)

@@ -272,8 +272,8 @@ fn take_turn<D: Sectors>(
 ) -> Left
     ensures taken { entry.new ≡ in_turn entry.old.state
         (share_in_turn hub.now turns (nat_lt 0 left.light) (nat_lt 0 left.late) key entry.old) entry.old }
-    ensures light { result.light ≡ left.light - light_in hub.now (Some entry.old) }
-    ensures late { result.late ≡ left.late - late_in hub.now (Some entry.old) }
+    ensures light { result.light ≡ left.light - is_one (light_in hub.now (Some entry.old)) }
+    ensures late { result.late ≡ left.late - is_one (late_in hub.now (Some entry.old)) }
 {
     if entry.state != EntryState::Ready {
         return left;

@@ -2,9 +2,11 @@
 -- are left open, as the facts of a file are. The lemmas are to be cited only of the call that a proof is about, by the
 -- answers in `proofs/` of this crate.
 use Rattle.std.specs.Path.{path_parent}
-use Rattle.std.specs.Prelude.{◌⊎◌, ℕ, ℤ, pos, Bool, false, List, [], ◌∷◌, codes, Option, Some, None}
-use Rattle.std.specs.Prelude.{Result, Ok, Err, IfErr}
+use Rattle.std.specs.Prelude.{◌≡◌, ◌⊎◌, ◌<◌, ◌-◌, ◌^◌, ℕ, ℤ, pos, Bool, false, List, [], ◌∷◌, codes, Option, Some}
+use Rattle.std.specs.Prelude.{None}
+use Rattle.std.specs.Prelude.{Result, Ok, Err, IfErr, IsErr}
 use Rattle.std.specs.declared.io.Error.{Error}
+use Rattle.file_calls.specs.OpenFacts.{file_after_call}
 use Rattle.file_calls.specs.declared.counted.CountedFile.{CountedFile}
 use Rattle.file_calls.specs.declared.opened.OpenedFile.{OpenedFile}
 
@@ -79,6 +81,13 @@ WasSynced file ok = Unit {0}
 -- it was closed, and none was made since its last call
 pub WasClosed : CountedFile → Type 0
 WasClosed file = Unit {0}
+
+-- It was one call, and is counted. Where no more can be counted it fails without a call; else its error is the
+-- system's.
+pub record IsOneCall {A : Type 0} (old new : CountedFile) (result : Result A Error) : Type 0 where
+  pub next : new ≡ file_after_call old
+  pub over : old.calls ≡ 2 ^ 64 - 1 → IsErr result
+  pub error : old.calls < 2 ^ 64 - 1 → IfErr result (λ e. WasAnswered e)
 
 pub real_error : {A : Type 0} (answer : Result A Error) → IfErr answer (λ e. WasAnswered e)
 unfolding WasAnswered

@@ -1,5 +1,5 @@
 //! Reads, writes and syncs of an open file, each counted.
-ghost use Rattle.std.specs.Prelude.{◌≡◌, ◌<◌, ◌↔◌, ◌-◌, ◌^◌, IfErr, IsErr, replicate, is_ok};
+ghost use Rattle.std.specs.Prelude.{◌≡◌, ◌↔◌, ◌-◌, ◌^◌, IsErr, replicate, is_ok};
 
 use crate::opened::OpenedFile;
 use std::io::{self, ErrorKind, Read};
@@ -16,7 +16,7 @@ pub struct CountedFile {
 }
 
 impl CountedFile {
-    ghost use Rattle.file_calls.specs.HappenedCalls.{WasAnswered, WasClosed, WasRead, WasWritten, WasSynced};
+    ghost use Rattle.file_calls.specs.HappenedCalls.{IsOneCall, WasClosed, WasRead, WasWritten, WasSynced};
     ghost use Rattle.file_calls.specs.OpenFacts.{file_after_call};
 
     /// An opened file, of so many sectors, of which no call was made. Takes no memory.
@@ -48,10 +48,8 @@ impl CountedFile {
 
     /// Reads bytes from this offset on. Answers the system's error, and `UnexpectedEof` where the file ends before. Takes no memory.
     pub fn read(&mut self, offset: u64, into: &mut [u8]) -> io::Result<()>
-        ensures next { self.new ≡ file_after_call self.old }
-        ensures over { self.old.calls ≡ 2 ^ 64 - 1 → IsErr result }
+        ensures one_call { IsOneCall self.old self.new result }
         ensures happened { WasRead self.old offset into.new (is_ok result) }
-        ensures error { self.old.calls < 2 ^ 64 - 1 → IfErr result (λ e. WasAnswered e) }
     {
         self.count_call()?;
         self.file.file.read_exact_at(into, offset)
@@ -59,10 +57,8 @@ impl CountedFile {
 
     /// Writes bytes from this offset on. Answers the system's error. Takes no memory.
     pub fn write(&mut self, offset: u64, from: &[u8]) -> io::Result<()>
-        ensures next { self.new ≡ file_after_call self.old }
-        ensures over { self.old.calls ≡ 2 ^ 64 - 1 → IsErr result }
+        ensures one_call { IsOneCall self.old self.new result }
         ensures happened { WasWritten self.old offset from.now (is_ok result) }
-        ensures error { self.old.calls < 2 ^ 64 - 1 → IfErr result (λ e. WasAnswered e) }
     {
         self.count_call()?;
         self.file.file.write_all_at(from, offset)
@@ -70,10 +66,8 @@ impl CountedFile {
 
     /// Settles what was written. Answers the system's error. Takes no memory.
     pub fn sync(&mut self) -> io::Result<()>
-        ensures next { self.new ≡ file_after_call self.old }
-        ensures over { self.old.calls ≡ 2 ^ 64 - 1 → IsErr result }
+        ensures one_call { IsOneCall self.old self.new result }
         ensures happened { WasSynced self.old (is_ok result) }
-        ensures error { self.old.calls < 2 ^ 64 - 1 → IfErr result (λ e. WasAnswered e) }
     {
         self.count_call()?;
         self.file.file.sync_data()
@@ -82,10 +76,8 @@ impl CountedFile {
     /// Writes so many zeros from the beginning of a new file on, so that the file system gives it its blocks now. Answers the system's
     /// error. Takes no memory.
     pub fn write_zeros(&mut self, len: u64) -> io::Result<()>
-        ensures next { self.new ≡ file_after_call self.old }
-        ensures over { self.old.calls ≡ 2 ^ 64 - 1 → IsErr result }
+        ensures one_call { IsOneCall self.old self.new result }
         ensures happened { WasWritten self.old 0 (replicate len 0) (is_ok result) }
-        ensures error { self.old.calls < 2 ^ 64 - 1 → IfErr result (λ e. WasAnswered e) }
     {
         self.count_call()?;
         let _written = io::copy(&mut io::repeat(0).take(len), &mut &self.file.file)?;
@@ -94,10 +86,8 @@ impl CountedFile {
 
     /// Settles what was written, and the file's size and times with it. Answers the system's error. Takes no memory.
     pub fn sync_all(&mut self) -> io::Result<()>
-        ensures next { self.new ≡ file_after_call self.old }
-        ensures over { self.old.calls ≡ 2 ^ 64 - 1 → IsErr result }
+        ensures one_call { IsOneCall self.old self.new result }
         ensures happened { WasSynced self.old (is_ok result) }
-        ensures error { self.old.calls < 2 ^ 64 - 1 → IfErr result (λ e. WasAnswered e) }
     {
         self.count_call()?;
         self.file.file.sync_all()

@@ -1,5 +1,5 @@
 //! Sweeps runs that have forgotten numbers and later ones: it drops the elements with the former.
-ghost use Rattle.std.specs.Prelude.{◌≡◌, ◌≤◌, ◌<◌, ◌+◌, ◌-◌, ◌^◌, IfSome, nat_le, map, All, None};
+ghost use Rattle.std.specs.Prelude.{◌≡◌, ◌≤◌, ◌<◌, ◌-◌, ◌^◌, IfSome, nat_le, map, All, None};
 ghost use Rattle.std.specs.List.{position};
 ghost use Rattle.merging_runs.specs.RunSizes.{left_above};
 ghost use Rattle.merging_runs.specs.Value.{LooksAt, LooksFor, size_partial, size_old};

@@ -4,5 +4,6 @@ pub mod Counts
 pub mod Settled
 pub mod FileModel
 pub mod FileOpening
+pub mod FileCalls
 pub mod Slots
 pub mod FileDevices

@@ -195,6 +195,7 @@ fn settle_zeros<R: Files<File = File>>(
 impl Sectors for FileSectors {
     ghost use Rattle.file_calls.specs.OpenFacts as facts;
     ghost use Rattle.sector.specs.FileModel.{FileKeepsModel};
+    ghost use Rattle.sector.specs.FileCalls.{MakesOneCall};
 
     ghost size = { λ f. f.file.sectors };
 
@@ -225,10 +226,8 @@ impl Sectors for FileSectors {
     /// It makes one call of the file: one that failed isn't tried again.
     fn read(&mut self, at: u64, into: &mut Sector) -> Result<(), DeviceFault>
         requires { at ≤ self.old.file.sectors }
-        ensures syncs { self.new.syncs ≡ self.old.syncs }
-        ensures failures { IsCounted result self.old.failures self.new.failures }
+        ensures one_call { MakesOneCall self.old self.new result }
         ensures long { length into.new ≡ SECTOR_SIZE }
-        ensures one_call { self.new.file ≡ file_after_call self.old.file }
         ensures happened { ReportsOutcome result self.old.failures (WasRead self.old.file (at * SECTOR_SIZE) into.new) }
     {
         self.read_sectors(at, into)
@@ -237,10 +236,8 @@ impl Sectors for FileSectors {
     /// It makes one call of the file: one that failed isn't tried again.
     fn write(&mut self, at: u64, from: &Sector) -> Result<(), DeviceFault>
         requires { at ≤ self.old.file.sectors }
-        ensures syncs { self.new.syncs ≡ self.old.syncs }
-        ensures failures { IsCounted result self.old.failures self.new.failures }
+        ensures one_call { MakesOneCall self.old self.new result }
         ensures long { length from.now ≡ SECTOR_SIZE }
-        ensures one_call { self.new.file ≡ file_after_call self.old.file }
         ensures happened { ReportsOutcome result self.old.failures
             (WasWritten self.old.file (at * SECTOR_SIZE) from.now) }
     {
@@ -250,10 +247,8 @@ impl Sectors for FileSectors {
     /// It makes one call of the file: one that failed isn't tried again.
     fn read_sectors(&mut self, at: u64, into: &mut [u8]) -> Result<(), DeviceFault>
         requires { at ≤ self.old.file.sectors }
-        ensures syncs { self.new.syncs ≡ self.old.syncs }
-        ensures failures { IsCounted result self.old.failures self.new.failures }
+        ensures one_call { MakesOneCall self.old self.new result }
         ensures long { length into.new ≡ length into.old }
-        ensures one_call { self.new.file ≡ file_after_call self.old.file }
         ensures happened { ReportsOutcome result self.old.failures (WasRead self.old.file (at * SECTOR_SIZE) into.new) }
     {
         let outcome = self.file.read(at * SECTOR_SIZE as u64, into);
@@ -263,9 +258,7 @@ impl Sectors for FileSectors {
     /// It makes one call of the file: one that failed isn't tried again.
     fn write_sectors(&mut self, at: u64, from: &[u8]) -> Result<(), DeviceFault>
         requires { at ≤ self.old.file.sectors }
-        ensures syncs { self.new.syncs ≡ self.old.syncs }
-        ensures failures { IsCounted result self.old.failures self.new.failures }
-        ensures one_call { self.new.file ≡ file_after_call self.old.file }
+        ensures one_call { MakesOneCall self.old self.new result }
         ensures happened { ReportsOutcome result self.old.failures
             (WasWritten self.old.file (at * SECTOR_SIZE) from.now) }
     {

@@ -1,5 +1,5 @@
 //! The hub: the sessions that are present, over one engine, one event at a time.
-ghost use Rattle.std.specs.Prelude.{◌≡◌, ◌↔◌, ◌≤◌, ℕ, true, false, [], length, map};
+ghost use Rattle.std.specs.Prelude.{◌≡◌, ◌↔◌, ◌≤◌, true, false, [], length, map};
 ghost use Rattle.engine.specs.Changes.{UsesLogOnce};
 ghost use Rattle.engine.specs.Meaning.{IsReadOnly, StandsFor as EngineStandsFor, device_of};
 ghost use Rattle.model.specs.Laws.{IsOrderedByPlace};
@@ -13,7 +13,7 @@ ghost use Rattle.sessions.specs.OneOrder.{RestartsHaveOneHistory};
 ghost use Rattle.sessions.specs.Readings.{RunsHaveOneReading};
 ghost use Rattle.sessions.specs.SessionStreams.{HubState, is_above, hub_over, Joins, Receives, Serves, Sends, Leaves};
 ghost use Rattle.sessions.specs.StandsFor.{HubLeads, StandsFor, event_of, status_of, room_of, pending_of, device};
-ghost use Rattle.sessions.specs.StandsFor.{AsksDevice, CountsRecords, failures, has_written, is_stopped, log};
+ghost use Rattle.sessions.specs.StandsFor.{AsksDevice, CountsRecords, failures, has_written, log};
 ghost use Rattle.sessions.specs.StandsFor.{records_of};
 
 use crate::events::{Event, Outcome, SESSIONS_MAX, SessionView, Status};

@@ -1,7 +1,7 @@
 //! Executes one request of a session, and writes its reply to the session's output.
 ghost use Rattle.std.specs.Prelude.{◌≡◌, ◌≤◌, [], false};
 ghost use Rattle.model.specs.declared.values.TheConstants.{PAIRS_MAX};
-ghost use Rattle.model.specs.KeyBytes.{key_bytes, end_bytes};
+ghost use Rattle.model.specs.KeyBytes.{key_bytes};
 ghost use Rattle.model.specs.Operations.{operation_of, IsFit};
 ghost use Rattle.model.specs.Operations.Operation.{Get, Range, Abort as ToAbort, Commit as ToCommit};
 ghost use Rattle.model.specs.Operations.Response.{Done};

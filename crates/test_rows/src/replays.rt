@@ -13,7 +13,7 @@ type Contents = BTreeMap<Text, Text>;
 
 /// What a transaction asks between its BEGIN and its COMMIT.
 #[derive(Clone, Copy)]
-enum Asked {
+enum Request {
     Get(Text),
     Set(Text, Text),
     Del(Text),
@@ -26,21 +26,21 @@ enum Asked {
 struct Transaction {
     begin: u64,
     commit: u64,
-    steps: Vec<(Asked, Text)>,
+    steps: Vec<(Request, Text)>,
 }
 
-fn parsed(request: Text) -> Asked {
+fn parsed(request: Text) -> Request {
     let mut words = request.split_whitespace();
     let name = words.next().unwrap_or("");
     let key = words.next().unwrap_or("");
     let other = words.next().unwrap_or("");
     let limit = words.next().unwrap_or("");
     match name {
-        "GET" => Asked::Get(key),
-        "SET" => Asked::Set(key, other),
-        "DEL" => Asked::Del(key),
-        "RANGE" => Asked::Range(key, other, limit.parse::<usize>().unwrap_or(0)),
-        _ => Asked::Other,
+        "GET" => Request::Get(key),
+        "SET" => Request::Set(key, other),
+        "DEL" => Request::Del(key),
+        "RANGE" => Request::Range(key, other, limit.parse::<usize>().unwrap_or(0)),
+        _ => Request::Other,
     }
 }
 
@@ -101,15 +101,15 @@ fn committed(alloc: Global, row: &[Line]) -> Result<Vec<Transaction>, AllocError
 }
 
 /// The key that a request writes.
-fn written_key(asked: Asked) -> Option<Text> {
-    match asked {
-        Asked::Set(key, _) => Some(key),
-        Asked::Del(key) => Some(key),
+fn written_key(request: Request) -> Option<Text> {
+    match request {
+        Request::Set(key, _) => Some(key),
+        Request::Del(key) => Some(key),
         _ => None,
     }
 }
 
-fn is_written(steps: &[(Asked, Text)], key: Text) -> bool {
+fn is_written(steps: &[(Request, Text)], key: Text) -> bool {
     steps.iter().any(|step| written_key(step.0) == Some(key))
 }
 
@@ -133,11 +133,11 @@ fn is_in_reach(lo: Text, hi: Text, limit: usize, reply: Text, key: Text) -> bool
 }
 
 /// Does the transaction read the key of the map that it began with?
-fn is_read(steps: &[(Asked, Text)], key: Text) -> bool {
+fn is_read(steps: &[(Request, Text)], key: Text) -> bool {
     for (i, step) in steps.iter().enumerate() {
         let reads = match step.0 {
-            Asked::Get(k) => k == key && !is_written(&steps[..i], key),
-            Asked::Range(lo, hi, limit) => is_in_reach(lo, hi, limit, step.1, key),
+            Request::Get(k) => k == key && !is_written(&steps[..i], key),
+            Request::Range(lo, hi, limit) => is_in_reach(lo, hi, limit, step.1, key),
             _ => false,
         };
         if reads {
@@ -204,24 +204,24 @@ fn least(places: &[(u64, u64, u64)]) -> Option<usize> {
 }
 
 /// What the map answers to a request, which may change it.
-fn answer(alloc: Global, map: &mut Contents, asked: Asked) -> Result<String, AllocError> {
-    match asked {
-        Asked::Get(key) => match map.get(key) {
+fn answer(alloc: Global, map: &mut Contents, request: Request) -> Result<String, AllocError> {
+    match request {
+        Request::Get(key) => match map.get(key) {
             Some(value) => format!(in alloc; "${} {value}", value.len()),
             None => format!(in alloc; "$-1"),
         },
-        Asked::Set(key, value) => {
+        Request::Set(key, value) => {
             if map.insert(key, value).is_err() {
                 return Err(AllocError);
             }
             format!(in alloc; "+OK")
         }
-        Asked::Del(key) => {
+        Request::Del(key) => {
             map.remove(key);
             format!(in alloc; "+OK")
         }
-        Asked::Range(lo, hi, limit) => range(alloc, map, lo, hi, limit),
-        Asked::Other => format!(in alloc; "?"),
+        Request::Range(lo, hi, limit) => range(alloc, map, lo, hi, limit),
+        Request::Other => format!(in alloc; "?"),
     }
 }
 
@@ -276,7 +276,7 @@ fn replay(alloc: Global, all: &[Transaction]) -> Result<Replayed, AllocError> {
 fn first_other_reply(
     alloc: Global,
     map: &mut Contents,
-    steps: &[(Asked, Text)],
+    steps: &[(Request, Text)],
 ) -> Result<Option<String>, AllocError> {
     for step in steps {
         let reply = answer(alloc, map, step.0)?;

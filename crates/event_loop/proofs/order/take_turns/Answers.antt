@@ -6,7 +6,7 @@ use Rattle.slab.specs.Slab.{Slab}
 use Rattle.stream_driver.specs.declared.buffered.BufferedStream.{BufferedStream}
 use Rattle.stream_driver.specs.declared.entries.Entry.{Entry}
 use Rattle.event_loop.proofs.Widths.{unused_over}
-use Rattle.event_loop.specs.Order.{late_in, light_below, light_in}
+use Rattle.event_loop.specs.Order.{is_one, late_in, light_below, light_in}
 use Rattle.event_loop.specs.Tables.{slot_at}
 use Rattle.event_loop.specs.declared.socket.Socket.{Socket}
 
@@ -19,9 +19,9 @@ loop-key-preserved g c =
     let left = c.loop-key.left in
     elim c.match-get_mut.branch [
       | in-Some w ↦
-          let less : c.match-get_mut.left.light ≡ left.light - light_in hub (Some w.in-Some.entry.now) =
+          let less : c.match-get_mut.left.light ≡ left.light - is_one (light_in hub (Some w.in-Some.entry.now)) =
           ap (λ l. l.light) w.left-is ∙ w.take_turn-left.ensures.light in
-          let fewer : c.match-get_mut.left.late ≡ left.late - late_in hub (Some w.in-Some.entry.now) =
+          let fewer : c.match-get_mut.left.late ≡ left.late - is_one (late_in hub (Some w.in-Some.entry.now)) =
           ap (λ l. l.late) w.left-is ∙ w.take_turn-left.ensures.late in
           subst (λ (t : Slab (Entry (BufferedStream Socket))). TurnedBelow hub c.args.turns (key + 1) c.match-get_mut.left.light
           c.match-get_mut.left.late old t.slots) (sym w.table-is)

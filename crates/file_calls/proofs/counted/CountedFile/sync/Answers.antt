@@ -1,11 +1,12 @@
 use Rattle.file_calls.proofs.counted.CountedFile.sync.Goals as goal
+use Rattle.std.proofs.Common.{rules}
 use Rattle.file_calls.specs.HappenedCalls.{real_error, real_sync}
 
 pub returns-clause-happened : goal.returns-clause-happened
 returns-clause-happened c = real_sync _ _
 
-pub returns-clause-error : goal.returns-clause-error
-returns-clause-error c _ = real_error _
+pub returns-clause-one_call : goal.returns-clause-one_call
+returns-clause-one_call c = record { next = c.count_call.ensures.next; over = search rules; error = λ _. real_error _ }
 
 -- no call was made
 pub returns-in_err-count_call-clause-happened : goal.returns-in_err-count_call-clause-happened

@@ -27,10 +27,10 @@ write-tells x c =
     let keep : FileKeepsModel → WriteKeeps c.args.self.now.file c.args.at c.args.from.now c.ensures.happened.0 =
     λ keeps. keeps.writes _ _ _ _ c.ensures.happened.1 in
     record {
-      counts = record { sectors = search rules; synced = c.ensures.syncs };
-      failures = c.ensures.failures;
+      counts = record { sectors = search rules; synced = c.ensures.one_call.syncs };
+      failures = c.ensures.one_call.failures;
       written = λ keeps. grind (arith, common_steps, written_one _ _ _ _ c.ensures.long (keep keeps));
       others = grind (arith, common_steps);
-      crash = λ keeps. rw c.ensures.one_call (follows_one _ _ _ _ c.ensures.long (keep keeps));
+      crash = λ keeps. rw c.ensures.one_call.file (follows_one _ _ _ _ c.ensures.long (keep keeps));
       time = search rules;
     }
