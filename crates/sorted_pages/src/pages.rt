@@ -22,7 +22,8 @@ use std::alloc::{AllocError, Global};
 use std::marker::Model;
 
 /// A map from keys to values of `V`, in pages. A clause sees the pages, each its entries and its room; `entries` of them is the map's
-/// entries by strictly rising key. Each place takes what an entry does and a byte, which says whether its value may show.
+/// entries by strictly rising key. Each place takes what an entry does and a byte, which says whether its value may show. Each page takes
+/// some 200 bytes besides.
 #[derive(Drop)]
 pub struct SortedPages<V: Versioned> {
     pages: PageList<V>,
@@ -115,7 +116,8 @@ impl<V: Versioned> SortedPages<V> {
     /// Lends the entries of the range of which the number sees something, by rising key. A page is passed over in one step where all
     /// of its values came after the number, where none of them shows and the last of their changes came before it, or where none showed
     /// at the number, though they were set again: of such times it knows the last, and three from before in which some of the numbers
-    /// lay that the page's values were trimmed for last. Of the others the entries at the front that no number sees are passed over,
+    /// lay that the page's values were trimmed for last. The last of these stand side by side, in 16 bytes for each page, and where the
+    /// number is in one of them, the page itself isn't read. Of the others the entries at the front that no number sees are passed over,
     /// and, by a number that isn't below the last change of the page's values, each of which the page knows that its value doesn't show.
     /// The first page of the range and that of its end are looked at. Takes no memory.
     pub fn range(&self, range: RangeRef<'_>, number: u64) -> Entries<'_, V>
