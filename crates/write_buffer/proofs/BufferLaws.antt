@@ -2,11 +2,12 @@
 use Rattle.std.proofs.Common.{◌≡◌, ℕ, ◌+◌, ◌<◌, ◌≤◌, Bool, true, false, not, cond, ◌&&◌, List, [], ◌∷◌, length}
 use Rattle.std.proofs.Common.{get_or, set, Option, Some, refl, sym, ap, subst, ◌∙◌, arith}
 use Rattle.std.proofs.lemmas.Bool.{both_ways, ltb-true}
+use Rattle.std.proofs.lemmas.Bool.Decides.{nat_tests}
 use Rattle.std.specs.Cmp.Lexicographic.{slice_cmp, nat_list_cmp_total}
 use Rattle.std.specs.FinMap.Entries.{put, by_order, is_sorted-put, length-put}
 use Rattle.std.specs.List.{AllByRecursion, insert}
 use Rattle.std.specs.Ordering.{nat_cmp}
-use Rattle.std.specs.Prelude.{nat_lt, is_some}
+use Rattle.std.specs.Prelude.{nat_lt, is_some, is_err, IfOk, IfErr, Result, Ok, Err, None}
 use Rattle.std.specs.declared.cmp.Ordering.TheVariants.{Less, Equal, Greater}
 use Rattle.model.specs.Entries.{IsAt, IsGap}
 use Rattle.model.specs.Map.{Bytes, KeyWrite, key_cmp}
@@ -39,6 +40,14 @@ entries-put k v ws h p room = record {
 -- the write is there
 pub not_full : (ws : List KeyWrite) (k : Bytes) (o : Option Bytes) → last_write ws k ≡ Some o → is_full_for_key ws k ≡ false
 not_full ws k o e = ap (λ w. not (is_some w) && not (nat_lt (length ws) 64)) e
+
+-- where there is no place left, by how a search came out
+pub full_by : (ws : List KeyWrite) (k : Bytes) (r : Result ℕ ℕ) → IfOk r (IsAt ws k) → IfErr r (IsGap ws k) → 64 ≤ length ws
+    → is_err r ≡ is_full_for_key ws k
+full_by ws k (Ok i) at gap many = sym (not_full ws k _ (at.found ([], None)))
+full_by ws k (Err i) at gap many =
+    let none : is_some (last_write ws k) ≡ false = ap is_some gap.absent in
+    grind (arith, none, nat_tests)
 
 pub set_there : (ws us : List KeyWrite) (k j : Bytes) (i : ℕ) (e f : KeyWrite) (v : Option Bytes) → us ≡ ws → IsAt ws k i → k ≡ j → e ≡ get_or us i e
     → f ≡ (e.0, v) → set us i f ≡ put (slice_cmp nat_cmp) j v ws

@@ -103,10 +103,7 @@ impl WriteBuffer {
         ensures full { result ≡ is_full_for_key self.now key.entry.bytes.now }
         ensures entries { AreEntries self.now }
     {
-        match self.search(key.bytes()) {
-            Ok(_) => false,
-            Err(_) => self.entries.len() >= WRITES_MAX,
-        }
+        self.entries.len() >= WRITES_MAX && self.search(key.bytes()).is_err()
     }
 
     // Puts the value to the key, for which there is room.
