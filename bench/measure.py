@@ -47,8 +47,8 @@ CONNECTIONS = (1, 2, 4, 8, 16, 32, 64, 128)
 OPEN_MAX = 64
 FIGURES = ("rate", "p50_us", "p99_us", "p999_us", "refused", "busy")
 ONE, PIPELINED = "one request at a time", "pipelined"
-GROWTH_ROWS = {"fill": (10_000, 100_000, 1_000_000), "insert": (10_000, 100_000, 1_000_000), "read": (10_000, 100_000, 1_000_000),
-               "deleted": (10_000, 100_000, 1_000_000), "old_end": (10_000, 100_000, 1_000_000), "old_commit": (10_000,)}
+SIZES = (10_000, 100_000, 1_000_000)
+GROWTH_ROWS = {"fill": SIZES, "insert": SIZES, "read": SIZES, "deleted": SIZES, "old_reader": SIZES, "old_end": SIZES, "old_commit": (10_000,)}
 ALLOCATORS = ["C library", "mxfast=0, trim_threshold=131072", "trim_threshold=1000000000", "jemalloc", "jemalloc, decay at once"]
 # A scene with a longer pause is measured again, so often in all: what a hypervisor takes counts as CPU time of the thread as well, so other
 # work of the host can only lengthen a pause.
@@ -219,7 +219,7 @@ def growth(options):
 
 
 def opening(options):
-    scale(options, "opening", {"start": (10_000, 100_000, 1_000_000)})
+    scale(options, "opening", {"start": SIZES})
 
 
 def copies(options):

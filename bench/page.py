@@ -182,6 +182,9 @@ GROWTH = (
     ("read", "get_us", "GET among N keys, us"),
     ("read", "range_100_us", "RANGE of 100 among N keys, us"),
     ("deleted", "range_1_us", "RANGE of 1 over N deleted keys, us"),
+    ("deleted", "cpu_range_1_us", "the same, CPU time, us"),
+    ("old_reader", "cpu_range_1_beside_us", "the same, while a transaction from before is open, CPU time, us"),
+    ("old_reader", "cpu_own_range_1_us", "RANGE of 1 of that one over N keys that came after its begin, CPU time, us"),
     ("old_end", "old_end_ms", "end of a transaction that saw N older versions, ms"),
     ("old_commit", "old_commit_ms", "COMMIT of an old transaction after N commits of 64 keys, ms"),
 )

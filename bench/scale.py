@@ -16,8 +16,9 @@ The rows, and the figures of each. Times are the client's wall-clock; those with
                and a COMMIT of 64 of them
     rewrite    a store of N keys: a written key in commits of 64, and alone in its commit
     read       a store of N keys: GET, and RANGE with limit 100
-    deleted    RANGE with limit 1 over N deleted keys, and with 64 own writes before them and limit 65
-    old_reader RANGE with limit 1 over N keys deleted while an old transaction is open, and that one's own over N keys that came after its begin
+    deleted    RANGE with limit 1 over N deleted keys, also by the server's CPU time, and with 64 own writes before them and limit 65
+    old_reader RANGE with limit 1 over N keys deleted while an old transaction is open, and that one's own over N keys that came after its begin, both
+               also by the server's CPU time
     old_commit the COMMIT of a transaction with 64 writes and 256 range marks after N commits of 64 other keys
     old_end    the COMMIT of a transaction that wrote nothing, after which the older versions of N keys are dropped
     read_only  N commits that only read, each with 256 marks over 1,000 keys, while a transaction is open: how much the server grows
@@ -42,6 +43,8 @@ from stores import COMMIT_WRITES, Client, Store, before_all, map_keys, scattered
 LONG_SIZES, SHORT_SIZES = (10_000, 100_000, 1_000_000), (1_000, 10_000, 100_000)
 QUICK_LONG_SIZES, QUICK_SHORT_SIZES = (10_000, 100_000), (1_000, 10_000)
 GROWTH_LIMIT_BYTES = 1 << 30
+# How often a range is asked for, all in one transaction, for which they are one mark.
+RANGES = 100
 
 
 class Work:
@@ -159,6 +162,18 @@ def row_read(options, keys):
                 "range_100_us": us(statistics.median(ranges.times)), "cpu_range_100_us": ranges.us_per(1)[1], **ranges.cut()}
 
 
+def ranges(server, options, client, request, wanted):
+    """A range, asked for again and again: its work. Where it is known, the reply has these keys and values."""
+    def one(_):
+        begun = time.perf_counter()
+        pairs = client.ask(request)
+        if wanted is not None and not wanted(pairs):
+            raise Failure(f"a range gave {pairs[:4]!r}, in all {len(pairs) // 2} pairs")
+        return time.perf_counter() - begun
+
+    return Work(server, options, RANGES).do(one)
+
+
 def row_deleted(options, keys):
     rounds = -(-keys // COMMIT_WRITES)
     last = b"~last"
@@ -174,21 +189,16 @@ def row_deleted(options, keys):
         work = Work(server, options, rounds).do(delete)
         own = map_keys(before_all, 0)
 
-        def ranges(limit, wanted):
-            request, times = frame(b"RANGE", b"!", b"", b"%d" % limit), []
-            for _ in range(5):
-                begun = time.perf_counter()
-                pairs = client.ask(request)
-                times.append(time.perf_counter() - begun)
-                if not work.cut() and (len(pairs) != 2 * limit or pairs[-2] != wanted):
-                    raise Failure(f"a range over deleted keys gave {len(pairs)} values")
-            return statistics.median(times)
+        def up_to_last(limit):
+            wanted = None if work.cut() else lambda pairs: len(pairs) == 2 * limit and pairs[-2] == last
+            return ranges(server, options, client, frame(b"RANGE", b"!", b"", b"%d" % limit), wanted)
 
         client.ask(BEGIN)
-        bare = ranges(1, last)
+        bare = up_to_last(1)
         client.ask_lines(sets(own), len(own))
-        covered = ranges(1 + len(own), last)
-        return {"range_1_us": us(bare), "range_after_64_own_writes_us": us(covered), **work.cut()}
+        covered = up_to_last(1 + len(own))
+        return {"range_1_us": us(statistics.median(bare.times)), "cpu_range_1_us": bare.us_per(1)[1],
+                "range_after_64_own_writes_us": us(statistics.median(covered.times)), **work.cut()}
 
 
 def row_old_reader(options, keys):
@@ -208,23 +218,17 @@ def row_old_reader(options, keys):
             client.ask_lines(BEGIN + b"".join(frame(b"DEL", key) for key in deleted) + COMMIT, 2 + len(deleted))
             return 0.0
 
-        def range_us(session, start, end, wanted):
-            times = []
-            for _ in range(5):
-                begun = time.perf_counter()
-                pairs = session.ask(frame(b"RANGE", start, end, b"1"))
-                times.append(time.perf_counter() - begun)
-                if wanted is not None and pairs[::2] != wanted:
-                    raise Failure(f"a range with an old transaction open gave {pairs!r}")
-            return us(statistics.median(times))
+        def one_pair(client, start, end, keys):
+            return ranges(server, options, client, frame(b"RANGE", start, end, b"1"), None if keys is None else lambda pairs: pairs[::2] == keys)
 
         deleting = Work(server, options, rounds).do(delete)
         client.ask(BEGIN)
-        young = range_us(client, b"!", b"", None if deleting.cut() else [last])
+        young = one_pair(client, b"!", b"", None if deleting.cut() else [last])
         client.ask(COMMIT)
         coming = Work(server, options, rounds).do(lambda number: client.commit(some(before_all, number)))
-        own = range_us(old, b"!", b"0", [])
-        return {"range_1_beside_us": young, "own_range_1_us": own, **(deleting.cut() or coming.cut())}
+        own = one_pair(old, b"!", b"0", [])
+        return {"range_1_beside_us": us(statistics.median(young.times)), "cpu_range_1_beside_us": young.us_per(1)[1],
+                "own_range_1_us": us(statistics.median(own.times)), "cpu_own_range_1_us": own.us_per(1)[1], **(deleting.cut() or coming.cut())}
 
 
 def row_old_commit(options, commits):
