@@ -68,8 +68,9 @@ module _ {T : Type 0} where
   pub heavy_over : (slots : Slots (BufferedStream T)) (places : ℕ) → length slots ≤ places
       → count_below (λ key. takes_turns (slot_at slots key)) places ≡ heavy_streams slots
   heavy_over slots places long =
-      let none = λ (i : ℕ) beyond. ap takes_turns (get_or-eq_default slots None {i} beyond) in
-      count_same (λ key. takes_turns (slot_at slots key)) places (length slots) (λ i beyond. none i (omega (arith, long, beyond))) none
+      count_same (λ key. takes_turns (slot_at slots key)) places (length slots)
+      (λ i beyond. ap takes_turns (get_or-eq_default slots None (omega (arith, long, beyond))))
+      (λ i beyond. ap takes_turns (get_or-eq_default slots None beyond))
 
   none_reported : (same reads_on : Bool) → reported_slot {T = T} same reads_on None ≡ None
   none_reported true reads_on = refl
