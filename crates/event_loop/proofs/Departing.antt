@@ -27,7 +27,7 @@ use Rattle.stream_driver.proofs.Carry.{run_then}
 use Rattle.stream_driver.proofs.Sends.{all_before, all_since, answered_since, answered_then, begins_through}
 use Rattle.stream_driver.proofs.States.{at_point, point_of}
 use Rattle.stream_driver.specs.Buffers.{buffered_in, has_had_share, is_flushed_or_failed, traffic_through}
-use Rattle.stream_driver.specs.Entries.{DrivenAll, EndsDrive, HaveSessions, is_gone, is_over}
+use Rattle.stream_driver.specs.Entries.{DrivenThen, EndsDrive, HaveSessions, is_gone, is_over}
 use Rattle.stream_driver.specs.Sends.{WereAnsweredBefore, HasSent, HaveSent, IsAnswered}
 use Rattle.stream_driver.specs.Sessions.{Adds, Point, StandsAt}
 use Rattle.stream_driver.specs.Traffic.{Departure, DepartAt, IsBeginning, Traffic}
@@ -40,7 +40,7 @@ use Rattle.event_loop.proofs.FoundCommits.{finds, low, run_base}
 use Rattle.event_loop.proofs.GoneSessions.{Grows, HasLeft, left_on, run_grows}
 use Rattle.event_loop.proofs.Ordering.{turns_taken}
 use Rattle.event_loop.proofs.Polled.{each_rest, gone_at, TakesTurns, was_driven, was_gone, was_polled}
-use Rattle.event_loop.proofs.TableBytes.{driven_left, driven_was, drives_bytes, finished, polled_bytes}
+use Rattle.event_loop.proofs.TableBytes.{drives_bytes, finished, polled_bytes, then_left, then_was}
 use Rattle.event_loop.proofs.WholeTurns.{all_found, each_bytes, new_begins}
 use Rattle.event_loop.specs.Departures.{EntriesWereAnswered, HoldsAtEnds, IsCommitted, IsAfterCommits}
 use Rattle.event_loop.specs.Departures.{IsDepartureKept}
@@ -50,6 +50,7 @@ use Rattle.event_loop.specs.Leavings.{EndAll, EndEach, LeavesAs, LeavesIf}
 use Rattle.event_loop.specs.Leavings.EndEach.{NoneEnded, OneMore as OneEnded}
 use Rattle.event_loop.specs.Lingerings.{AllTurned, AreTurned, DropsInput, Lingerers, TurnedIf, LingersOrCloses}
 use Rattle.event_loop.specs.Sockets.{IsNewSocket, SocketsReport, socket_session, traffic_of}
+use Rattle.event_loop.specs.Order.{writer_of}
 use Rattle.event_loop.specs.TableBytes.{HaveBytes}
 use Rattle.event_loop.specs.Tables.{AdmitsEach, ComeEach, EndsTurn, TableStands, joins_of, slot_at}
 use Rattle.event_loop.specs.Tables.AdmitsEach.{Nobody, OneMore}
@@ -309,7 +310,7 @@ module _ {D : Type 0} {g : Ghosts D} (hub later : Hub D g) (slots new : Slots) (
 
     abbrev to : (k : Point) × StandsAt later k
         × (Adds (point_of hub (present_state s.served)) d.drives.leads.choices k
-        × DrivenAll SocketsReport through (point_of hub (present_state s.served)) d.ready k d.driven)
+        × DrivenThen SocketsReport through (writer_of next) (point_of hub (present_state s.served)) d.ready k d.driven)
     to = d.drives.leads.to (point_of hub (present_state s.served)) (at_point hub (present_state s.served) (stands_now s.served))
 
     -- what was served for a session that has left by now was requested
@@ -340,12 +341,13 @@ module _ {D : Type 0} {g : Ghosts D} (hub later : Hub D g) (slots new : Slots) (
     driven_report : SocketsReport → EntriesWereAnswered on d.driven
     driven_report t key mid e =
         let h = present_state s.served in
-        let was = driven_was SocketsReport through (point_of hub h) d.ready to.0 d.driven to.2.1 key mid e in
+        let was = then_was SocketsReport through (writer_of next) (point_of hub h) d.ready to.0 d.driven to.2.1 key mid e in
         let before = was_polled traffic_of slots d.ready events turned key was.0 was.1 in
         let bytes = polled_bytes SocketsReport traffic_of (g.moment (device later)) slots d.ready events turned h s.bytes in
         let sent = have_sent h d.ready t bytes in
         let gone : is_gone mid.state ≡ true → HasLeft to.0.hub mid.session (through mid.stream).received =
-        λ is. driven_left SocketsReport through (point_of hub h) d.ready to.0 d.driven to.2.1 (polled_sessions slots d.ready events turned hub sessions).own t
+        λ is. then_left SocketsReport through (writer_of next) (point_of hub h) d.ready to.0 d.driven to.2.1
+        (polled_sessions slots d.ready events turned hub sessions).own t
         bytes (gone_before t) key mid e (gone_at mid.state is) in
         let asked : is_gone mid.state ≡ true → WasRequested on was.0.session (through mid.stream).received =
         λ is. subst (λ (n : ℕ). WasRequested on n (through mid.stream).received) was.2
@@ -367,7 +369,7 @@ module _ {D : Type 0} {g : Ghosts D} (hub later : Hub D g) (slots new : Slots) (
       bytes = bytes_on s.served later d.drives.leads.choices d.drives.leads.ran new
           (subst (λ (x : HubState). HaveTheirBytes x new) to.2.0.run_is
           (drives_bytes SocketsReport traffic_of (g.moment (device later)) slots d.ready d.driven new events turned
-          (polled_sessions slots d.ready events turned hub sessions).own d.ended (point_of hub (present_state s.served)) to.0 to.2.1 s.bytes));
+          (polled_sessions slots d.ready events turned hub sessions).own d.ended (writer_of next) (point_of hub (present_state s.served)) to.0 to.2.1 s.bytes));
       reports = λ t key entry e.
           let was = was_driven SocketsReport traffic_of (g.moment (device later)) (slot_at d.driven key) (slot_at new key) entry (d.ended key) e in
           end_reports on none_runs (g.moment (device later)) refl t was.0 entry was.2 (driven_report t key was.0 was.1);

@@ -17,7 +17,9 @@ use Rattle.stream_driver.proofs.OneEntry.{ends_other}
 use Rattle.stream_driver.proofs.States.{seen_after}
 use Rattle.stream_driver.specs.Buffers.{has_had_share}
 use Rattle.stream_driver.specs.Drives.{LeavesIfGone}
-use Rattle.stream_driver.specs.Entries.{DrivenAll, DrivenIn, DrivenSlot, DrivenOnce, HaveSessions, entry_state_after}
+use Rattle.stream_driver.specs.Entries.{DrivenAll, DrivenIn, DrivenSlot, DrivenOnce, DrivenThen, HaveSessions}
+use Rattle.stream_driver.specs.Entries.{entry_state_after}
+use Rattle.stream_driver.specs.Entries.{with_last}
 use Rattle.stream_driver.specs.Sessions.{Point, Leads, IsPresent, Stands, status_at}
 use Rattle.stream_driver.specs.Traffic.{Traffic, untouched}
 use Rattle.stream_driver.specs.declared.answers.Progress.{Progress}
@@ -26,6 +28,7 @@ use Rattle.stream_driver.specs.declared.buffered.BufferedStream.{BufferedStream}
 use Rattle.stream_driver.specs.declared.entries.Entry.{Entry}
 use Rattle.stream_driver.specs.declared.entries.EntryState.{EntryState}
 use Rattle.stream_driver.specs.declared.entries.EntryState.TheVariants.{Idle, Ready, Gone as EntryGone}
+use Rattle.event_loop.proofs.LastDriven.{by_key, in_order}
 use Rattle.event_loop.proofs.Polled.{gone_as, gone_at_end, gone_before, TakesTurns, then_polled, was_driven}
 use Rattle.event_loop.proofs.Polled.{was_polled}
 use Rattle.event_loop.proofs.Present.{reached-run, absent_then}
@@ -115,12 +118,14 @@ module _ {T : Type 0} where
         (λ none. slot_absent earlier slot mid first d reached (λ entry e. w zero entry e) (λ head. before (without-cons s slot slots head none)))
 
   module _ {D : Type 0} {g : Ghosts D} (hub later : Hub D g) where
-    pub driven_entries : (reports : Type 0) (traffic : T → Traffic) (slots new : Slots T) → Stands hub
-        → Leads hub later (λ h k. DrivenAll reports traffic h slots k new) → HaveEntries hub slots → HaveEntries later new
-    driven_entries reports traffic slots new some leads has s without =
+    pub driven_entries : (reports : Type 0) (traffic : T → Traffic) (last : ℕ) (slots new : Slots T) → Stands hub
+        → Leads hub later (λ h k. DrivenThen reports traffic last h slots k new) → HaveEntries hub slots → HaveEntries later new
+    driven_entries reports traffic last slots new some leads has s without =
+        let IsOver : Entry T → Type 0 = λ (x : Entry T). x.session ≡ s → x.state ≡ EntryGone in
         seen_after (hlevel props) some leads
         (λ h k was stands d. status_seen later k.hub stands s
-        ∙ driven_absent reports traffic s h slots k new d was.reached without (λ none. sym (status_seen hub h.hub was s) ∙ has s none))
+        ∙ driven_absent reports traffic s h (with_last last slots) k (with_last last new) d was.reached (in_order IsOver last new without)
+        (λ none. sym (status_seen hub h.hub was s) ∙ has s (by_key IsOver last slots none)))
 
   -- ---- the table alone changes
 

@@ -1,4 +1,5 @@
 pub mod Slots
+mod LastDriven
 pub mod Present
 pub mod Entries
 pub mod Tables

@@ -7,11 +7,12 @@ use Rattle.sessions.specs.Laws.{CollectsStep}
 use Rattle.sessions.specs.StandsFor.{device}
 use Rattle.socket_calls.specs.HappenedCalls.{WasReported}
 use Rattle.stream_driver.specs.Buffers.{traffic_through}
-use Rattle.stream_driver.specs.Entries.{DrivenAll}
+use Rattle.stream_driver.specs.Entries.{DrivenThen}
 use Rattle.stream_driver.specs.Sessions.{Adds, Leads, Point}
 use Rattle.stream_driver.specs.Traffic.{Traffic}
 use Rattle.event_loop.specs.Leavings.{LingerOn}
 use Rattle.event_loop.specs.Lingerings.{Lingerers, lingers_in, unless_failed}
+use Rattle.event_loop.specs.Order.{writer_of}
 use Rattle.event_loop.specs.Turns.{Accepted, DrivesReady, EndsWithGarbage, IsTurn, Rests, accepted_joins, accepts_now}
 use Rattle.event_loop.specs.Turns.{SetsWidth, is_reported_of}
 use Rattle.event_loop.specs.declared.connections.Backlog.{Backlog}
@@ -40,7 +41,7 @@ module _ {D : Type 0} {g : Ghosts D} (reports : Type 0) (traffic : Socket
 
   abbrev IsRun : (poller : Poller) → Drives poller → (b : Bool) → Accepted b driven accepted → Type 0
   IsRun poller drives b accepts =
-      Leads old.hub new.hub (λ h l. (k : Point) × DrivenAll reports (traffic_through traffic) h drives.ready k drives.driven
+      Leads old.hub new.hub (λ h l. (k : Point) × DrivenThen reports (traffic_through traffic) (writer_of driven.turns) h drives.ready k drives.driven
       × Adds k (accepted_joins b driven accepted accepts) l)
 
   abbrev Widths : (poller : Poller) → Drives poller → Type 0

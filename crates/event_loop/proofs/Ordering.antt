@@ -19,7 +19,9 @@ use Rattle.socket_calls.specs.declared.counted.AcceptedSocket.{AcceptedSocket}
 use Rattle.stream_driver.proofs.States.{seen_after}
 use Rattle.stream_driver.specs.Buffers.{Finishes, fresh, has_had_share, is_flushed_or_failed, is_heavy, passed_over}
 use Rattle.stream_driver.specs.Buffers.{traffic_through}
-use Rattle.stream_driver.specs.Entries.{DrivenAll, DrivenIn, DrivenSlot, EndsIn, KeepSessions, is_gone, is_over}
+use Rattle.stream_driver.specs.Entries.{DrivenAll, DrivenIn, DrivenSlot, DrivenThen, EndsIn, KeepSessions, is_gone}
+use Rattle.stream_driver.specs.Entries.{is_over}
+use Rattle.stream_driver.specs.Entries.{with_last}
 use Rattle.stream_driver.specs.Entries.{state_at_end}
 use Rattle.stream_driver.specs.Sessions.{Point}
 use Rattle.stream_driver.specs.Traffic.{Traffic, untouched}
@@ -28,6 +30,7 @@ use Rattle.stream_driver.specs.declared.entries.Entry.{Entry}
 use Rattle.stream_driver.specs.declared.entries.EntryState.{EntryState}
 use Rattle.stream_driver.specs.declared.entries.EntryState.TheVariants.{Idle, Gone, Ready}
 use Rattle.event_loop.proofs.Entries.{Remain, no_entry}
+use Rattle.event_loop.proofs.LastDriven.{IsPlaced, place_of, slot_placed, then_length}
 use Rattle.event_loop.proofs.Polled.{IsSome, TakesTurns, answered_as_it_was, put_there}
 use Rattle.event_loop.proofs.Slots.{Slots}
 use Rattle.event_loop.proofs.Widths.{count_more}
@@ -38,7 +41,7 @@ use Rattle.event_loop.specs.Order.{is_late_entry, is_one, is_ready_slot, late_be
 use Rattle.event_loop.specs.Order.{share_at}
 use Rattle.event_loop.specs.Order.{share_in_turn, share_of_slot}
 use Rattle.event_loop.specs.Order.{takes_none}
-use Rattle.event_loop.specs.Order.{takes_turns, waits_as, writes_in}
+use Rattle.event_loop.specs.Order.{takes_turns, waits_as, writer_of, writes_in}
 use Rattle.event_loop.specs.declared.order.Kind.TheVariants.{Any, Reader, Writer}
 use Rattle.event_loop.specs.declared.order.Turns.{Turns}
 use Rattle.event_loop.specs.Sockets.{IsNewSocket}
@@ -300,6 +303,15 @@ module _ {T : Type 0} (reports : Type 0) (traffic : T → Traffic) where
   idle_stays earlier (slot ∷ slots) later new (first, mid, others, is, d, rest) (suc key) was e idle =
       ap (λ l. slot_at l (suc key)) is ∙ idle_stays mid slots later others rest key was e idle
 
+  -- so it is where one is driven last
+  then_stays : (last : ℕ) (earlier : Point) (slots : Slots T) (later : Point) (new : Slots T) → DrivenThen reports traffic last earlier slots later new
+      → (key : ℕ) (was : Entry T) → slot_at slots key ≡ Some was → was.state ≡ Idle → slot_at new key ≡ Some was
+  then_stays last earlier slots later new d key was e idle =
+      let p = place_of last slots key was e in
+      let now = subst (λ n. IsPlaced last n key p.0) (sym (then_length reports traffic last earlier slots later new d)) p.1 in
+      sym (slot_placed last new key p.0 now)
+      ∙ idle_stays earlier (with_last last slots) later (with_last last new) d p.0 was (slot_placed last slots key p.0 p.1 ∙ e) idle
+
 module _ {T : Type 0} (reports : Type 0) (traffic : T → Traffic) (moment : ℕ) where
   -- the end of a turn leaves whether a stream is heavy
   ended_heavy : (old new : BufferedStream T) → Finishes reports traffic moment (fresh old) new → new.heavy_for ≡ old.heavy_for
@@ -349,7 +361,7 @@ module _ {D : Type 0} {g : Ghosts D} (reports : Type 0) (traffic : Socket
   still_ready was e idle none heavy =
       seen_after (hlevel props) old.stands turn.drives.drives.leads (λ h k was_stood stands d.
       let there : slot_at turn.drives.driven key ≡ Some was =
-      idle_stays reports (traffic_through traffic) h turn.drives.ready k turn.drives.driven d key was e idle in
+      then_stays reports (traffic_through traffic) (writer_of turn.driven.turns) h turn.drives.ready k turn.drives.driven d key was e idle in
       let ended = ended_ready reports traffic (g.moment (device turn.driven.hub)) was (slot_at turn.driven.table.slots key)
       (subst (λ slot. EndsTurn reports traffic (g.moment (device turn.driven.hub)) slot (slot_at turn.driven.table.slots key)) there (turn.drives.ended key))
       idle

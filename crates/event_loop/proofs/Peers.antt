@@ -21,7 +21,8 @@ use Rattle.stream_driver.proofs.States.{at_point, point_of}
 use Rattle.stream_driver.specs.Appends.{UsesShare}
 use Rattle.stream_driver.specs.Buffers.{fresh, has_had_share, share_of, traffic_through}
 use Rattle.stream_driver.specs.Drives.{LeavesIfGone, Why}
-use Rattle.stream_driver.specs.Entries.{DrivenAll, DrivenIn, EndsIn, entry_state_after, state_at_end}
+use Rattle.stream_driver.specs.Entries.{DrivenAll, DrivenIn, DrivenThen, EndsIn, entry_state_after, state_at_end}
+use Rattle.stream_driver.specs.Entries.{with_last}
 use Rattle.stream_driver.specs.Sessions.{AwaitsMore, Leads, Point, inbox_in, pending_at}
 use Rattle.stream_driver.specs.Traffic.{Traffic}
 use Rattle.stream_driver.specs.Waits.{EachEntry, HasSoundNotes, SaysWhyBlocked, WaitsSince}
@@ -35,11 +36,11 @@ use Rattle.stream_driver.specs.declared.entries.Entry.{Entry}
 use Rattle.stream_driver.specs.declared.entries.EntryState.{EntryState}
 use Rattle.stream_driver.specs.declared.entries.EntryState.TheVariants.{Idle, Ready, Gone}
 use Rattle.event_loop.proofs.Entries.{no_entry}
+use Rattle.event_loop.proofs.LastDriven.{IsPlaced, own_place, place_of, slot_placed, then_length}
 use Rattle.event_loop.proofs.Polled.{IsSome, TakesTurns, was_driven}
 use Rattle.event_loop.proofs.Present.{joins_not, joins_other}
 use Rattle.event_loop.proofs.Slots.{Slots}
-use Rattle.event_loop.proofs.TableBytes.{AreOwn, all_other, driven_at, same_numbers, slot_driven, slot_other}
-use Rattle.event_loop.proofs.TableBytes.{was_alive}
+use Rattle.event_loop.proofs.TableBytes.{AreOwn, all_other, same_numbers, slot_driven, slot_other, then_at, was_alive}
 use Rattle.event_loop.proofs.Tables.{admits_table}
 use Rattle.event_loop.specs.Numbers.{SessionsAreBelow}
 use Rattle.event_loop.specs.Order.{after_turn, in_turn}
@@ -131,6 +132,20 @@ module _ {T : Type 0} (reports : Type 0) (traffic : T → Traffic) where
               (λ another g too same. (let bad : suc key ≡ zero = own zero another g too same in omega arith)),
         )
       ]
+
+module _ {T : Type 0} (reports : Type 0) (traffic : T → Traffic) where
+  -- so it is where one is driven last
+  then_waits : (last : ℕ) (earlier : Point) (slots : Slots T) (later : Point) (new : Slots T) → DrivenThen reports traffic last earlier slots later new
+      → (key : ℕ) (was entry : Entry T) → slot_at slots key ≡ Some was → slot_at new key ≡ Some entry
+      → ((other : ℕ) (another : Entry T) → slot_at slots other ≡ Some another → another.state ≢ Gone → was.session ≡ another.session → key ≡ other)
+      → entry.state ≡ Idle → Stays reports traffic earlier later was entry
+  then_waits last earlier slots later new d key was entry e f own idle =
+      let p = place_of last slots key was e in
+      let now = subst (λ n. IsPlaced last n key p.0) (sym (then_length reports traffic last earlier slots later new d)) p.1 in
+      one_waits reports traffic earlier (with_last last slots) later (with_last last new) d p.0 was entry (slot_placed last slots key p.0 p.1 ∙ e)
+      (slot_placed last new key p.0 now ∙ f)
+      (λ other another g too same. own_place (λ (x : Entry T). (x.state ≢ Gone) × (was.session ≡ x.session)) last slots key p.0 p.1
+      (λ k x h q. own k x h q.0 q.1) other another g (too, same)) idle
 
 -- ---- what a poll and the turns leave
 
@@ -292,17 +307,17 @@ module _ {T : Type 0} (traffic : T → Traffic) (short : T → Type 0) where
   module _ (reports : Type 0) (slots ready driven new : Slots (BufferedStream T)) (events : List Event) (polled : TakesTurns slots ready events)
       (own : AreOwn ready) (moment : ℕ) (ended : (key : ℕ) → EndsTurn reports traffic moment (slot_at driven key) (slot_at new key))
       (since : EachEntry (WaitsSince (HasSoundNotes short) (SaysWhyBlocked short traffic)) ready driven) (rested : AreRested slots) where
-    pub drives_wait : (h k : Point) → DrivenAll reports (traffic_through traffic) h ready k driven → IdleWait traffic short h.hub slots
+    pub drives_wait : (last : ℕ) (h k : Point) → DrivenThen reports (traffic_through traffic) last h ready k driven → IdleWait traffic short h.hub slots
         → IdleWait traffic short k.hub new
-    drives_wait h k d has key entry e idle =
+    drives_wait last h k d has key entry e idle =
         let b = was_driven reports traffic moment (slot_at driven key) (slot_at new key) entry (ended key) e in
         let x = b.0 in
         let at = idle_at_end x.state (has_had_share x.stream) (sym b.2.state ∙ idle) in
         let left : x.stream.share ≡ zero → ⊥ = λ none. (let had = at.1 in grind (arith, common_steps)) in
-        let w = driven_at reports (traffic_through traffic) h ready k driven d key x b.1 in
+        let w = then_at reports (traffic_through traffic) last h ready k driven d key x b.1 in
         let was = w.0 in
         let alive : was.state ≢ Gone = was_alive reports (traffic_through traffic) was.state w.2 was w.3 x refl w.4 (λ gone. (let is = at.0 in cc)) in
-        let stays = one_waits reports (traffic_through traffic) h ready k driven d key was x w.1 b.1
+        let stays = then_waits reports (traffic_through traffic) last h ready k driven d key was x w.1 b.1
         (λ other another g too same. own key other was another w.1 g alive too same) at.0 in
         let rests = polled_rested slots ready events polled rested key was w.1 in
         let sound = sound_rested short was.stream rests in

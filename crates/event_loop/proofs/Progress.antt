@@ -16,7 +16,8 @@ use Rattle.stream_driver.proofs.States.{at_point, point_of}
 use Rattle.stream_driver.specs.Buffers.{traffic_through}
 use Rattle.stream_driver.specs.Calls.{served_in}
 use Rattle.stream_driver.specs.Drives.{Why}
-use Rattle.stream_driver.specs.Entries.{DrivenAll, DrivenEntry, DrivenIn, DrivenOnce, entry_state_after}
+use Rattle.stream_driver.specs.Entries.{DrivenAll, DrivenEntry, DrivenIn, DrivenOnce, DrivenThen, entry_state_after}
+use Rattle.stream_driver.specs.Entries.{with_last}
 use Rattle.stream_driver.specs.Sessions.{AwaitsMore, Point}
 use Rattle.stream_driver.specs.Traffic.{Traffic}
 use Rattle.stream_driver.specs.declared.answers.Progress.{Progress}
@@ -26,11 +27,12 @@ use Rattle.stream_driver.specs.declared.entries.Entry.{Entry}
 use Rattle.stream_driver.specs.declared.entries.EntryState.{EntryState}
 use Rattle.stream_driver.specs.declared.entries.EntryState.TheVariants.{Idle, Ready, Gone}
 use Rattle.event_loop.proofs.Entries.{no_entry, polled_sessions}
+use Rattle.event_loop.proofs.LastDriven.{IsPlaced, own_place, place_of, slot_placed, then_length}
 use Rattle.event_loop.proofs.Ordering.{turns_taken}
 use Rattle.event_loop.proofs.Peers.{awaits_same, idle_as}
 use Rattle.event_loop.proofs.Slots.{Slots}
 use Rattle.event_loop.proofs.TableBytes.{AreOwn, all_other, slot_other}
-use Rattle.event_loop.specs.Order.{is_ready_slot}
+use Rattle.event_loop.specs.Order.{is_ready_slot, writer_of}
 use Rattle.event_loop.specs.Progress.{CameFar, GetsOn, HadItsShare, UsesTurn}
 use Rattle.event_loop.specs.Sockets.{SocketsReport}
 use Rattle.event_loop.specs.Tables.{after_event, after_poll, is_ready, readied, reported_slot, slot_at}
@@ -128,6 +130,19 @@ module _ {T : Type 0} (reports : Type 0) (traffic : T → Traffic) where
         there.6,
       )
 
+  -- so it is where one is driven last
+  then_drive : (last : ℕ) (earlier : Point) (slots : Slots T) (later : Point) (new : Slots T) → DrivenThen reports traffic last earlier slots later new
+      → (key : ℕ) (was : Entry T) → slot_at slots key ≡ Some was
+      → ((other : ℕ) (another : Entry T) → slot_at slots other ≡ Some another → another.state ≢ Gone → was.session ≡ another.session → key ≡ other)
+      → OneDrive earlier later new key was
+  then_drive last earlier slots later new d key was e own =
+      let p = place_of last slots key was e in
+      let now = subst (λ n. IsPlaced last n key p.0) (sym (then_length reports traffic last earlier slots later new d)) p.1 in
+      let one = one_drive earlier (with_last last slots) later (with_last last new) d p.0 was (slot_placed last slots key p.0 p.1 ∙ e)
+      (λ other another g too same. own_place (λ (x : Entry T). (x.state ≢ Gone) × (was.session ≡ x.session)) last slots key p.0 p.1
+      (λ k x h q. own k x h q.0 q.1) other another g (too, same)) in
+      (one.0, sym (slot_placed last new key p.0 now) ∙ one.1, one.2, one.3, one.4, one.5, one.6)
+
   again_served : (s : ℕ) (last : HubState) (before after : Traffic) (served : ℕ) (answer : Progress) → entry_state_after answer ≡ Ready
       → Why s last before after served answer → served ≡ 64
   again_served s last before after served Again e why = why.1
@@ -187,7 +202,8 @@ module _ {D : Type 0} {g : Ghosts D} (reports : Type 0) (traffic : Socket → Tr
         to.1.state,
         λ key was e ready.
             let alive : was.state ≢ Gone = λ gone. (let bad : Ready ≡ Gone = sym ready ∙ gone in cc) in
-            let one = one_drive reports (traffic_through traffic) (point_of old.hub h) turn.drives.ready to.0 turn.drives.driven to.2.1 key was e
+            let one = then_drive reports (traffic_through traffic) (writer_of turn.driven.turns) (point_of old.hub h) turn.drives.ready to.0 turn.drives.driven
+            to.2.1 key was e
             (λ other another g too same. own key other was another e g alive too same) in
             let drive = driven_ready reports (traffic_through traffic) one.2 was one.3 one.0 ready one.4 in
             let uses = turn.drives.uses key was one.0 e one.1 in

@@ -1,5 +1,6 @@
 -- What the drives of a turn leave of each entry: its session, the number of its connection, and the bytes of its session.
-use Rattle.std.proofs.Common.{◌≡◌, ◌≢◌, inl, inr, ℕ, zero, suc, List, [], ◌∷◌, ◌++◌, Option, Some, None, refl, sym}
+use Rattle.std.proofs.Common.{◌≡◌, ◌≢◌, inl, inr, ℕ, zero, suc, List, [], ◌∷◌, ◌++◌, length, Option, Some, None, refl}
+use Rattle.std.proofs.Common.{sym}
 use Rattle.std.proofs.Common.{ap, subst, ◌∙◌, arith}
 use Rattle.mio.specs.declared.event.event.Event.{Event}
 use Rattle.model.proofs.Lookups.{some_same}
@@ -9,7 +10,9 @@ use Rattle.stream_driver.proofs.Carry.{one_history}
 use Rattle.stream_driver.proofs.OneEntry.{ends_last, entry_other}
 use Rattle.stream_driver.specs.Buffers.{fresh, has_had_share, traffic_through}
 use Rattle.stream_driver.specs.Drives.{Why}
-use Rattle.stream_driver.specs.Entries.{DrivenAll, DrivenEntry, DrivenIn, DrivenSlot, EndsIn, entry_state_after}
+use Rattle.stream_driver.specs.Entries.{DrivenAll, DrivenEntry, DrivenIn, DrivenSlot, DrivenThen, EndsIn}
+use Rattle.stream_driver.specs.Entries.{entry_state_after}
+use Rattle.stream_driver.specs.Entries.{with_last}
 use Rattle.stream_driver.specs.Sessions.{Point}
 use Rattle.stream_driver.specs.Traffic.{DepartAt, Traffic}
 use Rattle.stream_driver.specs.declared.answers.Progress.{Progress}
@@ -20,6 +23,8 @@ use Rattle.stream_driver.specs.declared.entries.EntryState.{EntryState}
 use Rattle.stream_driver.specs.declared.entries.EntryState.TheVariants.{Idle, Ready, Gone as EntryGone}
 use Rattle.event_loop.proofs.Entries.{no_entry}
 use Rattle.event_loop.proofs.GoneSessions.{HasLeft, all_grow, entry_left, slot_grows, stays_left}
+use Rattle.event_loop.proofs.LastDriven.{IsPlaced, by_key, in_order, key_of, own_place, place_of, slot_placed}
+use Rattle.event_loop.proofs.LastDriven.{then_length}
 use Rattle.event_loop.proofs.Polled.{gone_as, gone_at_end, TakesTurns, was_driven, was_polled}
 use Rattle.event_loop.proofs.Slots.{Slots}
 use Rattle.event_loop.specs.TableBytes.{HasItsBytes, HaveBytes}
@@ -83,7 +88,7 @@ module _ {T : Type 0} (reports : Type 0) (traffic : T → Traffic) where
   abbrev pub WasDriven : Option (Entry T) → Entry T → Type 0
   WasDriven slot entry = (was : Entry T) × (slot ≡ Some was) × (h : Point) × (k : Point) × DrivenEntry reports traffic h was k entry
 
-  pub driven_at : (earlier : Point) (slots : Slots T) (later : Point) (new : Slots T) → DrivenAll reports traffic earlier slots later new
+  driven_at : (earlier : Point) (slots : Slots T) (later : Point) (new : Slots T) → DrivenAll reports traffic earlier slots later new
       → (key : ℕ) (entry : Entry T) → slot_at new key ≡ Some entry → WasDriven (slot_at slots key) entry
   driven_at earlier [] later new d key entry e = absurd (no_entry new d.0 key entry e)
   driven_at earlier (None ∷ slots) later new (first, mid, others, is, d, rest) zero entry e =
@@ -92,15 +97,6 @@ module _ {T : Type 0} (reports : Type 0) (traffic : T → Traffic) where
       (was, refl, earlier, mid, slot_driven earlier (Some was) mid first d was entry refl (ap (λ l. slot_at l zero) (sym is) ∙ e))
   driven_at earlier (slot ∷ slots) later new (first, mid, others, is, d, rest) (suc key) entry e =
       driven_at mid slots later others rest key entry (ap (λ l. slot_at l (suc key)) (sym is) ∙ e)
-
-  -- each keeps its session and the number of its connection
-  pub driven_was : (earlier : Point) (slots : Slots T) (later : Point) (new : Slots T) → DrivenAll reports traffic earlier slots later new
-      → (key : ℕ) (entry : Entry T) → slot_at new key ≡ Some entry
-      → (was : Entry T) × (slot_at slots key ≡ Some was) × (entry.session ≡ was.session) × ((traffic entry.stream).connection ≡ (traffic was.stream).connection)
-  driven_was earlier slots later new d key entry e =
-      let w = driven_at earlier slots later new d key entry e in
-      let same = same_numbers w.0.state w.2 w.0 w.3 entry w.4 in
-      (w.0, w.1, same.0, same.1)
 
   pub slot_other : (earlier : Point) (slot : Option (Entry T)) (later : Point) (new : Option (Entry T)) → DrivenSlot reports traffic earlier slot later new
       → (s : ℕ) → ((entry : Entry T) → slot ≡ Some entry → entry.state ≢ EntryGone → s ≢ entry.session)
@@ -173,7 +169,7 @@ module _ {T : Type 0} (reports : Type 0) (traffic : T → Traffic) where
       gone
 
   -- the session of each has left
-  pub driven_left : (earlier : Point) (slots : Slots T) (later : Point) (new : Slots T) → DrivenAll reports traffic earlier slots later new → AreOwn slots
+  driven_left : (earlier : Point) (slots : Slots T) (later : Point) (new : Slots T) → DrivenAll reports traffic earlier slots later new → AreOwn slots
       → reports → HaveBytes reports traffic earlier.hub slots
       → ((key : ℕ) (entry : Entry T) → slot_at slots key ≡ Some entry → entry.state ≡ EntryGone
       → HasLeft earlier.hub entry.session (traffic entry.stream).received)
@@ -183,6 +179,56 @@ module _ {T : Type 0} (reports : Type 0) (traffic : T → Traffic) where
       let w = driven_at earlier slots later new d key entry e in
       one_left earlier slots later new d key w.0 entry w.1 e (λ alive other another g too same. own key other w.0 another w.1 g alive too same) t
       (λ alive. has key w.0 w.1 alive) (left key w.0 w.1) gone
+
+  -- ---- and one of them last
+
+  module _ (last : ℕ) (earlier : Point) (slots : Slots T) (later : Point) (new : Slots T) (d : DrivenThen reports traffic last earlier slots later new) where
+    -- an entry stands where it stood, also in the order of the drives
+    pub placed_as : (key place : ℕ) → IsPlaced last (length new) key place
+        → IsPlaced last (length slots) key place × (slot_at (with_last last slots) place ≡ slot_at slots key)
+    placed_as key place at =
+        let was = subst (λ n. IsPlaced last n key place) (then_length reports traffic last earlier slots later new d) at in
+        (was, slot_placed last slots key place was)
+
+    pub then_at : (key : ℕ) (entry : Entry T) → slot_at new key ≡ Some entry → WasDriven (slot_at slots key) entry
+    then_at key entry e =
+        let p = place_of last new key entry e in
+        let was = placed_as key p.0 p.1 in
+        subst (λ slot. WasDriven slot entry) was.1
+        (driven_at earlier (with_last last slots) later (with_last last new) d p.0 entry (slot_placed last new key p.0 p.1 ∙ e))
+
+    -- each keeps its session and the number of its connection
+    pub then_was : (key : ℕ) (entry : Entry T) → slot_at new key ≡ Some entry
+        → (was : Entry T) × (slot_at slots key ≡ Some was) × (entry.session ≡ was.session)
+        × ((traffic entry.stream).connection ≡ (traffic was.stream).connection)
+    then_was key entry e =
+        let w = then_at key entry e in
+        let same = same_numbers w.0.state w.2 w.0 w.3 entry w.4 in
+        (w.0, w.1, same.0, same.1)
+
+    own_in_order : AreOwn slots → AreOwn (with_last last slots)
+    own_in_order own place other entry another e f alive too same =
+        let k = key_of last slots place entry e in
+        let at = sym (slot_placed last slots k.0 place k.1) ∙ e in
+        own_place (λ (x : Entry T). (x.state ≢ EntryGone) × (entry.session ≡ x.session)) last slots k.0 place k.1
+        (λ key x g p. own k.0 key entry x at g alive p.0 p.1) other another f (too, same)
+
+    then_bytes : AreOwn slots → HaveBytes reports traffic earlier.hub slots → HaveBytes reports traffic later.hub new
+    then_bytes own has =
+        by_key (λ (x : Entry T). x.state ≢ EntryGone → HasItsBytes reports traffic later.hub x) last new
+        (driven_bytes earlier (with_last last slots) later (with_last last new) d (own_in_order own)
+        (in_order (λ (x : Entry T). x.state ≢ EntryGone → HasItsBytes reports traffic earlier.hub x) last slots has))
+
+    pub then_left : AreOwn slots → reports → HaveBytes reports traffic earlier.hub slots
+        → ((key : ℕ) (entry : Entry T) → slot_at slots key ≡ Some entry → entry.state ≡ EntryGone
+        → HasLeft earlier.hub entry.session (traffic entry.stream).received)
+        → (key : ℕ) (entry : Entry T) → slot_at new key ≡ Some entry → entry.state ≡ EntryGone
+        → HasLeft later.hub entry.session (traffic entry.stream).received
+    then_left own t has left =
+        by_key (λ (x : Entry T). x.state ≡ EntryGone → HasLeft later.hub x.session (traffic x.stream).received) last new
+        (driven_left earlier (with_last last slots) later (with_last last new) d (own_in_order own) t
+        (in_order (λ (x : Entry T). x.state ≢ EntryGone → HasItsBytes reports traffic earlier.hub x) last slots has)
+        (in_order (λ (x : Entry T). x.state ≡ EntryGone → HasLeft earlier.hub x.session (traffic x.stream).received) last slots left))
 
   -- ---- the table alone changes
 
@@ -232,10 +278,11 @@ module _ {T : Type 0} (reports : Type 0) (traffic : T → Traffic) (moment : ℕ
 
   module _ (slots ready driven new : Slots (BufferedStream T)) (events : List Event) (polled : TakesTurns slots ready events)
       (own : AreOwn ready) (ended : (key : ℕ) → EndsTurn reports traffic moment (slot_at driven key) (slot_at new key)) where
-    pub drives_bytes : (h k : Point) → DrivenAll reports through h ready k driven → HaveBytes reports through h.hub slots → HaveBytes reports through k.hub new
-    drives_bytes h k d has key entry e alive =
+    pub drives_bytes : (last : ℕ) (h k : Point) → DrivenThen reports through last h ready k driven → HaveBytes reports through h.hub slots
+        → HaveBytes reports through k.hub new
+    drives_bytes last h k d has key entry e alive =
         let b = was_driven reports traffic moment (slot_at driven key) (slot_at new key) entry (ended key) e in
         let f = finished entry.state b.0.stream entry.stream b.2.stream in
         kept_bytes reports through k.hub b.0 entry b.2.session (λ t. (f.received t, f.sent t))
-        (driven_bytes reports through h ready k driven d own (polled_bytes slots ready events polled h.hub has) key b.0 b.1
+        (then_bytes reports through last h ready k driven d own (polled_bytes slots ready events polled h.hub has) key b.0 b.1
         (λ gone. alive (b.2.state ∙ gone_at_end b.0.state (has_had_share b.0.stream) gone)))

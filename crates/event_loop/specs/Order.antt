@@ -133,6 +133,15 @@ module _ {T D : Type 0} {g : Ghosts D} (hub : Hub D g) where
     pub kind : turns.kind ≡ cond (writes_in (slots turns.next)) Reader Writer
     pub beside : HasNextTurn (λ key. waits_as turns.kind (slots key)) last.beside turns.beside
 
+-- The key of the one of them that writes, if one does: the next, unless it is the other.
+abbrev pub writer_beside : Kind → ℕ → ℕ → ℕ
+writer_beside Reader next beside = next
+writer_beside Writer next beside = beside
+writer_beside Any next beside = beside
+
+abbrev pub writer_of : Turns → ℕ
+writer_of turns = writer_beside turns.kind turns.next turns.beside
+
 -- How wide a turn is after one so wide, that might have driven so many more, and in which so many turned out heavy.
 -- Widths are in parts of one.
 abbrev pub width_after : (last unused heavy : ℕ) → ℕ

@@ -21,7 +21,7 @@ use Rattle.socket_calls.specs.declared.counted.CountedSocket.{CountedSocket}
 use Rattle.socket_calls.specs.declared.polled.CountedPoll.{CountedPoll}
 use Rattle.stream_driver.specs.Appends.{AppendsAtMost, ready_count}
 use Rattle.stream_driver.specs.Buffers.{traffic_through}
-use Rattle.stream_driver.specs.Entries.{DrivenAll}
+use Rattle.stream_driver.specs.Entries.{DrivenThen}
 use Rattle.stream_driver.specs.Sends.{DrivesAnswering}
 use Rattle.stream_driver.specs.Sessions.{Adds, Leads, Point}
 use Rattle.stream_driver.specs.Traffic.{Traffic}
@@ -33,7 +33,7 @@ use Rattle.event_loop.specs.Accepts.{Accepts, AsksOnce}
 use Rattle.event_loop.specs.Leavings.{EndAll, LingerOn}
 use Rattle.event_loop.specs.Lingerings.{lingers_in, unless_failed}
 use Rattle.event_loop.specs.Order.{AreNext, after_turn, behind, heavy_streams, is_ready_slot, share_at, takes_none}
-use Rattle.event_loop.specs.Order.{takes_turns, unused_in, width_after}
+use Rattle.event_loop.specs.Order.{takes_turns, unused_in, width_after, writer_of}
 use Rattle.event_loop.specs.Progress.{GetsOn, UsesTurn}
 use Rattle.event_loop.specs.Polls.{WasAskedOnce, after_wait, polls_of}
 use Rattle.event_loop.specs.Sockets.{IsNewSocket, SocketsReport, all_interests}
@@ -59,9 +59,9 @@ IsTurnOf hub turns polled key ready = ready ≡ after_turn (share_at hub turns p
 -- The drives of a turn in which the poll reported these events. The entries that waited and that it reported became
 -- ready. Of those that are ready and take turns, one that writes and one that reads at most have this one. Of those
 -- that take none as many as the turn is wide have a share of it, and of those that are late one less; the others are
--- passed over. Each that has a share was driven once, by rising key, and no other event came to the hub. Each of these
--- drives appended one record to the log at most, and used its share of the turn. What their streams buffered was
--- written, and those that are over were taken out.
+-- passed over. Each that has a share was driven once, by rising key, but the one that writes behind the others; and no
+-- other event came to the hub. Each of these drives appended one record to the log at most, and used its share of the
+-- turn. What their streams buffered was written, and those that are over were taken out.
 pub record DrivesReady {T D : Type 0} {g : Ghosts D} (reports : Type 0) (traffic : T
     → Traffic) (events : List Event) (last : Turns) (hub : Hub D g) (slots : List (Option (Entry (BufferedStream T))))
     (next : Turns) (later : Hub D g) (new : List (Option (Entry (BufferedStream T)))) : Type 0 where
@@ -71,7 +71,7 @@ pub record DrivesReady {T D : Type 0} {g : Ghosts D} (reports : Type 0) (traffic
       (slot_at ready key)
   pub driven : List (Option (Entry (BufferedStream T)))
   pub drives : DrivesAnswering (traffic_through traffic) reports hub ready later driven
-      (λ h k. DrivenAll reports (traffic_through traffic) h ready k driven)
+      (λ h k. DrivenThen reports (traffic_through traffic) (writer_of next) h ready k driven)
   pub appends : AppendsAtMost (ready_count ready) hub later
   pub uses : EachEntry (UsesTurn reports traffic) ready driven
   pub ended : (key : ℕ) → EndsTurn reports traffic (g.moment (device later)) (slot_at driven key) (slot_at new key)
@@ -178,7 +178,7 @@ pub record IsTurn {D : Type 0} {g : Ghosts D} (reports : Type 0) (traffic : Sock
   pub lingerers_are : lingers_in accepted.lingering ≡ unless_failed accepted.backlog (lingers_in driven.lingering)
   pub rests : Rests accepted new
   pub run : Leads old.hub new.hub (λ h l. (k : Point)
-      × DrivenAll reports (traffic_through traffic) h drives.ready k drives.driven
+      × DrivenThen reports (traffic_through traffic) (writer_of driven.turns) h drives.ready k drives.driven
       × Adds k (accepted_joins (accepts_now old.backlog (items new.poller.events)) driven accepted accepts) l)
 
 -- a turn ends with a step of the garbage, which no open transaction needs, and whether some is left is known

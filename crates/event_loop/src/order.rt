@@ -3,8 +3,9 @@
 //! A COMMIT that writes waits for its syncs, and a long reply takes its time, and so does everybody meanwhile. So a turn drives the
 //! sessions that have written nothing and whose last drives were short, with a light share of it: who needs more takes turns from then on.
 //! Of the others it drives two at most, with a whole share: the next by key, round the table, and one of the other kind, a reader if the
-//! next is a writer, and a writer if it is a reader. So between two polls one session writes at most, and one reads much. Each that waits
-//! is driven within as many turns as the table has places.
+//! next is a writer, and a writer if it is a reader. So between two polls one session writes at most, and one reads much. The one that
+//! writes is driven last, so that no other of the turn waits for its syncs. Each that waits is driven within as many turns as the table has
+//! places.
 //!
 //! What a request takes isn't known before it was served. So of those that take no turns a turn drives as many as its width, and the rest
 //! are passed over and late until they have had a turn: who becomes ready later doesn't wait for them. Of those that are late it drives one
@@ -16,7 +17,7 @@ ghost use Rattle.event_loop.specs.Order.{AreNext, ComesNearer, HasNextTurn, afte
 ghost use Rattle.event_loop.specs.Order.{heavy_streams};
 ghost use Rattle.event_loop.specs.Order.{in_turn, is_late_entry, is_of_kind, is_one, is_writer, late_in, light_in};
 ghost use Rattle.event_loop.specs.Order.{share_at, share_in_turn, takes_turns, unused_in, waits_as};
-ghost use Rattle.event_loop.specs.Order.{width_after, writes_in};
+ghost use Rattle.event_loop.specs.Order.{width_after, writer_of, writes_in};
 ghost use Rattle.event_loop.specs.Tables.{slot_at};
 
 use crate::socket::Socket;
@@ -69,6 +70,17 @@ impl Turns {
             kind: Kind::Writer,
             beside: 0,
             width: WIDTH_MIN,
+        }
+    }
+
+    /// The key of the one that writes of those that have this turn, if one does. It is driven last, so that nobody waits for its syncs.
+    /// Takes no memory.
+    pub(crate) fn writer(self) -> usize
+        ensures { result ≡ writer_of self }
+    {
+        match self.kind {
+            Kind::Reader => self.next,
+            Kind::Writer | Kind::Any => self.beside,
         }
     }
 }

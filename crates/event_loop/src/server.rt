@@ -33,7 +33,7 @@ use std::alloc::Global;
 use std::io;
 use std::net::{Net, SocketAddr};
 use std::time::Duration;
-use stream_driver::{BufferedStream, Entry, Stream, drive_ready};
+use stream_driver::{BufferedStream, Entry, Stream, drive_ready_then};
 
 /// The token of the listener, which no key of the table is.
 pub(crate) const LISTENER: Token = Token(usize::MAX);
@@ -161,7 +161,8 @@ impl<D: Sectors> EventLoop<D> {
     /// other kind; the rest are ready in the next turn, which doesn't wait. So each is driven within as many turns as the table has places,
     /// and one (`law_each_has_its_turn`). An append ends the share of its stream, so what comes behind it in one piece waits for a turn as
     /// well. So a turn appends one record at most for the one that writes, and one for each other that comes with a whole transaction in
-    /// one piece: from then on it writes, until a drive answers it and appends nothing.
+    /// one piece: from then on it writes, until a drive answers it and appends nothing. The one that writes is driven behind the others,
+    /// so that none of them waits for its syncs.
     ///
     /// Of those that take no turns it drives as many as it is wide, `WIDTH_MIN` at least, with the least keys. The others are late: they
     /// take turns until they have had one, and of them it drives one less than it is wide besides. It is wider after a turn that drove as
@@ -347,7 +348,7 @@ impl<D: Sectors> EventLoop<D> {
         self.turns = next_turns(&self.hub, &self.table, self.turns, width);
         let unused = take_turns(&self.hub, self.turns, &mut self.table);
         let heavy_before = heavy_streams(&self.table);
-        drive_ready(&mut self.hub, &mut self.table);
+        drive_ready_then(&mut self.hub, &mut self.table, self.turns.writer());
         let heavy_after = heavy_streams(&self.table);
         let turned_out = heavy_after.saturating_sub(heavy_before);
         self.next_width = next_width(self.next_width, unused, turned_out);

@@ -20,6 +20,7 @@ use Rattle.stream_driver.proofs.States.{seen_after}
 use Rattle.stream_driver.specs.Appends.{AddsNone, AddsOne, IsReplied, KeepsShare, ServesOnce, Spends, Spent}
 use Rattle.stream_driver.specs.Appends.{AppendsAtMost, SpendsShare, ready_count, ready_in, count_if_ready}
 use Rattle.stream_driver.specs.Calls.{WritesOut, WritesSome}
+use Rattle.stream_driver.specs.Entries.{all_but}
 use Rattle.stream_driver.specs.Sends.{LeadsAnswering}
 use Rattle.stream_driver.specs.Sessions.{Ghosts, Hub, Leads, Stands, pending_at, session_of}
 use Rattle.stream_driver.specs.Traffic.{IsShareEnded, ReceivesBytes, Share, TakesOf, Traffic, SendsBytes}
@@ -293,6 +294,22 @@ pub appends_more : {D : Type 0} {g : Ghosts D} {T : Type 0} {a b c : Hub D g} (k
 appends_more key slots slot is p q =
     let more = ready_more key slots ∙ ap (λ o. ready_count (take key slots) + ready_in o) is in
     record { kept = omega (arith, p.kept, q.kept); few = omega (arith, more, p.few, q.few) }
+
+-- those that aren't last, and the last
+ready_all : {T : Type 0} (last : ℕ) (slots : List (Option (Entry T))) → ready_count (all_but last slots) + ready_in (get_or slots last None)
+    ≡ ready_count slots
+ready_all last [] = grind (arith, common_steps)
+ready_all zero (x ∷ xs) = grind (arith, common_steps)
+ready_all (suc last) (x ∷ xs) =
+    let others : ready_count (all_but last xs) + ready_in (get_or xs last None) ≡ ready_count xs = ready_all last xs in
+    omega (arith, others)
+
+pub appends_last : {D : Type 0} {g : Ghosts D} {T : Type 0} {a b c : Hub D g} (last : ℕ) (slots : List (Option (Entry T))) (slot : Option (Entry T))
+    → get_or slots last None ≡ slot → AppendsAtMost (ready_count (all_but last slots)) a b → AppendsAtMost (ready_in slot) b c
+    → AppendsAtMost (ready_count slots) a c
+appends_last last slots slot is p q =
+    let all = ap (λ o. ready_count (all_but last slots) + ready_in o) (sym is) ∙ ready_all last slots in
+    record { kept = omega (arith, p.kept, q.kept); few = omega (arith, all, p.few, q.few) }
 
 -- ---- between two requests
 

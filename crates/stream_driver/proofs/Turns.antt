@@ -1,9 +1,11 @@
 -- The turns of a walk over the table, and what left over its streams, entry by entry.
-use Rattle.std.proofs.Common.{◌≡◌, ◌≢◌, inl, inr, ℕ, ◌+◌, ◌<◌, ◌≤◌, List, [], ◌∷◌, ◌++◌, length, set, take, drop}
+use Rattle.std.proofs.Common.{◌≡◌, ◌≢◌, inl, inr, ℕ, suc, ◌+◌, ◌<◌, ◌≤◌, List, [], ◌∷◌, ◌++◌, length, set, take, drop}
 use Rattle.std.proofs.Common.{get_or, refl, sym, ap, subst, ◌∙◌, arith, Option, Some, None, ◌⊎◌}
-use Rattle.std.proofs.lemmas.Bool.{cases_lt}
+use Rattle.std.proofs.Math.ListN.{get_or-eq_default}
+use Rattle.std.proofs.lemmas.Bool.{cases_eq, cases_lt}
 use Rattle.std.proofs.lemmas.List.{take_all, take_more, take_more_set, get_or-drop, drop-drop, drop-set-lt}
-use Rattle.std.proofs.lemmas.List.{length-set}
+use Rattle.std.proofs.lemmas.List.{get_or-set_other, get_or-set_same, length-append, length-set, set_comm, set_past}
+use Rattle.std.proofs.lemmas.List.{set-set}
 use Rattle.model.proofs.Lookups.{some_same}
 use Rattle.sessions.specs.Laws.{NoneRuns}
 use Rattle.sessions.specs.SessionStreams.{Choice, HubEvent, HubState, run}
@@ -16,7 +18,7 @@ use Rattle.stream_driver.proofs.States.{Follow, leads_none, present_after, at_po
 use Rattle.stream_driver.proofs.States.{point_of}
 use Rattle.stream_driver.specs.Drives.{Drove}
 use Rattle.stream_driver.specs.Entries.{HaveSessions, DrivenEntry, DrivenIn, DrivenSlot, DrivenAll, EntriesSoFar}
-use Rattle.stream_driver.specs.Entries.{entry_state_after, KeepSessions}
+use Rattle.stream_driver.specs.Entries.{LeadsAll, LeadsThen, all_but, entry_state_after, with_last, KeepSessions}
 use Rattle.stream_driver.specs.Sends.{DrivesAnswering, LeadsAnswering, WereAnsweredBefore, IsAnswered, HasSent}
 use Rattle.stream_driver.specs.Sends.{HaveSent}
 use Rattle.stream_driver.specs.Sessions.{Ghosts, Hub, Point, Leads, IsPresent, StandsAt}
@@ -233,27 +235,29 @@ module _ {T : Type 0} (reports : Type 0) (traffic : T → Traffic) where
   drop_next : (key : ℕ) (slots new : List (Option (Entry T))) → drop key new ≡ drop key slots → drop (key + 1) new ≡ drop (key + 1) slots
   drop_next key slots new e = sym (drop-drop 1 key new) ∙ ap (λ (l : List (Option (Entry T))). drop 1 l) e ∙ drop-drop 1 key slots
 
-  pub entries_none : {D : Type 0} {g : Ghosts D} {hub : Hub D g} {slots : List (Option (Entry T))} → NoneRuns hub → HaveSessions hub slots
-      → EntriesSoFar reports traffic 0 hub slots hub slots
-  entries_none {D} {g} {hub} {slots} none has =
+  pub entries_none : {D : Type 0} {g : Ghosts D} {hub : Hub D g} {slots : List (Option (Entry T))} (last : ℕ) → NoneRuns hub → HaveSessions hub slots
+      → EntriesSoFar reports traffic last 0 hub slots hub slots
+  entries_none {D} {g} {hub} {slots} last none has =
       record {
         driven = drives_none reports traffic hub slots none _ (λ h stands. (refl, refl));
         rest = refl;
+        waits = refl;
         len = refl;
         sessions = has;
         numbers = λ key entry e. (entry, e, refl);
       }
 
-  one_vacant : (key : ℕ) (slots new : List (Option (Entry T))) → length new ≡ length slots → drop key new ≡ drop key slots → get_or new key None ≡ None
+  -- a slot without an entry
+  one_vacant : (key : ℕ) (slots new : List (Option (Entry T))) → length new ≡ length slots → get_or slots key None ≡ None → get_or new key None ≡ None
       → (h k : Point) → DrivenAll reports traffic h (take key slots) k (take key new)
       → DrivenAll reports traffic h (take (key + 1) slots) k (take (key + 1) new)
-  one_vacant key slots new len rest none h k now = elim (cases_lt key (length slots)) [
+  one_vacant key slots new len was none h k now = elim (cases_lt key (length slots)) [
     | inl lt ↦
         let lt_new : key < length new = rw len lt in
         rw (
           take_more slots key None lt,
           take_more new key None lt_new,
-          same_slot key slots new rest,
+          was,
           none,
         ) (driven_more h (take key slots) k (take key new) None k None now (refl, refl))
     | inr ge ↦ rw (
@@ -262,38 +266,147 @@ module _ {T : Type 0} (reports : Type 0) (traffic : T → Traffic) where
     ) (rw (take_all key slots ge, take_all key new (rw len ge)) at now)
   ]
 
-  one_driven : (key : ℕ) (slots new : List (Option (Entry T))) (old entry : Entry T) → length new ≡ length slots → drop key new ≡ drop key slots
-      → get_or new key None ≡ Some old → (h k l : Point)
-      → DrivenAll reports traffic h (take key slots) k (take key new) → DrivenEntry reports traffic k old l entry
+  one_driven : (key : ℕ) (slots new : List (Option (Entry T))) (old entry : Entry T) → get_or slots key None ≡ Some old → get_or new key None ≡ Some old
+      → (h k l : Point) → DrivenAll reports traffic h (take key slots) k (take key new) → DrivenEntry reports traffic k old l entry
       → DrivenAll reports traffic h (take (key + 1) slots) l (take (key + 1) (set new key (Some entry)))
-  one_driven key slots new old entry len rest is h k l now d =
-      let lt_new : key < length new = below new key old is in
-      let lt : key < length slots = rw (← len) lt_new in
-      rw (take_more slots key None lt, take_more_set new key (Some entry) lt_new, same_slot key slots new rest, is)
+  one_driven key slots new old entry was is h k l now d =
+      rw (take_more slots key None (below slots key old was), take_more_set new key (Some entry) (below new key old is), was)
       (driven_more h (take key slots) k (take key new) (Some old) l (Some entry) now (entry, refl, d))
 
-  module _ {D : Type 0} {g : Ghosts D} {key : ℕ} {hub : Hub D g} {slots : List (Option (Entry T))} {mid : Hub D g} {new : List (Option (Entry T))}
-      (p : EntriesSoFar reports traffic key hub slots mid new) where
-    pub entries_vacant : get_or new key None ≡ None → EntriesSoFar reports traffic (key + 1) hub slots mid new
-    entries_vacant none =
-        let driven = drives_map reports traffic p.driven (λ (h k : Point) (stands : StandsFor mid k.hub). one_vacant key slots new p.len p.rest none h k) in
-        assumption (driven, drop_next key slots new p.rest)
+  -- without the last
+  pub but_last : (last key : ℕ) (slots : List (Option (Entry T))) → key ≡ last → get_or (all_but last slots) key None ≡ None
+  but_last last key slots same = elim (cases_lt last (length slots)) [
+    | inl lt ↦ ap (λ k. get_or (all_but last slots) k None) same ∙ get_or-set_same slots last None None lt
+    | inr ge ↦ get_or-eq_default (all_but last slots) None (rw (length-set slots last None, same) ge)
+  ]
 
-    pub entries_driven : Follow D g → (old : Entry T) {later : Hub D g} {entry : Entry T} → get_or new key None ≡ Some old → entry.session ≡ old.session
-        → (old.state ≡ EntryGone → entry.state ≡ EntryGone)
-        → LeadsAnswering old.session reports mid (traffic old.stream) later (traffic entry.stream) (λ h k. DrivenEntry reports traffic h old k entry)
-        → EntriesSoFar reports traffic (key + 1) hub slots later (set new key (Some entry))
-    entries_driven follow old {later} {entry} is same stays leads = record {
-      driven = drives_then reports traffic follow key entry _ p.driven leads is (below new key old is) p.sessions p.numbers
-          (λ h k l stands now d. one_driven key slots new old entry p.len p.rest is h k l now d);
-      rest = rw (drop-set-lt (key + 1) new key (Some entry) (omega arith)) (drop_next key slots new p.rest);
-      len = length-set new key (Some entry) ∙ p.len;
-      sessions = sessions_kept new key entry is same stays leads.leads p.sessions;
-      numbers = λ other another e.
-          let was = entry_was new key old entry is same stays other another e in
-          let before = p.numbers other was.0 was.1 in
-          (before.0, before.1, was.2 ∙ before.2);
+  pub but_none : (last key : ℕ) (slots : List (Option (Entry T))) → get_or slots key None ≡ None → get_or (all_but last slots) key None ≡ None
+  but_none last key slots none = elim (cases_eq key last) [
+    | inl same ↦ but_last last key slots same
+    | inr differs ↦ get_or-set_other slots last key None None differs ∙ none
+  ]
+
+  module _ {D : Type 0} {g : Ghosts D} {last key : ℕ} {hub : Hub D g} {slots : List (Option (Entry T))} {mid : Hub D g} {new : List (Option (Entry T))}
+      (p : EntriesSoFar reports traffic last key hub slots mid new) where
+    len_but : length (all_but last new) ≡ length (all_but last slots)
+    len_but = length-set new last None ∙ p.len ∙ sym (length-set slots last None)
+
+    -- nothing is done at a key at which there is no entry, or where it is the last
+    entries_passed : get_or (all_but last slots) key None ≡ None → get_or (all_but last new) key None ≡ None
+        → EntriesSoFar reports traffic last (key + 1) hub slots mid new
+    entries_passed was none = record {
+      driven = drives_map reports traffic p.driven
+          (λ (h k : Point) (stands : StandsFor mid k.hub). one_vacant key (all_but last slots) (all_but last new) len_but was none h k);
+      rest = drop_next key slots new p.rest;
+      waits = p.waits;
+      len = p.len;
+      sessions = p.sessions;
+      numbers = p.numbers;
     }
 
-    pub entries_all : length slots ≤ key → DrivesAnswering traffic reports hub slots mid new (λ h k. DrivenAll reports traffic h slots k new)
-    entries_all le = rw (take_all key slots le, take_all key new (rw p.len le)) at p.driven
+    pub entries_vacant : get_or new key None ≡ None → EntriesSoFar reports traffic last (key + 1) hub slots mid new
+    entries_vacant none = entries_passed (but_none last key slots (same_slot key slots new p.rest ∙ none)) (but_none last key new none)
+
+    pub entries_wait : key ≡ last → EntriesSoFar reports traffic last (key + 1) hub slots mid new
+    entries_wait same = entries_passed (but_last last key slots same) (but_last last key new same)
+
+    -- the entry at a key is driven
+    module _ (at : ℕ) (old : Entry T) {later : Hub D g} {entry : Entry T} (is : get_or new at None ≡ Some old) (same : entry.session ≡ old.session)
+        (stays : old.state ≡ EntryGone → entry.state ≡ EntryGone)
+        (leads : LeadsAnswering old.session reports mid (traffic old.stream) later (traffic entry.stream) (λ h k. DrivenEntry reports traffic h old k entry))
+      where
+        pub driven_numbers : KeepSessions slots (set new at (Some entry))
+        driven_numbers other another e =
+            let was = entry_was new at old entry is same stays other another e in
+            let before = p.numbers other was.0 was.1 in
+            (before.0, before.1, was.2 ∙ before.2)
+
+        pub driven_sessions : HaveSessions later (set new at (Some entry))
+        driven_sessions = sessions_kept new at entry is same stays leads.leads p.sessions
+
+    pub entries_driven : Follow D g → (old : Entry T) {later : Hub D g} {entry : Entry T} → key ≢ last → get_or new key None ≡ Some old
+        → entry.session ≡ old.session → (old.state ≡ EntryGone → entry.state ≡ EntryGone)
+        → LeadsAnswering old.session reports mid (traffic old.stream) later (traffic entry.stream) (λ h k. DrivenEntry reports traffic h old k entry)
+        → EntriesSoFar reports traffic last (key + 1) hub slots later (set new key (Some entry))
+    entries_driven follow old {later} {entry} differs is same stays leads = record {
+      driven = drives_then reports traffic follow key entry _ p.driven leads is (below new key old is) p.sessions p.numbers
+          (λ h k l stands now d.
+          subst (λ (ys : List (Option (Entry T))). DrivenAll reports traffic h (take (key + 1) (all_but last slots)) l (take (key + 1) ys))
+          (set_comm new last key None (Some entry) (λ e. differs (sym e)))
+          (one_driven key (all_but last slots) (all_but last new) old entry
+          (get_or-set_other slots last key None None differs ∙ same_slot key slots new p.rest ∙ is)
+          (get_or-set_other new last key None None differs ∙ is) h k l now d));
+      rest = rw (drop-set-lt (key + 1) new key (Some entry) (omega arith)) (drop_next key slots new p.rest);
+      waits = get_or-set_other new key last (Some entry) None (λ e. differs (sym e)) ∙ p.waits;
+      len = length-set new key (Some entry) ∙ p.len;
+      sessions = driven_sessions key old is same stays leads;
+      numbers = driven_numbers key old is same stays leads;
+    }
+
+    -- ---- the last
+
+    module _ (all : length slots ≤ key) where
+      all_others : (h k : Point) → DrivenAll reports traffic h (take key (all_but last slots)) k (take key (all_but last new))
+          → DrivenAll reports traffic h (all_but last slots) k (all_but last new)
+      all_others h k d =
+          rw (
+            take_all key (all_but last slots) (rw (length-set slots last None) all),
+            take_all key (all_but last new) (rw (length-set new last None, p.len) all),
+          ) at d
+
+      pub none_last : get_or new last None ≡ None → LeadsThen reports traffic last hub slots mid new
+      none_last none = drives_map reports traffic p.driven (λ (h k : Point) (stands : StandsFor mid k.hub) d.
+          driven_more h (all_but last slots) k (all_but last new) (get_or slots last None) k (get_or new last None) (all_others h k d)
+          (rw (sym p.waits ∙ none, none) (refl, refl)))
+
+      pub then_last : Follow D g → (old : Entry T) {later : Hub D g} (entry : Entry T) → get_or new last None ≡ Some old
+          → LeadsAnswering old.session reports mid (traffic old.stream) later (traffic entry.stream) (λ h k. DrivenEntry reports traffic h old k entry)
+          → LeadsThen reports traffic last hub slots later (set new last (Some entry))
+      then_last follow old {later} entry is leads =
+          drives_then reports traffic follow last entry _ p.driven leads is (below new last old is) p.sessions p.numbers
+          (λ h k l stands now d. rw (
+            set-set new last (Some entry) None,
+            get_or-set_same new last (Some entry) None (below new last old is),
+            sym p.waits ∙ is,
+          ) (driven_more h (all_but last slots) k (all_but last new) (Some old) l (Some entry) (all_others h k now) (entry, refl, d)))
+
+  -- ---- where none is last
+
+  pub driven_length : (earlier : Point) (xs : List (Option (Entry T))) (later : Point) (ys : List (Option (Entry T)))
+      → DrivenAll reports traffic earlier xs later ys → length ys ≡ length xs
+  driven_length earlier [] later ys d = ap length d.0
+  driven_length earlier (x ∷ xs) later ys (first, mid, others, is, dx, rest) = ap length is ∙ ap suc (driven_length mid xs later others rest)
+
+  driven_front : (earlier : Point) (xs : List (Option (Entry T))) (later : Point) (ys : List (Option (Entry T))) → length ys ≡ length xs
+      → DrivenAll reports traffic earlier (xs ++ None ∷ []) later (ys ++ None ∷ []) → DrivenAll reports traffic earlier xs later ys
+  driven_front earlier [] later [] len (first, mid, others, is, dx, rest) = (refl, rest.1 ∙ dx.1)
+  driven_front earlier [] later (y ∷ ys) len d = absurd (cc)
+  driven_front earlier (x ∷ xs) later [] len d = absurd (cc)
+  driven_front earlier (x ∷ xs) later (y ∷ ys) len (first, mid, others, is, dx, rest) = (
+    y,
+    mid,
+    ys,
+    refl,
+    subst (λ (s : Option (Entry T)). DrivenSlot reports traffic earlier x mid s) (cc) dx,
+    driven_front mid xs later ys (cc)
+        (subst (λ (l : List (Option (Entry T))). DrivenAll reports traffic mid (xs ++ None ∷ []) later l) (cc) rest),
+  )
+
+  pub none_is_last : {D : Type 0} {g : Ghosts D} {hub later : Hub D g} {slots new : List (Option (Entry T))} (last : ℕ) → length slots ≤ last
+      → LeadsThen reports traffic last hub slots later new → LeadsAll reports traffic hub slots later new
+  none_is_last {D} {g} {hub} {later} {slots} {new} last le leads = drives_map reports traffic leads (λ (h k : Point) (stands : StandsFor later k.hub) d.
+      let with = driven_length h (with_last last slots) k (with_last last new) d in
+      let len : length new ≡ length slots = omega (
+        arith,
+        with,
+        length-append (all_but last slots) (get_or slots last None ∷ []),
+        length-append (all_but last new) (get_or new last None ∷ []),
+        length-set slots last None,
+        length-set new last None,
+      ) in
+      driven_front h slots k new len (rw (
+        set_past slots last None le,
+        set_past new last None (rw len le),
+        get_or-eq_default slots None {n = last} le,
+        get_or-eq_default new None {n = last} (rw len le),
+      ) at d))

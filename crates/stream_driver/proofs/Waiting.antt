@@ -3,9 +3,11 @@ use Rattle.std.proofs.Common.{◌≡◌, ◌≢◌, ◌⊎◌, ◌↔◌, ◌+�
 use Rattle.std.proofs.Common.{get_or, Option, Some, None, refl, sym, ap, subst, ◌∙◌, arith}
 use Rattle.std.proofs.lemmas.Bool.{cases_eq}
 use Rattle.std.proofs.lemmas.Grind.{common_steps}
+use Rattle.std.proofs.lemmas.List.{get_or-set_other, length-set, set_comm}
 use Rattle.model.proofs.Lookups.{some_same}
 use Rattle.stream_driver.proofs.OneEntry.{below, get_set}
 use Rattle.stream_driver.specs.Buffers.{ShortAfter, WhyTook, buffered_in}
+use Rattle.stream_driver.specs.Entries.{all_but}
 use Rattle.stream_driver.specs.Traffic.{Traffic}
 use Rattle.stream_driver.specs.Types.{BufferedStream, Call, Entry, Read, ReadAnswer, Moved, Blocked, Failed}
 use Rattle.stream_driver.specs.Types.{Ended, CallCounts, WriteAnswer, Wrote, WriteBlocked, WriteFailed}
@@ -47,6 +49,23 @@ module _ {T : Type 0} (P : Entry T → Entry T → Type 0) where
 
   pub below_all : (key : ℕ) (slots new : List (Option (Entry T))) → length slots ≤ key → EntriesBelow key slots new → EachEntry P slots new
   below_all key slots new le so_far = λ other was now e d. so_far other was now (let lt = below slots other was e in omega arith) e d
+
+  -- one more of those that aren't last
+  pub below_others : (last key : ℕ) (slots new : List (Option (Entry T))) → EntriesBelow key (all_but last slots) (all_but last new) → (old entry : Entry T)
+      → key ≢ last → get_or slots key None ≡ Some old → key < length new → P old entry
+      → EntriesBelow (key + 1) (all_but last slots) (all_but last (set new key (Some entry)))
+  below_others last key slots new so_far old entry differs is lt since =
+      subst (λ (ys : List (Option (Entry T))). EntriesBelow (key + 1) (all_but last slots) ys) (set_comm new last key None (Some entry) (λ e. differs (sym e)))
+      (below_driven key (all_but last slots) (all_but last new) so_far old entry (get_or-set_other slots last key None None differs ∙ is)
+      (rw (length-set new last None) lt) since)
+
+  -- and the last
+  pub each_and_last : (last : ℕ) (slots new : List (Option (Entry T))) → EachEntry P (all_but last slots) (all_but last new)
+      → ((was entry : Entry T) → get_or slots last None ≡ Some was → get_or new last None ≡ Some entry → P was entry) → EachEntry P slots new
+  each_and_last last slots new others this = λ key was now e d. elim (cases_eq key last) [
+    | inl same ↦ this was now (ap (λ k. get_or slots k None) (sym same) ∙ e) (ap (λ k. get_or new k None) (sym same) ∙ d)
+    | inr differs ↦ others key was now (get_or-set_other slots last key None None differs ∙ e) (get_or-set_other new last key None None differs ∙ d)
+  ]
 
 -- ---- a stream that buffers
 

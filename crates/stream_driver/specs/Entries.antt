@@ -1,6 +1,6 @@
 -- What a turn over the table of connections does.
-use Rattle.std.specs.Prelude.{◌≡◌, ◌≢◌, ℕ, ◌&&◌, Bool, cond, true, false, List, [], ◌∷◌, Option, Some, None}
-use Rattle.std.specs.Prelude.{slice_index_or, take, drop, length}
+use Rattle.std.specs.Prelude.{◌≡◌, ◌≢◌, ℕ, ◌&&◌, Bool, cond, true, false, List, [], ◌∷◌, ◌++◌, Option, Some, None}
+use Rattle.std.specs.Prelude.{slice_index_or, set, take, drop, length}
 use Rattle.stream_driver.specs.Buffers.{Finishes, fresh, has_had_share, is_flushed_or_failed}
 use Rattle.stream_driver.specs.Drives.{Drove}
 use Rattle.stream_driver.specs.Sends.{DrivesAnswering, LeadsAnswering}
@@ -28,6 +28,15 @@ pub record HaveSessions {D : Type 0} {g : Ghosts D} {T : Type 0} (hub : Hub D g)
 abbrev pub KeepSessions : {T : Type 0} → List (Option (Entry T)) → List (Option (Entry T)) → Type 0
 KeepSessions {T} old new = (key : ℕ) (entry : Entry T) → slice_index_or new key None ≡ Some entry
     → (was : Entry T) × (slice_index_or old key None ≡ Some was) × (entry.session ≡ was.session)
+
+module _ {T : Type 0} where
+  -- the slots without the entry at a key
+  abbrev pub all_but : ℕ → List (Option (Entry T)) → List (Option (Entry T))
+  all_but key slots = set slots key None
+
+  -- so, and that entry behind them
+  abbrev pub with_last : ℕ → List (Option (Entry T)) → List (Option (Entry T))
+  with_last key slots = all_but key slots ++ slice_index_or slots key None ∷ []
 
 module _ {T : Type 0} (reports : Type 0) (traffic : T → Traffic) where
   -- one drive left the entry so
@@ -57,6 +66,10 @@ module _ {T : Type 0} (reports : Type 0) (traffic : T → Traffic) where
       (first : Option (Entry T)) × (mid : Point) × (others : List (Option (Entry T))) × (new ≡ first ∷ others)
       × DrivenSlot earlier slot mid first × DrivenAll mid slots later others
 
+  -- so it is, but that at one key comes last
+  abbrev pub DrivenThen : ℕ → Point → List (Option (Entry T)) → Point → List (Option (Entry T)) → Type 0
+  DrivenThen last earlier slots later new = DrivenAll earlier (with_last last slots) later (with_last last new)
+
   -- a run leads from one hub to the other, and drove the entry
   abbrev pub LeadsEntry : {D : Type 0} {g : Ghosts D} → Hub D g → Entry T → Hub D g → Entry T → Type 0
   LeadsEntry hub old later new =
@@ -68,12 +81,19 @@ module _ {T : Type 0} (reports : Type 0) (traffic : T → Traffic) where
       → List (Option (Entry T)) → Type 0
   LeadsAll hub slots later new = DrivesAnswering traffic reports hub slots later new (λ h k. DrivenAll h slots k new)
 
-  -- the slots below a key were driven, and the others stand as they were
-  pub record EntriesSoFar {D : Type 0} {g : Ghosts D} (key : ℕ) (hub : Hub D g) (slots : List (Option (Entry T)))
+  -- and that at one key last
+  abbrev pub LeadsThen : {D : Type 0} {g : Ghosts D} → ℕ → Hub D g → List (Option (Entry T)) → Hub D g
+      → List (Option (Entry T)) → Type 0
+  LeadsThen last hub slots later new =
+      DrivesAnswering traffic reports hub slots later new (λ h k. DrivenThen last h slots k new)
+
+  -- the slots below a key were driven but for the last, and the others stand as they were
+  pub record EntriesSoFar {D : Type 0} {g : Ghosts D} (last key : ℕ) (hub : Hub D g) (slots : List (Option (Entry T)))
       (later : Hub D g) (new : List (Option (Entry T))) : Type 0 where
     pub driven : DrivesAnswering traffic reports hub slots later new
-        (λ h k. DrivenAll h (take key slots) k (take key new))
+        (λ h k. DrivenAll h (take key (all_but last slots)) k (take key (all_but last new)))
     pub rest : drop key new ≡ drop key slots
+    pub waits : slice_index_or new last None ≡ slice_index_or slots last None
     pub len : length new ≡ length slots
     pub sessions : HaveSessions later new
     pub numbers : KeepSessions slots new

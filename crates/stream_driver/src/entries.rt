@@ -3,8 +3,8 @@ ghost use Rattle.std.specs.Prelude.{◌≡◌, ◌≢◌};
 ghost use Rattle.stream_driver.specs.Appends.{AppendsAtMost, UsesShare, ready_count, count_if_ready};
 ghost use Rattle.stream_driver.specs.Sessions.{IsPresent};
 ghost use Rattle.stream_driver.specs.Buffers.{has_had_share};
-ghost use Rattle.stream_driver.specs.Entries.{LeadsAll, LeadsEntry, HaveSessions, KeepSessions, EndsDrive, is_over};
-ghost use Rattle.stream_driver.specs.Entries.{state_at_end};
+ghost use Rattle.stream_driver.specs.Entries.{LeadsAll, LeadsEntry, LeadsThen, HaveSessions, KeepSessions, EndsDrive};
+ghost use Rattle.stream_driver.specs.Entries.{is_over, state_at_end};
 ghost use Rattle.stream_driver.specs.Waits.{EachEntry, WaitsSince};
 
 use crate::answers::Progress;
@@ -58,14 +58,7 @@ fn drive_entry<D: Sectors, S: Stream>(
     }
 }
 
-/// Drives each entry that is `Ready` once, by rising key, and leaves the others as they are. After `Waiting` an entry is `Idle`, after
-/// `Again` it stays `Ready`, after `Gone` it is `Gone`.
-///
-/// Where the streams keep to their shares, each of these drives appends one record to the log at most, and what is gone of a share was
-/// sent, unless the share was ended with the reply to a request that appended a record.
-///
-/// The session of each entry that isn't `Gone` is present, and no other entry has it. The stream of each that was driven and is `Idle` can
-/// say why its last call blocked.
+/// Drives each entry that is `Ready` once, by rising key, and leaves the others as they are: as `drive_ready_then`, with none that is last.
 ///
 /// It may grow what the requests grow, and the outputs of the sessions.
 pub fn drive_ready<D: Sectors, S: Stream>(hub: &mut Hub<D>, table: &mut Slab<Entry<S>>)
@@ -77,12 +70,45 @@ pub fn drive_ready<D: Sectors, S: Stream>(hub: &mut Hub<D>, table: &mut Slab<Ent
     ensures shares { S.keeps_share → EachEntry (UsesShare S.reports S.traffic S.share) table.old.slots table.new.slots }
     ensures waits { EachEntry (WaitsSince S.is_sound S.waits) table.old.slots table.new.slots }
 {
+    drive_ready_then(hub, table, table.capacity());
+}
+
+/// Drives each entry that is `Ready` once, by rising key but for the one at a key that is driven last, if there is one, and leaves the
+/// others as they are. After `Waiting` an entry is `Idle`, after `Again` it stays `Ready`, after `Gone` it is `Gone`.
+///
+/// Where the streams keep to their shares, each of these drives appends one record to the log at most, and what is gone of a share was
+/// sent, unless the share was ended with the reply to a request that appended a record. So where the last is the only one that writes, no
+/// other waits for its syncs.
+///
+/// The session of each entry that isn't `Gone` is present, and no other entry has it. The stream of each that was driven and is `Idle` can
+/// say why its last call blocked.
+///
+/// It may grow what the requests grow, and the outputs of the sessions.
+pub fn drive_ready_then<D: Sectors, S: Stream>(
+    hub: &mut Hub<D>,
+    table: &mut Slab<Entry<S>>,
+    last: usize,
+)
+    requires { HaveSessions hub.old table.old.slots }
+    ensures driven { LeadsThen S.reports S.traffic last hub.old table.old.slots hub.new table.new.slots }
+    ensures sessions { HaveSessions hub.new table.new.slots }
+    ensures numbers { KeepSessions table.old.slots table.new.slots }
+    ensures appends { S.keeps_share → AppendsAtMost (ready_count table.old.slots) hub.old hub.new }
+    ensures shares { S.keeps_share → EachEntry (UsesShare S.reports S.traffic S.share) table.old.slots table.new.slots }
+    ensures waits { EachEntry (WaitsSince S.is_sound S.waits) table.old.slots table.new.slots }
+{
     hub.law_runs_follow();
     let mut buffer = [0u8; READ_MAX];
     for key in 0..table.capacity() {
+        if key == last {
+            continue;
+        }
         if let Some(entry) = table.get_mut(key) {
             drive_entry(hub, entry, &mut buffer);
         }
+    }
+    if let Some(entry) = table.get_mut(last) {
+        drive_entry(hub, entry, &mut buffer);
     }
 }
 

@@ -16,6 +16,6 @@ pub use buffered::{BufferedStream, Flushed, HEAVY_TURNS, LIGHT_MAX, SHARE_MAX};
 pub use buffered_bytes::BUFFERED_MAX;
 pub use counts::CallCounts;
 pub use driving::{READ_MAX, REQUESTS_MAX, drive};
-pub use entries::{Entry, EntryState, drive_ready, end_drive};
+pub use entries::{Entry, EntryState, drive_ready, drive_ready_then, end_drive};
 pub use laws::{law_leads_are_runs, law_shares};
 pub use stream::Stream;

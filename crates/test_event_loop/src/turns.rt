@@ -7,13 +7,18 @@ use sector::MemSectors;
 use sessions::{Event, Hub, Outcome, Status};
 use slab::Slab;
 use std::process::Abort;
-use stream_driver::{Entry, EntryState, drive_ready};
+use stream_driver::{Entry, EntryState, drive_ready, drive_ready_then};
 use test_hubs::{Driven, Script, Trouble, new_hub};
 
 /// The number of the first session.
 const FIRST: u64 = 20;
 
 const OPENING: &[u8] = b"*1\r\n$5\r\nBEGIN\r\n*3\r\n$3\r\nSET\r\n$1\r\na\r\n$1\r\n1\r\n";
+
+const WRITING: &[u8] =
+    b"*1\r\n$5\r\nBEGIN\r\n*3\r\n$3\r\nSET\r\n$1\r\na\r\n$1\r\n1\r\n*1\r\n$6\r\nCOMMIT\r\n";
+
+const BEGUN: &[u8] = b"*1\r\n$5\r\nBEGIN\r\n*2\r\n$3\r\nGET\r\n$1\r\na\r\n";
 
 const READING: &[u8] = b"*2\r\n$3\r\nGET\r\n$1\r\na\r\n";
 
@@ -111,6 +116,11 @@ impl Crowd {
     fn turn(&mut self) {
         drive_ready(&mut self.hub, &mut self.table);
     }
+
+    /// A turn in which the entry at a key is driven last.
+    fn turn_then(&mut self, last: usize) {
+        drive_ready_then(&mut self.hub, &mut self.table, last);
+    }
 }
 
 fn crowd_of<R: Abort + AllocGlobal>(rt: &R, peers: &[Peer]) -> Crowd {
@@ -199,5 +209,37 @@ fn one_of_three_is_idle(rt: HostRuntime) {
     }
     for (session, (state, _)) in (FIRST..u64::MAX).zip(expected) {
         assert!(rt; (crowd.hub.status(session) == Status::Absent) == (state == gone));
+    }
+}
+
+/// A connection whose peer sends this and ends.
+fn sending<R: Abort + AllocGlobal>(rt: &R, input: &[u8]) -> Script {
+    let input = input.to_vec(rt.alloc()).expect(rt, "memory");
+    Script::new(input, Vec::new(rt.alloc()), 0, Trouble::Fewer)
+}
+
+/// A peer that commits `a` in one piece, and behind it one that reads it.
+fn writer_and_reader<R: Abort + AllocGlobal>(rt: &R) -> Crowd {
+    Crowd::new(rt)
+        .join(rt, sending(rt, WRITING), EntryState::Ready)
+        .join(rt, sending(rt, BEGUN), EntryState::Ready)
+}
+
+/// Has the second peer found a value of `a`?
+fn has_read(crowd: &Crowd) -> Option<bool> {
+    let entry = crowd.table.get(1)?;
+    Some(entry.stream.sent().ends_with(b"$1\r\n1\r\n"))
+}
+
+/// The reader comes behind the commit, unless the writer is the last.
+#[test]
+fn the_last_is_driven_behind_the_others(rt: HostRuntime) {
+    let mut crowd = writer_and_reader(&rt);
+    crowd.turn();
+    assert!(rt; has_read(&crowd) == Some(true));
+    for (last, expected) in [(0, false), (1, true), (2, true)] {
+        let mut crowd = writer_and_reader(&rt);
+        crowd.turn_then(last);
+        assert!(rt; has_read(&crowd) == Some(expected), "last {last}");
     }
 }
