@@ -83,7 +83,7 @@ impl Run for ReadRun {
 
     ghost alike = { are_alike };
 
-    ghost makes = { λ o old new. IsMade o new.first.items new.second.items old.made.items new.made.items };
+    ghost makes = { λ rs active o old new. IsMade o new.first.items new.second.items old.made.items new.made.items };
 
     // a merge drops nothing that someone could ask for
     ghost asks = { λ _ _. true };
@@ -143,7 +143,8 @@ impl Run for ReadRun {
         self.first = mem::replace(&mut self.made, places);
     }
 
-    fn move_one(&mut self, oldest: u64, _active: &()) {
+    // What a run says of a key is needed whatever the earlier ones say.
+    fn move_one(&mut self, _earlier: &[ReadRun], oldest: u64, _active: &()) {
         move_greatest(&mut self.first, &mut self.second, &mut self.made, oldest);
         free_room(&mut self.first, &mut self.second);
     }

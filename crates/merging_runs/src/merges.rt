@@ -1,5 +1,6 @@
 //! Merges two neighbouring runs of a similar size, some elements at a time.
-ghost use Rattle.std.specs.Prelude.{◌≡◌, ◌≤◌, ◌<◌, ◌-◌, ◌&&◌, ℕ, Bool, [], ◌∷◌, true, false, map, nat_le, take, drop};
+ghost use Rattle.std.specs.Prelude.{◌≡◌, ◌≤◌, ◌<◌, ◌-◌, ◌++◌, ◌&&◌, ℕ, Bool, [], ◌∷◌, true, false, map, nat_le, take};
+ghost use Rattle.std.specs.Prelude.{drop};
 ghost use Rattle.std.specs.Vec.{vec_len};
 ghost use Rattle.merging_runs.specs.RunSizes.{AreMerged, EndsIf, IsMerged, IsMoved, IsTried, RestsFrom, has_alike};
 
@@ -46,10 +47,18 @@ pub(crate) fn open_last<R: Run>(runs: &mut Vec<R>, oldest: u64, refused: &mut u6
     }
 }
 
-// Moves elements of the run so many times at most: how many moves are left, which are none while there is something to move.
-fn move_on<R: Run>(run: &mut R, oldest: u64, active: &R::Active, most: usize) -> usize
+// Moves elements of a run, which stands behind others, so many times at most: how many moves are left, which are none while there is
+// something to move.
+fn move_on<R: Run>(
+    run: &mut R,
+    earlier: &[R],
+    oldest: u64,
+    active: &R::Active,
+    most: usize,
+) -> usize
     requires { oldest < (R.sizes run.old).last }
-    ensures agree { R.agree (λ b. nat_le oldest b && R.asks active.now b) (run.new ∷ []) (run.old ∷ []) }
+    ensures agree { R.agree (λ b. nat_le oldest b && R.asks active.now b) (earlier.now ++ run.new ∷ [])
+        (earlier.now ++ run.old ∷ []) }
     ensures most { result ≤ most }
     ensures merged { IsMerged R.each (most - result) (R.sizes run.old) (R.sizes run.new) }
     ensures ended { 0 < result → (R.sizes run.new).left ≡ 0 }
@@ -58,7 +67,7 @@ fn move_on<R: Run>(run: &mut R, oldest: u64, active: &R::Active, most: usize) ->
         if run.is_at_rest() {
             return most - moved;
         }
-        run.move_one(oldest, active);
+        run.move_one(earlier, oldest, active);
     }
     0
 }
@@ -83,7 +92,8 @@ fn move_at<R: Run>(
     if runs[place].last() <= oldest {
         return most;
     }
-    move_on(&mut runs[place], oldest, active, most)
+    let (earlier, rest) = runs.split_at_mut(place);
+    move_on(&mut rest[0], earlier, oldest, active, most)
 }
 
 // Moves elements so many times at most in the runs that are being made of two, in the last runs first: these are the shortest.

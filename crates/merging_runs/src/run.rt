@@ -45,8 +45,9 @@ pub trait Run: Drop {
     /// Whether two runs are of a like size, where nothing is asked of the numbers up to that one.
     ghost alike: { ℕ → RunSize → RunSize → Bool };
 
-    /// What a move may make of a run, where nothing is asked of the numbers up to that one.
-    ghost makes: { ℕ → Self → Self → Type 0 } = { λ _ _ _. ⊤ };
+    /// What a move may make of a run that stands behind others, where those may still ask, and nothing is asked of the numbers up to that
+    /// one.
+    ghost makes: { List Self → Self.Active → ℕ → Self → Self → Type 0 } = { λ _ _ _ _ _. ⊤ };
 
     /// Whether one who began at that number may still ask.
     ghost asks: { Self.Active → ℕ → Bool };
@@ -95,12 +96,13 @@ pub trait Run: Drop {
         ensures under_way { result ≡ false → 0 < (sizes self.now).left };
 
     /// Moves an element of the two, or more of one key, and frees their room once nothing is left of them. It may drop what none who may
-    /// still ask is answered by. Takes no memory.
-    fn move_one(&mut self, oldest: u64, active: &Self::Active)
+    /// still ask is answered by, as the earlier runs answer in its place. Takes no memory.
+    fn move_one(&mut self, earlier: &[Self], oldest: u64, active: &Self::Active)
         requires late { oldest < (sizes self.old).last }
         requires some { 0 < (sizes self.old).left }
-        ensures makes { makes oldest self.old self.new }
-        ensures agree { agree (λ b. nat_le oldest b && asks active.now b) (self.new ∷ []) (self.old ∷ []) }
+        ensures makes { makes earlier.now active.now oldest self.old self.new }
+        ensures agree { agree (λ b. nat_le oldest b && asks active.now b) (earlier.now ++ self.new ∷ [])
+            (earlier.now ++ self.old ∷ []) }
         ensures merged { IsMerged each 1 (sizes self.old) (sizes self.new) }
         ensures room { (sizes self.new).left ≡ 0 → room self.new ≡ 0 };
 

@@ -138,8 +138,9 @@ impl<R: Run> Runs<R> {
         }
     }
 
-    /// Moves on the merges that are under way, by 16 moves for each of so many elements, and 64, until nothing is left to move. The runs
-    /// answer as they did, whoever asks that may still and didn't begin before `oldest`. Takes no memory.
+    /// Moves on the merges that are under way, by 16 moves for each of so many elements, and 64, until nothing is left to move. A move sees
+    /// the runs before its own, and takes as long as it searches them. The runs answer as they did, whoever asks that may still and didn't
+    /// begin before `oldest`. Takes no memory.
     pub fn move_on(&mut self, oldest: u64, active: &R::Active, count: usize)
         ensures agree { R.agree (λ b. nat_le oldest b && R.asks active.now b) self.new.runs self.old.runs }
         ensures moved { IsMoved R.each oldest (moves_for count) self.old.sizes self.new.sizes }

@@ -1,5 +1,5 @@
 use Rattle.merging_runs.proofs.merges.move_on.Goals as goal
-use Rattle.std.proofs.Common.{[], ◌∷◌, ◌∙◌, arith}
+use Rattle.std.proofs.Common.{[], ◌∷◌, ◌++◌, ◌∙◌, arith}
 use Rattle.std.specs.Prelude.{◌&&◌, nat_le}
 use Rattle.merging_runs.proofs.Moves.{one_more}
 
@@ -9,8 +9,8 @@ loop-moved-preserved g c =
     let moved = c.move_one.ensures in
     let more = one_more g.R.Run.each c.loop-moved.moved in
     record {
-      agree = g.met.R.Run.through (λ b. nat_le c.args.oldest b && g.R.Run.asks c.args.active.now b) (c.move_one.new.self ∷ []) (c.loop-moved.run ∷ [])
-          (c.args.run.now ∷ []) moved.agree is.agree;
+      agree = g.met.R.Run.through (λ b. nat_le c.args.oldest b && g.R.Run.asks c.args.active.now b) (c.args.earlier.now ++ c.move_one.new.self ∷ [])
+          (c.args.earlier.now ++ c.loop-moved.run ∷ []) (c.args.earlier.now ++ c.args.run.now ∷ []) moved.agree is.agree;
       merged = record {
         last = moved.merged.last ∙ is.merged.last;
         whole = omega (arith, moved.merged.whole, is.merged.whole);
