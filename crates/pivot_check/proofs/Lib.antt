@@ -13,4 +13,5 @@ pub mod SameHistories
 pub mod Joined
 pub mod Sweeps
 pub mod Redundancy
+pub mod EarlierPostings
 pub mod FewPostings

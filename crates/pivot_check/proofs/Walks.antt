@@ -65,11 +65,11 @@ least_split : (c : Posting → Bool) (i : ℕ) (ps : List Posting) → least c p
 least_split c i ps = ap (least c) (sym (take-append-drop i ps)) ∙ least-append c (take i ps) (drop i ps)
 
 -- a list that a test parts at a place
-abbrev IsParted : (Posting → Bool) → List Posting → ℕ → Type 0
+abbrev pub IsParted : (Posting → Bool) → List Posting → ℕ → Type 0
 IsParted t ps i = IsPartitionPoint (λ p. t p ≡ true) (λ p. t p ≡ false) ps i
 
 module _ (t : Posting → Bool) (ps : List Posting) (i : ℕ) (h : IsParted t ps i) where
-  before : AllByRecursion (λ p. t p ≡ true) (take i ps)
+  pub before : AllByRecursion (λ p. t p ≡ true) (take i ps)
   before = recursion_from_All (λ p. t p ≡ true) (take i ps) (λ k d lt. let len = length-take i ps in ap t (get_or-take i ps k d (omega arith))
       ∙ h.0 k d (omega arith) (omega arith))
 

@@ -3,10 +3,11 @@ use Rattle.std.specs.Prelude.{◌≡◌, ℕ, ◌+◌, ◌&&◌, Bool, List, nat
 use Rattle.merging_runs.specs.RunSizes.{RunSize, IsMoved, IsTried, are_alike, with_run, moves_for}
 use Rattle.snapshot.specs.View.{View}
 use Rattle.pivot_check.specs.Kept.{CommittedValue}
+use Rattle.pivot_check.specs.declared.merges.TheConstants.{MERGED_MAX}
 
 -- two runs of a like size, not too long for one
 abbrev pub fit_one : ℕ → RunSize → RunSize → Bool
-fit_one o r s = are_alike o r s && nat_le (r.made + s.made) 131072
+fit_one o r s = are_alike o r s && nat_le (r.made + s.made) MERGED_MAX
 
 -- two runs of a like size beside one another are being made one, or memory for that was refused, which is counted, or
 -- there are no such two

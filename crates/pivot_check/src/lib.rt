@@ -10,6 +10,7 @@ mod active;
 mod bound;
 mod by_start;
 mod committed;
+mod earlier;
 mod laws;
 mod merges;
 mod merging;

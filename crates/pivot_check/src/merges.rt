@@ -9,6 +9,7 @@ ghost use Rattle.pivot_check.specs.Inside.{written_run_size};
 ghost use Rattle.pivot_check.specs.Kept.{may_ask};
 ghost use Rattle.pivot_check.specs.Postings.{Posting, least};
 ghost use Rattle.pivot_check.specs.Merged.{fit_one};
+ghost use Rattle.pivot_check.specs.Searched.{LeavesNeeded, searched_of};
 ghost use Rattle.pivot_check.specs.Agreeing.{PostingsAgree, postings_agree_between, later_from_number};
 ghost use Rattle.pivot_check.specs.Agreeing.{no_old_postings};
 
@@ -25,6 +26,9 @@ use std::mem;
 /// The most postings of a run that is made of two.
 const MERGED_MAX: usize = 131_072;
 
+/// From how many postings on of the two runs that one is made of, the first of the earlier runs is searched for each of them.
+const SEARCHED_MIN: usize = 65_536;
+
 // Room for the bounds of so many postings; none where there is no memory.
 fn bounds_for(alloc: Global, count: usize) -> Vec<Bound>
     ensures { length result.items ≡ 0 }
@@ -35,9 +39,27 @@ fn bounds_for(alloc: Global, count: usize) -> Vec<Bound>
     }
 }
 
+// The run that is searched for what answers in the place of a posting that is moved: the first of the earlier ones where the two runs that
+// this one is made of were long, and none where they were short.
+fn searched<'a>(run: &WrittenRun, earlier: &'a [WrittenRun]) -> &'a [WrittenRun]
+    ensures { result.now ≡ searched_of run.now earlier.now }
+{
+    let whole = run
+        .first
+        .written
+        .len()
+        .saturating_add(run.second.written.len());
+    if whole < SEARCHED_MIN {
+        &earlier[..0]
+    } else {
+        &earlier[..earlier.len().min(1)]
+    }
+}
+
 // Frees the room of the two runs that one is made of, once nothing is left of them.
 fn free_room(run: &mut WrittenRun)
     ensures sizes { written_run_size run.new ≡ written_run_size run.old }
+    ensures made { run.new.made ≡ run.old.made }
     ensures same { (c : Posting → Bool) → least c (in_run run.new) ≡ least c (in_run run.old) }
     ensures from { (o : ℕ) → o < 2 ^ 64 - 1 → o < number_bound run.old → o < number_bound run.new }
     ensures fewer { postings_count run.new ≤ postings_count run.old }
@@ -76,6 +98,9 @@ impl Run for WrittenRun {
     ghost each = { 1 };
 
     ghost alike = { fit_one };
+
+    // of what a move leaves none is redundant
+    ghost makes = { λ earlier active o old new. LeavesNeeded (reach_of active) earlier old new };
 
     ghost asks = { λ active. may_ask (reach_of active) };
 
@@ -137,8 +162,15 @@ impl Run for WrittenRun {
         self.first = mem::replace(&mut self.made, places);
     }
 
-    fn move_one(&mut self, _oldest: u64, active: &ActiveBegins) {
-        move_least(&mut self.first, &mut self.second, &mut self.made, active);
+    fn move_one(&mut self, earlier: &[WrittenRun], _oldest: u64, active: &ActiveBegins) {
+        let searched = searched(self, earlier);
+        move_least(
+            &mut self.first,
+            &mut self.second,
+            &mut self.made,
+            searched,
+            active,
+        );
         free_room(self);
     }
 

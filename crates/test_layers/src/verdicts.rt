@@ -388,6 +388,30 @@ fn each_that_is_open_keeps_a_few(rt: HostRuntime) {
     }
 }
 
+// A transaction that writes 64 keys, from the one of that number on.
+fn writer_of_many<R: Abort + AllocGlobal>(rt: &R, begin: u64, first: u32) -> Transaction {
+    let mut tx = Transaction::new(rt.alloc(), begin);
+    for i in 0..64u32 {
+        write(rt, &mut tx, &first.wrapping_add(i).to_be_bytes());
+    }
+    tx
+}
+
+/// So it is with 96,000 keys, of which two runs are too long to be merged: what they hold isn't there once more in each round. What a
+/// merge has moved counts twice, so the most is two and a half times as many.
+#[test]
+fn many_keys_are_kept_a_few_times(rt: HostRuntime) {
+    let mut committed = Committed::new(rt.alloc());
+    for n in 0..4_500u32 {
+        let tx = writer_of_many(&rt, committed.last(), n % 1_500 * 64);
+        assert!(rt; commit(&rt, &mut committed, &tx) == Answer::Clear);
+        committed.keep_active(&[0]);
+        assert!(rt; committed.postings() <= 250_000, "after commit {n}");
+    }
+    let old = writer_of_many(&rt, 0, 48_000);
+    assert!(rt; commit(&rt, &mut committed, &old) == Answer::Overwritten(0));
+}
+
 // The next number of a linear congruential generator.
 fn next_random(random: u64) -> u64 {
     random
