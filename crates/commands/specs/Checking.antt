@@ -1,6 +1,5 @@
 -- What checking a data file does, call by call, over whatever opens files and takes lines.
-use Rattle.std.specs.Prelude.{◌≡◌, ◌⊎◌, ℕ, List, length, Result, Ok, Err, MatchResult, IsErrAnd, IfErr}
-use Rattle.std.specs.declared.io.Error.{Error}
+use Rattle.std.specs.Prelude.{◌≡◌, ◌⊎◌, ℕ, List, length, Result, Ok, MatchResult, IsErrAnd, IfErr}
 use Rattle.model.specs.Map.{KeyWrite}
 use Rattle.sector.specs.declared.device.Sectors.{Ghosts}
 use Rattle.commit_log.specs.Format.{current}
@@ -11,9 +10,9 @@ use Rattle.commit_log.specs.declared.faults.LogFault.{LogFault}
 use Rattle.commit_log.specs.declared.faults.LogFault.TheVariants.{NotALog, Damaged, OldFormat}
 use Rattle.commit_log.specs.declared.formats.LogFormat.{LogFormat}
 use Rattle.commit_log.specs.declared.formats.LogFormat.TheVariants.{One}
-use Rattle.commands.specs.Faults.{of_log, IsFromDevice, IsFromOutside}
+use Rattle.commands.specs.Faults.{IsFromDevice, IsFromOutside}
 use Rattle.commands.specs.LogCounts.{counts_of, counts_line, log_line}
-use Rattle.commands.specs.Printing.{IsReportedAs, ReportsPrinting}
+use Rattle.commands.specs.Steps.{Calls, CallsLog, Step, Try}
 use Rattle.commands.specs.declared.data.LogCounts.{LogCounts}
 use Rattle.commands.specs.declared.faults.Fault.{Fault}
 use Rattle.commands.specs.declared.faults.Fault.TheVariants.{File}
@@ -56,25 +55,16 @@ pub record Counting {D : Type 0} (g : Ghosts D) (device : D) (result : Result Lo
     pub faults : IfErr result IsOpenFault
     pub during : g.keeps_model → LeavesAsBefore g device after
 
--- Counting the log of a device and printing the line of its counts, which no fault of the log comes with.
-pub data Checks {D O : Type 0} (g : Ghosts D) (writes : O → List ℕ → Result (Unit {0}) Error → O
-    → Type 0) (device : D) (out : O) : Result (Unit {0}) Fault → D → O → Type 0 where
-  NotCounted : (fault : LogFault) (after : D) → Counting g device (Err fault) after
-      → Checks g writes device out (Err (of_log fault)) after out
-  Counted : (counts : LogCounts) (outcome : Result (Unit {0}) Error) (result : Result (Unit {0}) Fault) (after : D)
-      (printed : O) → Counting g device (Ok counts) after
-      → writes out (counts_line counts) outcome printed → ReportsPrinting outcome result
-      → Checks g writes device out result after printed
+-- Counting the log of a device, and printing the line of its counts.
+abbrev pub Checks : {D O : Type 0} → Ghosts D → Lines O → D → O → Step (Unit {0}) (D × O)
+Checks g out device old =
+    Try (CallsLog (Counting g device)) (λ after. (after, old)) λ counts after result new.
+    Calls File (out.writes old (counts_line counts)) result new.1 × (new.0 ≡ after)
 
 -- Checking a data file: it is opened to be checked, counted, its line printed, and it is closed. Nothing else is
 -- called.
-pub data Checking {F D O : Type 0} (g : Ghosts D) (files : DataFiles F D) (writes : O → List ℕ → Result (Unit {0}) Error
-    → O → Type 0)
-    (name : List ℕ) (old : F) (out : O) : Result (Unit {0}) Fault → F → O → Type 0 where
-  NotOpened : (error : Error) (fault : Fault) (opened : F) → files.checks old name (Err error) opened
-      → IsReportedAs error File fault
-      → Checking g files writes name old out (Err fault) opened out
-  Opened : (device after : D) (result : Result (Unit {0}) Fault) (opened closed : F) (printed : O)
-      → files.checks old name (Ok device) opened
-      → Checks g writes device out result after printed → files.closes opened after closed
-      → Checking g files writes name old out result closed printed
+abbrev pub Checking : {F D O : Type 0} → Ghosts D → DataFiles F D → Lines O → List ℕ → F → O
+    → Step (Unit {0}) (F × O)
+Checking {D = D} g files out name old old_out =
+    Try (Calls File (files.checks old name)) (λ opened. (opened, old_out)) λ device opened result new.
+    (after : D) × Checks g out device old_out result (after, new.1) × files.closes opened after new.0

@@ -9,4 +9,5 @@ pub mod Openings
 pub mod Printing
 pub mod Running
 pub mod Serving
+pub mod Steps
 pub mod Words

@@ -1,10 +1,9 @@
 -- What making a data file does, call by call, over whatever makes files.
-use Rattle.std.specs.Prelude.{◌≡◌, ℕ, List, [], Result, Ok, Err, OnOk, IfErr}
-use Rattle.std.specs.declared.io.Error.{Error}
+use Rattle.std.specs.Prelude.{◌≡◌, ℕ, List, [], Result, OnOk, IfErr}
 use Rattle.sector.specs.declared.device.Sectors.{Ghosts}
 use Rattle.commit_log.specs.LogState.{HoldsLog}
 use Rattle.commands.specs.Faults.{DeviceIs}
-use Rattle.commands.specs.Printing.{IsReportedAs}
+use Rattle.commands.specs.Steps.{Calls, Step, Try}
 use Rattle.commands.specs.declared.faults.Fault.{Fault}
 use Rattle.commands.specs.declared.faults.Fault.TheVariants.{File, Device}
 use Rattle.commands.specs.declared.system.DataFiles.{Ghosts as DataFiles}
@@ -18,12 +17,7 @@ pub record Formats {D : Type 0} (g : Ghosts D) (device : D) (result : Result (Un
 
 -- Making a data file: one of this name and this number of sectors is made, formatted, and closed. Nothing else is
 -- called.
-pub data Creating {F D : Type 0} (g : Ghosts D) (files : DataFiles F D) (name : List ℕ) (sectors : ℕ) (old : F) : Result
-    (Unit {0}) Fault → F → Type 0 where
-  NotMade : (error : Error) (fault : Fault) (made : F) → files.makes old name sectors (Err error) made
-      → IsReportedAs error File fault
-      → Creating g files name sectors old (Err fault) made
-  Made : (device formatted : D) (result : Result (Unit {0}) Fault) (made closed : F)
-      → files.makes old name sectors (Ok device) made → g.size device ≡ sectors
-      → Formats g device result formatted → files.closes made formatted closed
-      → Creating g files name sectors old result closed
+abbrev pub Creating : {F D : Type 0} → Ghosts D → DataFiles F D → List ℕ → ℕ → F → Step (Unit {0}) F
+Creating {D = D} g files name sectors old =
+    Try (Calls File (files.makes old name sectors)) (λ made. made) λ device made result new.
+    (formatted : D) × (g.size device ≡ sectors) × Formats g device result formatted × files.closes made formatted new

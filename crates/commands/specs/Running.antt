@@ -37,7 +37,7 @@ module _ {F P S O E D V : Type 0} {g : Ghosts D} (files : DataFiles F D) (ports 
     Does scripts old (Serve name listen) ended new =
         EndsServing files ports server out err name.now listen.now old ended new
     Does scripts old (Check name) ended new =
-        Checking g files out.writes name.now old.files old.out ended new.files new.out
+        Checking g files out name.now old.files old.out ended (new.files, new.out)
         × (new ≡ record old { files = new.files; out = new.out })
     Does scripts old (Compact from to sectors) ended new =
         Compacting g files out err from.now to.now sectors old ended new

@@ -1,8 +1,8 @@
 //! `compact`: copies the map of a data file into a new one.
-ghost use Rattle.std.specs.Prelude.{◌≡◌, ◌<◌, ◌≤◌, ◌⊎◌, ◌↔◌, Ok, OnOk, IfOk, IfErr, IsErrOf};
+ghost use Rattle.std.specs.Prelude.{◌≡◌, ◌<◌, ◌≤◌, ◌⊎◌, ◌↔◌, Ok, Err, OnOk, IfOk, IfErr, IfNone, IfSome, IsErrOf};
 ghost use Rattle.commit_log.specs.Copying.{write_sets_of, copy_size, IsCopyFault};
 ghost use Rattle.commit_log.specs.Reading.{NotesFaults};
-ghost use Rattle.commands.specs.Compacting.{copy_count, Compacting, Copies, HasTooFew, MayReport, ReadsFile};
+ghost use Rattle.commands.specs.Compacting.{copy_count, Compacting, Copies, MayReport, ReadsFile};
 ghost use Rattle.commands.specs.LogCounts.{counts_of, log_line};
 ghost use Rattle.commands.specs.Faults.{IsFromOutput};
 ghost use Rattle.commit_log.specs.LogState.{HoldsLog};
@@ -73,7 +73,7 @@ fn is_long<C: Clock>(clock: &C, begun: Option<Instant>) -> bool {
 
 // Tells a terminal, where a second has passed, that the map was read and the copy is being written, in one write.
 fn may_report<C: Clock, E: Lines>(clock: &C, begun: Option<Instant>, is_terminal: bool, err: &mut E)
-    ensures { MayReport E.writes is_terminal err.old err.new }
+    ensures { MayReport E.Lines is_terminal err.old err.new }
 {
     if is_terminal && is_long(clock, begun) {
         let _ = err.write_line(b"ssikvd: the map is read, the copy is being written\n".as_slice());
@@ -83,9 +83,8 @@ fn may_report<C: Clock, E: Lines>(clock: &C, begun: Option<Instant>, is_terminal
 /// How many sectors a copy is given: as many as the old device has, as were asked for, and as the map needs. `LogFull` exactly where the
 /// map needs more than were asked for, or more than a number can count. Takes no memory.
 pub fn copy_count(old: u64, requested: Option<u64>, needed: Option<u64>) -> Result<u64, Fault>
-    ensures errors { IfErr result (λ fault. fault ≡ Fault.LogFull) }
-    ensures full { IsErrOf result Fault.LogFull ↔ HasTooFew requested needed }
-    ensures count { IfOk result (λ n. n ≡ copy_count old requested needed) }
+    ensures none { IfNone needed (result ≡ Err Fault.LogFull) }
+    ensures some { IfSome needed (λ n. result ≡ copy_count old requested n) }
 {
     match (requested, needed) {
         (_, None) => Err(Fault::LogFull),
@@ -117,7 +116,7 @@ pub fn copy_device<D: Sectors, O: Lines>(
     ensures beside { IfErr result (λ fault. IsFromOutput fault ⊎ (out.new ≡ out.old)) }
     ensures copied { D.keeps_model → OnOk result (HoldsLog D.Sectors device.new (write_sets_of map.now)) }
     ensures copies { copy_size map.now ≤ D.size device.old
-        → Copies D.Sectors O.Lines device.old map.now out.old result device.new out.new }
+        → Copies D.Sectors O.Lines device.old map.now out.old result (device.new, out.new) }
 {
     let counts = copy_counts(alloc, device, map)?;
     print_counts(counts, out)?;

@@ -69,7 +69,7 @@ pub fn check<F: DataFiles, O: Lines>(
     data: &str,
     out: &mut O,
 ) -> Result<(), Fault>
-    ensures { Checking F.Device.Sectors F.DataFiles O.writes data.now files.old out.old result files.new out.new }
+    ensures { Checking F.Device.Sectors F.DataFiles O.Lines data.now files.old out.old result (files.new, out.new) }
 {
     let device = files.open_to_check(data)?;
     let (checked, device) = check_device(alloc, device, out);
@@ -95,7 +95,7 @@ pub fn check_device<D: Sectors, O: Lines>(
         (IsRefused Fault.NotALog result.0 out.old out.new) }
     ensures older { IfHolds D.Sectors device (HasHead One) (IsRefused Fault.OldFormat result.0 out.old out.new) }
     ensures beside { IfErr result.0 (λ fault. IsFromOutput fault ⊎ (out.new ≡ out.old)) }
-    ensures checks { Checks D.Sectors O.writes device out.old result.0 result.1 out.new }
+    ensures checks { Checks D.Sectors O.Lines device out.old result.0 (result.1, out.new) }
 {
     let (counted, device) = count_device(alloc, device);
     match counted {

@@ -51,7 +51,7 @@ fn run_server<S: Turns, O: Lines, E: Lines>(
     out: &mut O,
     err: &mut E,
 ) -> Result<(), Fault>
-    ensures { RunsServer S.Turns O.Lines E.Lines server.old out.old err.old result server.new out.new err.new }
+    ensures { RunsServer S.Turns O.Lines E.Lines server.old out.old err.old result (server.new, out.new, err.new) }
 {
     let Ok(address) = server.address() else {
         return Err(Fault::Listen);
@@ -107,7 +107,7 @@ pub(crate) fn open<F: DataFiles, P: Ports<Hub<F::Device>>>(
     listen: &str,
 ) -> Result<P::Server, Fault>
     requires { TakesOpened P.takes }
-    ensures { Opening F.DataFiles P.listens data.now listen.now files.old ports.old result files.new ports.new }
+    ensures { Opening F.DataFiles P.Ports data.now listen.now files.old ports.old result (files.new, ports.new) }
 {
     let Ok(address) = listen.parse::<SocketAddr>() else {
         return Err(Fault::Listen);
