@@ -96,7 +96,7 @@ pub trait Run: Drop {
         ensures under_way { result ≡ false → 0 < (sizes self.now).left };
 
     /// Moves an element of the two, or more of one key, and frees their room once nothing is left of them. It may drop what none who may
-    /// still ask is answered by, as the earlier runs answer in its place. Takes no memory.
+    /// still ask is answered by, and what the earlier runs answer in its place. Takes no memory.
     fn move_one(&mut self, earlier: &[Self], oldest: u64, active: &Self::Active)
         requires late { oldest < (sizes self.old).last }
         requires some { 0 < (sizes self.old).left }

@@ -1,4 +1,4 @@
-//! Looks among the postings of earlier runs for one that answers whoever may ask in the place of another.
+//! Looks in earlier runs for a posting that answers whoever may ask in the place of a later one.
 ghost use Rattle.std.specs.Prelude.{◌≡◌, IsTrue};
 ghost use Rattle.pivot_check.specs.Active.{reach_of};
 ghost use Rattle.pivot_check.specs.Inside.{in_run, postings_in};
@@ -11,7 +11,7 @@ use crate::part::Part;
 use crate::run::WrittenRun;
 use crate::written::Written;
 
-// Does one of these postings, none of which has a key below that of the other, do so? It looks at those of its key.
+// As `has_one_for`, among postings none of which has a key below that of the other: it looks at those of its key.
 fn is_one_for(postings: &[Written], other: &Written, active: &ActiveBegins) -> bool
     requires rising { IsTrue (keys_rise postings.now) }
     requires from { IsTrue (have_keys_from other.now.key postings.now) }

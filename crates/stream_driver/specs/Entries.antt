@@ -34,7 +34,7 @@ module _ {T : Type 0} where
   abbrev pub all_but : ℕ → List (Option (Entry T)) → List (Option (Entry T))
   all_but key slots = set slots key None
 
-  -- so, and that entry behind them
+  -- the same, and that entry behind them
   abbrev pub with_last : ℕ → List (Option (Entry T)) → List (Option (Entry T))
   with_last key slots = all_but key slots ++ slice_index_or slots key None ∷ []
 
@@ -66,7 +66,7 @@ module _ {T : Type 0} (reports : Type 0) (traffic : T → Traffic) where
       (first : Option (Entry T)) × (mid : Point) × (others : List (Option (Entry T))) × (new ≡ first ∷ others)
       × DrivenSlot earlier slot mid first × DrivenAll mid slots later others
 
-  -- so it is, but that at one key comes last
+  -- the same, with the one at that key behind the others
   abbrev pub DrivenThen : ℕ → Point → List (Option (Entry T)) → Point → List (Option (Entry T)) → Type 0
   DrivenThen last earlier slots later new = DrivenAll earlier (with_last last slots) later (with_last last new)
 
@@ -81,7 +81,7 @@ module _ {T : Type 0} (reports : Type 0) (traffic : T → Traffic) where
       → List (Option (Entry T)) → Type 0
   LeadsAll hub slots later new = DrivesAnswering traffic reports hub slots later new (λ h k. DrivenAll h slots k new)
 
-  -- and that at one key last
+  -- the same, with the one at that key behind the others
   abbrev pub LeadsThen : {D : Type 0} {g : Ghosts D} → ℕ → Hub D g → List (Option (Entry T)) → Hub D g
       → List (Option (Entry T)) → Type 0
   LeadsThen last hub slots later new =
