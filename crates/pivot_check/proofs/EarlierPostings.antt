@@ -5,14 +5,12 @@ use Rattle.std.proofs.lemmas.Bool.{and_parts}
 use Rattle.std.proofs.lemmas.Grind.{common_steps}
 use Rattle.std.proofs.lemmas.List.{take-append-drop}
 use Rattle.std.proofs.lemmas.List.Folds.{list_any-append}
-use Rattle.std.specs.List.{AllByRecursion, list_all, list_any}
-use Rattle.std.specs.List.Sorted.{IsPartitionPoint}
+use Rattle.std.specs.List.{list_all, list_any}
 use Rattle.std.specs.Ordering.{is_le, is_lt}
 use Rattle.model.proofs.KeyOrder.{same_keys}
 use Rattle.model.specs.Map.{Bytes, is_same_key, key_cmp}
-use Rattle.pivot_check.proofs.Walks.{before}
 use Rattle.pivot_check.specs.Kept.{Reach}
-use Rattle.pivot_check.specs.Postings.{Posting, have_keys_from, keys_rise}
+use Rattle.pivot_check.specs.Postings.{HaveKeysBelow, Posting, have_keys_from, keys_rise}
 use Rattle.pivot_check.specs.Redundant.{is_redundant, is_redundant_by}
 
 -- ---- a sorted list
@@ -45,16 +43,15 @@ none_left reach q p (x ∷ ps) (suc i) lt at rising from other =
 below_other : (x k : Bytes) → is_lt (key_cmp x k) ≡ true → is_same_key x k ≡ false
 below_other x k lt = grind (arith, common_steps)
 
-none_below : (reach : Reach) (q : Posting) (ps : List Posting) → AllByRecursion (λ p. is_lt (key_cmp p.key q.key) ≡ true) ps
+none_below : (reach : Reach) (q : Posting) (ps : List Posting) → HaveKeysBelow q.key ps
     → is_redundant_by reach ps q ≡ false
 none_below reach q [] h = refl
 none_below reach q (p ∷ ps) h = let below = below_other p.key q.key h.0 in grind (arith, none_below reach q ps h.1)
 
 -- those below the key are passed over
-pub rest_makes : (reach : Reach) (q : Posting) (ps : List Posting) (i : ℕ)
-    → IsPartitionPoint (λ p. is_lt (key_cmp p.key q.key) ≡ true) (λ p. is_lt (key_cmp p.key q.key) ≡ false) ps i
+pub rest_makes : (reach : Reach) (q : Posting) (ps : List Posting) (i : ℕ) → HaveKeysBelow q.key (take i ps)
     → is_redundant_by reach (drop i ps) q ≡ is_redundant_by reach ps q
-rest_makes reach q ps i h =
+rest_makes reach q ps i below =
     let test = λ (p : Posting). is_redundant reach p q in
-    let none = none_below reach q (take i ps) (before (λ p. is_lt (key_cmp p.key q.key)) ps i h) in
+    let none = none_below reach q (take i ps) below in
     sym (ap (λ b. b || list_any test (drop i ps)) none) ∙ sym (list_any-append test (take i ps) (drop i ps)) ∙ ap (list_any test) (take-append-drop i ps)

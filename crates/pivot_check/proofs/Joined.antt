@@ -123,13 +123,13 @@ lesser_more found more o p same = swap o ∙ ap (lesser more) same ∙ sym (swap
     swap : (x : Option ℕ) → lesser (lesser found more) x ≡ lesser more (lesser found x)
     swap x = ap (λ y. lesser y x) (turned found more) ∙ lesser_assoc more found x
 
--- a run behind others, of which the first is searched
-pub behind_searched : (c : Posting → Bool) (long : Bool) (es : List WrittenRun) (ps qs : List Posting)
-    → least c (postings_in (if long then take 1 es else []) ++ ps) ≡ least c (postings_in (if long then take 1 es else []) ++ qs)
+-- a run behind others, of which the first are searched
+pub behind_searched : (c : Posting → Bool) (long : Bool) (n : ℕ) (es : List WrittenRun) (ps qs : List Posting)
+    → least c (postings_in (if long then take n es else []) ++ ps) ≡ least c (postings_in (if long then take n es else []) ++ qs)
     → lesser (least c (postings_in es)) (least c ps) ≡ lesser (least c (postings_in es)) (least c qs)
-behind_searched c true es ps qs same =
-    let all : least c (postings_in es) ≡ lesser (least c (postings_in (take 1 es))) (least c (postings_in (drop 1 es))) =
-    ap (λ rs. least c (postings_in rs)) (sym (take-append-drop 1 es)) ∙ least-runs c (take 1 es) (drop 1 es) in
-    rw all (lesser_more (least c (postings_in (take 1 es))) (least c (postings_in (drop 1 es))) (least c ps) (least c qs)
-    (sym (least-append c (postings_in (take 1 es)) ps) ∙ same ∙ least-append c (postings_in (take 1 es)) qs))
-behind_searched c false es ps qs same = ap (lesser (least c (postings_in es))) same
+behind_searched c true n es ps qs same =
+    let all : least c (postings_in es) ≡ lesser (least c (postings_in (take n es))) (least c (postings_in (drop n es))) =
+    ap (λ rs. least c (postings_in rs)) (sym (take-append-drop n es)) ∙ least-runs c (take n es) (drop n es) in
+    rw all (lesser_more (least c (postings_in (take n es))) (least c (postings_in (drop n es))) (least c ps) (least c qs)
+    (sym (least-append c (postings_in (take n es)) ps) ∙ same ∙ least-append c (postings_in (take n es)) qs))
+behind_searched c false n es ps qs same = ap (lesser (least c (postings_in es))) same

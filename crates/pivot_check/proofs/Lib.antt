@@ -1,5 +1,6 @@
 pub mod Lists
 pub mod Intervals
+pub mod CountBelow
 pub mod Ends
 pub mod Histories
 pub mod LastSources

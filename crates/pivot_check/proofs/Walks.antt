@@ -19,7 +19,7 @@ use Rattle.marks.specs.Marked.{start_of}
 use Rattle.pivot_check.proofs.Intervals.{covers_below, covers_above}
 use Rattle.pivot_check.proofs.Writers.{lesser_comm}
 use Rattle.pivot_check.specs.Agreeing.{lesser_none, lesser_assoc, least-append}
-use Rattle.pivot_check.specs.Postings.{Posting, keys_rise, have_keys_from, least, lesser}
+use Rattle.pivot_check.specs.Postings.{HaveKeysBelow, Posting, keys_rise, have_keys_from, least, lesser}
 
 -- ---- the order of keys
 
@@ -29,7 +29,7 @@ le_from_not a b h = grind (arith, common_steps, turned a b)
 pub le_trans : (a b k : Bytes) → is_le (key_cmp a b) ≡ true → is_le (key_cmp b k) ≡ true → is_le (key_cmp a k) ≡ true
 le_trans a b k h g = grind (arith, common_steps, less_trans a b k, same_keys a b, same_keys b k)
 
-from_le : (a b low : Bytes) → is_le (key_cmp a b) ≡ true → is_lt (key_cmp b low) ≡ true → is_lt (key_cmp a low) ≡ true
+pub from_le : (a b low : Bytes) → is_le (key_cmp a b) ≡ true → is_lt (key_cmp b low) ≡ true → is_lt (key_cmp a low) ≡ true
 from_le a b low le lt = grind (arith, common_steps, less_trans a b low, same_keys a b)
 
 -- of two postings the later has no lower key
@@ -48,7 +48,7 @@ rest_rises (p ∷ ps) (suc i) h = rest_rises ps i (and_parts _ _ h).1
 
 -- ---- what a test finds, and where it parts a list
 
-pass-all : (t : Posting → Bool) (ps : List Posting) → AllByRecursion (λ p. t p ≡ true) ps → list_all t ps ≡ true
+pub pass-all : (t : Posting → Bool) (ps : List Posting) → AllByRecursion (λ p. t p ≡ true) ps → list_all t ps ≡ true
 pass-all t [] h = refl
 pass-all t (p ∷ ps) h = and_from _ _ h.0 (pass-all t ps h.1)
 
@@ -124,11 +124,9 @@ pub rest_from : (low : Bytes) (ps : List Posting) (i : ℕ)
 rest_from low ps i h = pass-all (λ p. not (is_lt (key_cmp p.key low))) (drop i ps)
     (all-each _ _ (drop i ps) (λ p e. ap not e) (behind (λ p. is_lt (key_cmp p.key low)) ps i h))
 
-pub rest_decides : (m : Mark) (c : Posting → Bool) (ps : List Posting) (i : ℕ) → i ≤ length ps →
-    IsPartitionPoint (λ p. is_lt (key_cmp p.key (start_of m)) ≡ true) (λ p. is_lt (key_cmp p.key (start_of m)) ≡ false) ps i
+pub rest_decides : (m : Mark) (c : Posting → Bool) (ps : List Posting) (i : ℕ) → HaveKeysBelow (start_of m) (take i ps)
     → least (λ p. covers m p.key && c p) ps ≡ least (λ p. covers m p.key && c p) (drop i ps)
-rest_decides m c ps i le h =
-    let below = before (λ p. is_lt (key_cmp p.key (start_of m))) ps i h in
+rest_decides m c ps i below =
     let none = least_none (λ p. covers m p.key) c (take i ps) (all-each _ _ (take i ps) (λ p lt. covers_below m p.key (less _ lt)) below) in
     least_split (λ p. covers m p.key && c p) i ps ∙ ap (λ o. lesser o (least (λ p. covers m p.key && c p) (drop i ps))) none
 

@@ -1,7 +1,8 @@
 -- Written keys of committed transactions, and the least number among them.
-use Rattle.std.specs.List.{filter, list_all}
+use Rattle.std.specs.List.{AllByRecursion, filter, list_all}
 use Rattle.std.specs.Ordering.{is_le, is_lt}
-use Rattle.std.specs.Prelude.{◌≡◌, ℕ, ◌-◌, min, Bool, true, not, ◌&&◌, ◌||◌, List, [], ◌∷◌, ◌++◌, Option, Some, None}
+use Rattle.std.specs.Prelude.{◌≡◌, ◌≤◌, ℕ, ◌-◌, length, min, Bool, true, not, ◌&&◌, ◌||◌, List, [], ◌∷◌, ◌++◌, Option}
+use Rattle.std.specs.Prelude.{Some, None}
 use Rattle.std.specs.Prelude.{is_some, if◌then◌else◌, nat_lt, take, drop}
 use Rattle.model.specs.Map.{Bytes, key_cmp}
 use Rattle.model.specs.PrivateCopy.{Mark, covers, is_covered}
@@ -73,6 +74,16 @@ keys_rise (p ∷ ps) = list_all (λ q. is_le (key_cmp p.key q.key)) ps && keys_r
 -- whether no posting has a key below this one
 abbrev pub have_keys_from : Bytes → List Posting → Bool
 have_keys_from low ps = list_all (λ p. not (is_lt (key_cmp p.key low))) ps
+
+-- each posting has a key below this one
+abbrev pub HaveKeysBelow : Bytes → List Posting → Type 0
+HaveKeysBelow k ps = AllByRecursion (λ p. is_lt (key_cmp p.key k) ≡ true) ps
+
+-- the first i of the postings have keys below this one, and no other has
+pub record IsCountBelow (k : Bytes) (ps : List Posting) (i : ℕ) : Type 0 where
+  pub within : i ≤ length ps
+  pub below : HaveKeysBelow k (take i ps)
+  pub from : have_keys_from k (drop i ps) ≡ true
 
 -- whether no posting has a number above this one
 abbrev pub are_upto : ℕ → List Posting → Bool

@@ -36,7 +36,7 @@ use std::marker::Model;
 /// in runs, each sorted by key, of transactions that committed one after another; runs of a like size are merged, so that few are left. A
 /// merge goes on some keys with each commit, so that no commit is long; it takes the places of both runs until it has ended. It drops what
 /// none who may ask is answered by, so that a key that is written again and again is kept a few times, and not once for each commit. Two
-/// long runs aren't merged; but a long one, as it is made, drops also what the first run answers in its place.
+/// long runs aren't merged; but a long one, as it is made, drops also what the earlier runs answer in its place.
 #[derive(Drop)]
 pub struct Committed {
     readers: LastReaders,
@@ -267,9 +267,9 @@ impl Committed {
     /// may ask is answered by is dropped as it is moved: of two postings of one key the later, where none who may ask began between
     /// their numbers and the flag of the earlier tells as much. The last readers are merged in the same way, by a count of their own.
     ///
-    /// Where the two runs that are merged have `SEARCHED_MIN` postings or more, the earlier of the two may also stand in the first run of
-    /// all. That costs for each posting that is moved a binary search in that run, three while it is being made of two, and a look at the
-    /// postings of its key there.
+    /// Where the two runs that are merged have `SEARCHED_MIN` postings or more, the earlier of the two may also stand in one of the first
+    /// `SEARCHED_MAX` runs. The merge remembers where it looked last in each of these, so a posting that is moved costs there a look at the
+    /// next few, and at those of its key; a binary search where its key isn't near, and two more while that run is being made of two.
     pub fn note(&mut self, transaction: &Transaction, n: u64, cleared: Cleared)
         requires next { n ≡ self.old.facts.last + 1 }
         requires cleared { IsCleared self.old.facts transaction.now cleared }

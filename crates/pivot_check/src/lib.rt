@@ -19,10 +19,11 @@ mod ready;
 mod run;
 mod runs;
 mod scan;
+mod seeking;
 mod sources;
 mod verdict;
 mod written;
 
 pub use committed::Committed;
-pub use laws::law_few_postings;
+pub use laws::{law_few_postings, law_merge_limits};
 pub use verdict::{Cleared, Verdict};

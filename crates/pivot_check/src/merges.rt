@@ -18,6 +18,7 @@ use crate::bound::{BLOCK, Bound};
 use crate::merging::move_least;
 use crate::part::Part;
 use crate::run::{WrittenRun, nothing};
+use crate::seeking::SEARCHED_MAX;
 use crate::written::Written;
 use merging_runs::Run;
 use std::alloc::Global;
@@ -26,7 +27,7 @@ use std::mem;
 /// The most postings of a run that is made of two.
 const MERGED_MAX: usize = 131_072;
 
-/// From how many postings on of the two runs that one is made of, the first of the earlier runs is searched for each of them.
+/// From how many postings on of the two runs that one is made of, earlier runs are searched for each of them.
 const SEARCHED_MIN: usize = 65_536;
 
 // Room for the bounds of so many postings; none where there is no memory.
@@ -39,8 +40,8 @@ fn bounds_for(alloc: Global, count: usize) -> Vec<Bound>
     }
 }
 
-// The run that is searched for what answers in the place of a posting that is moved: the first of the earlier ones where the two runs that
-// this one is made of were long, and none where they were short.
+// The runs that are searched for what answers in the place of a posting that is moved: the first of the earlier ones where the two runs
+// that this one is made of were long, and none where they were short.
 fn searched<'a>(run: &WrittenRun, earlier: &'a [WrittenRun]) -> &'a [WrittenRun]
     ensures { result.now ≡ searched_of run.now earlier.now }
 {
@@ -52,7 +53,7 @@ fn searched<'a>(run: &WrittenRun, earlier: &'a [WrittenRun]) -> &'a [WrittenRun]
     if whole < SEARCHED_MIN {
         &earlier[..0]
     } else {
-        &earlier[..earlier.len().min(1)]
+        &earlier[..earlier.len().min(SEARCHED_MAX)]
     }
 }
 
@@ -169,6 +170,7 @@ impl Run for WrittenRun {
             &mut self.second,
             &mut self.made,
             searched,
+            &mut self.places,
             active,
         );
         free_room(self);

@@ -12,6 +12,7 @@ use crate::active::ActiveBegins;
 use crate::earlier::have_one_for;
 use crate::part::Part;
 use crate::run::WrittenRun;
+use crate::seeking::LastPlaces;
 use crate::written::Written;
 
 // Does a least key stand first in the first part?
@@ -31,16 +32,28 @@ fn is_in_first(first: &Part, second: &Part) -> bool
 }
 
 // Does the last posting of a part answer whoever may ask wherever this one would, or does one of the earlier runs?
-fn is_redundant(to: &Part, earlier: &[WrittenRun], written: &Written, active: &ActiveBegins) -> bool
+fn is_redundant(
+    to: &Part,
+    earlier: &[WrittenRun],
+    places: &mut LastPlaces,
+    written: &Written,
+    active: &ActiveBegins,
+) -> bool
     ensures { result ≡ (is_redundant_behind (reach_of active.now) (remaining to.now) written.now
         || is_redundant_by (reach_of active.now) (postings_in earlier.now) written.now) }
 {
-    to.makes_redundant(written, active) || have_one_for(earlier, written, active)
+    to.makes_redundant(written, active) || have_one_for(earlier, written, places, active)
 }
 
 // Moves the first of what is left of a part, below which no key of another stands, behind a third, in the room that it has. Where the last
 // posting of that answers whoever may ask in its place, or one of the earlier runs does, it is dropped.
-fn move_first(from: &mut Part, to: &mut Part, earlier: &[WrittenRun], active: &ActiveBegins)
+fn move_first(
+    from: &mut Part,
+    to: &mut Part,
+    earlier: &[WrittenRun],
+    places: &mut LastPlaces,
+    active: &ActiveBegins,
+)
     requires some { 0 < left from.old }
     requires rising { IsTrue (keys_rise (remaining to.old ++ remaining from.old)) }
     requires room { length to.old.written.items < vec_capacity to.old.written }
@@ -51,7 +64,7 @@ fn move_first(from: &mut Part, to: &mut Part, earlier: &[WrittenRun], active: &A
     ensures moved { TakesPosting (left from.old) (left from.new) to.old to.new }
 {
     let written = from.take_first();
-    if !is_redundant(to, earlier, &written, active) {
+    if !is_redundant(to, earlier, places, &written, active) {
         to.push(written);
     }
 }
@@ -64,6 +77,7 @@ pub(crate) fn move_least(
     second: &mut Part,
     to: &mut Part,
     earlier: &[WrittenRun],
+    places: &mut LastPlaces,
     active: &ActiveBegins,
 )
     requires rising { RiseBehind to.old first.old second.old }
@@ -76,8 +90,8 @@ pub(crate) fn move_least(
     ensures moved { TakesPosting (left first.old + left second.old) (left first.new + left second.new) to.old to.new }
 {
     if is_in_first(first, second) {
-        move_first(first, to, earlier, active);
+        move_first(first, to, earlier, places, active);
     } else {
-        move_first(second, to, earlier, active);
+        move_first(second, to, earlier, places, active);
     }
 }

@@ -54,6 +54,13 @@ impl Part {
         written
     }
 
+    // What is left.
+    pub(crate) fn postings(&self) -> &[Written]
+        ensures { result.now ≡ drop self.now.start self.now.written.items }
+    {
+        &self.written[self.start..]
+    }
+
     // How many are left.
     pub(crate) fn len(&self) -> usize
         ensures { result ≡ length self.now.written.items - self.now.start }
@@ -66,7 +73,7 @@ impl Part {
         ensures { (p : ℕ → Bool) → IsNext p n found
             → IsNext (λ k. p k || list_any (λ q. k == q.number) (drop self.now.start self.now.written.items)) n result }
     {
-        next_written(&self.written[self.start..], found, n)
+        next_written(self.postings(), found, n)
     }
 
     // Takes the first of what is left, of which there is some.
@@ -88,7 +95,7 @@ impl Part {
         ensures { result ≡ is_redundant_behind (reach_of active.now) (drop self.now.start self.now.written.items)
             written.now }
     {
-        match self.written[self.start..].last() {
+        match self.postings().last() {
             Some(last) => last.makes_redundant(written, active),
             None => false,
         }

@@ -6,6 +6,7 @@ ghost use Rattle.pivot_check.specs.Parts.{remaining, left, remaining_in};
 
 use crate::bound::Bound;
 use crate::part::Part;
+use crate::seeking::LastPlaces;
 use crate::written::Written;
 use std::alloc::Global;
 
@@ -20,6 +21,8 @@ pub(crate) struct WrittenRun {
     pub(crate) second: Part,
     // what was made of their least keys
     pub(crate) made: Part,
+    // where each of the earlier runs was read last
+    pub(crate) places: LastPlaces,
     ghost first_rises: { IsTrue (keys_rise (remaining made ++ remaining first)) },
     ghost second_rises: { IsTrue (keys_rise (remaining made ++ remaining second)) },
     ghost room: { left first + left second ≤ vec_capacity made.written - length made.written.items },
@@ -57,6 +60,7 @@ impl WrittenRun {
             first: nothing(alloc),
             second: nothing(alloc),
             made: Part::of(written, Vec::new(alloc)),
+            places: LastPlaces::new(),
         }
     }
 }

@@ -11,7 +11,7 @@ ghost use Rattle.pivot_check.specs.Bounds.{in_span};
 ghost use Rattle.pivot_check.specs.Active.{reach_of};
 ghost use Rattle.pivot_check.specs.Redundant.{is_redundant};
 ghost use Rattle.pivot_check.specs.Postings.{CountBoth, CountCovered, Posting, number_asked, postings_by, keys_rise};
-ghost use Rattle.pivot_check.specs.Postings.{have_keys_from, least, lesser, is_asked};
+ghost use Rattle.pivot_check.specs.Postings.{IsCountBelow, have_keys_from, least, lesser, is_asked};
 
 use crate::active::ActiveBegins;
 use marks::MarkRef;
@@ -179,6 +179,14 @@ fn count_covered(postings: &[Written], mark: MarkRef<'_>) -> usize
     postings.partition_point(|posting| mark.covers(posting.key()))
 }
 
+// How many of the postings have keys below this one. A binary search.
+pub(crate) fn count_below(postings: &[Written], key: KeyRef<'_>) -> usize
+    requires { IsTrue (keys_rise postings.now) }
+    ensures { IsCountBelow key.entry.bytes.now postings.now result }
+{
+    postings.partition_point(|posting| posting.key().order(key).is_lt())
+}
+
 // The postings whose keys the mark covers. Two binary searches.
 pub(crate) fn covered(postings: &[Written], mark: MarkRef<'_>) -> Span
     requires { IsTrue (keys_rise postings.now) }
@@ -186,8 +194,7 @@ pub(crate) fn covered(postings: &[Written], mark: MarkRef<'_>) -> Span
     ensures within { result.end ≤ length postings.now }
     ensures covered { CountCovered (lent_mark mark.entry) postings.now (in_span result postings.now) }
 {
-    let low = mark.start();
-    let first = postings.partition_point(|posting| posting.key().order(low).is_lt());
+    let first = count_below(postings, mark.start());
     let end = first + count_covered(&postings[first..], mark);
     Span { first, end }
 }

@@ -397,16 +397,16 @@ fn writer_of_many<R: Abort + AllocGlobal>(rt: &R, begin: u64, first: u32) -> Tra
     tx
 }
 
-/// So it is with 96,000 keys, of which two runs are too long to be merged: what they hold isn't there once more in each round. What a
-/// merge has moved counts twice, so the most is two and a half times as many.
+/// So it is with 192,000 keys, which are too many for one run: what is in the earlier runs isn't there once more in each round. What a
+/// merge has moved counts twice, so the most is nearly twice as many.
 #[test]
 fn many_keys_are_kept_a_few_times(rt: HostRuntime) {
     let mut committed = Committed::new(rt.alloc());
-    for n in 0..4_500u32 {
-        let tx = writer_of_many(&rt, committed.last(), n % 1_500 * 64);
+    for n in 0..9_000u32 {
+        let tx = writer_of_many(&rt, committed.last(), n % 3_000 * 64);
         assert!(rt; commit(&rt, &mut committed, &tx) == Answer::Clear);
         committed.keep_active(&[0]);
-        assert!(rt; committed.postings() <= 250_000, "after commit {n}");
+        assert!(rt; committed.postings() <= 370_000, "after commit {n}");
     }
     let old = writer_of_many(&rt, 0, 48_000);
     assert!(rt; commit(&rt, &mut committed, &old) == Answer::Overwritten(0));

@@ -1,6 +1,5 @@
 use Rattle.pivot_check.proofs.part.Part.makes_redundant.Goals as goal
-use Rattle.std.proofs.Common.{◌≡◌, ◌-◌, ◌∙◌, Some, drop, take, length, length-drop, sym, ap, arith}
-use Rattle.std.proofs.lemmas.List.{take_all}
+use Rattle.std.proofs.Common.{◌≡◌, ◌-◌, ◌∙◌, Some, drop, length, sym, arith}
 use Rattle.std.proofs.lemmas.Option.{slice_get_within}
 use Rattle.std.specs.Prelude.{slice_get}
 use Rattle.pivot_check.proofs.Redundancy.{last_decides}
@@ -8,11 +7,8 @@ use Rattle.pivot_check.specs.Active.{reach_of}
 
 pub returns-in-Some : goal.returns-in-Some
 returns-in-Some c =
-    let start = c.args.self.now.start in
-    let all = c.deref.result.now in
-    let ps = drop start c.args.self.now.written.items in
-    let whole : take (length all - start) (drop start all) ≡ ps =
-    take_all (length all - start) (drop start all) (omega (arith, length-drop start all)) ∙ ap (drop start) c.deref.ensures.value in
+    let ps = drop c.args.self.now.start c.args.self.now.written.items in
+    let whole : c.postings.result.now ≡ ps = c.postings.ensures in
     let at : slice_get ps (length ps - 1) ≡ Some c.in-Some.last.now =
     sym (c.in-Some.ensures.value ∙ (λ i. slice_get (whole i) (length (whole i) - 1))) in
     let within = slice_get_within ps (length ps - 1) c.in-Some.last.now at in
