@@ -31,6 +31,9 @@ GROWTH, BOUND = 1 << 20, 16_384
 AGAIN, FEW, AGAIN_BOUND = 200, 10, 65_536
 # In the long form: so many commits of one key with a short value, and how many bytes they may add to the process.
 MILLION, MILLION_BOUND = 1_000_000, 10_000_000
+# And so many keys, all of which are written again so often, so many in a transaction: more than one run of written keys holds. After so many times the
+# process may grow by so many bytes: a fifth of what a key, its number and its flag take each time.
+MANY, TIMES, SETTLED, IN_ONE, MANY_BOUND = 400_000, 5, 3, 64, 4_000_000
 # So many transactions of so many reads, and how often each may ask for memory.
 READERS, READS, CALLS = 400, 60, 180
 OK = b"+OK\r\n"
@@ -129,9 +132,37 @@ def a_million_keep_little(tally):
         expect(more <= MILLION_BOUND, f"the process grew by {more:,} bytes")
 
 
+def write_all(client, count):
+    """So many keys are written, in transactions of the most writes, of which some are ahead of what was read."""
+    firsts = range(0, count, IN_ONE)
+    for number in range(len(firsts) + AHEAD):
+        if number < len(firsts):
+            keys = range(firsts[number], min(firsts[number] + IN_ONE, count))
+            client.send(BEGIN + b"".join(frame("SET", b"%08d" % key, b"v") for key in keys) + COMMIT)
+        if number >= AHEAD:
+            requests = min(IN_ONE, count - firsts[number - AHEAD]) + 2
+            replies = [client.reply() for _ in range(requests)]
+            expect(replies[:-1] == [OK] * (requests - 1) and replies[-1][:1] == b":", f"a transaction was answered {replies}")
+
+
+def many_keys_keep_little(tally):
+    """A transaction that was left open, and many keys that are written again and again."""
+    with in_memory() as place, Server(fresh(place, 8 * TIMES * MANY // IN_ONE)) as server, tally.run(f"{MANY:,} keys, {TIMES} times"):
+        with Connection(server.port) as client, Connection(server.port) as old:
+            write_all(client, MANY)
+            expect(old.ask(BEGIN) == OK, "BEGIN was refused")
+            taken = []
+            for _ in range(TIMES):
+                write_all(client, MANY)
+                taken.append(server.memory("VmRSS"))
+        more = max(taken[SETTLED:]) - taken[SETTLED - 1]
+        print(f"  memory: the process grew by {more:,} bytes while {MANY:,} keys were written {TIMES - SETTLED} times more, of {MANY_BOUND:,}")
+        expect(more <= MANY_BOUND, f"the process grew by {more:,} bytes")
+
+
 class MemoryCommits(Harness):
     NAME = "what commits leave"
-    PARTS_OF_LONG = (a_million_keep_little,)
+    PARTS_OF_LONG = (a_million_keep_little, many_keys_keep_little)
 
     def test_memory_commits(self):
         with refusing_server(SECTORS) as (server, refusals):

@@ -14,7 +14,7 @@ count_below-requires c = ap keys_rise (take_rest c.args.postings.now c.min-near.
 pub returns-then-count-near : goal.returns-then-count-near
 returns-then-count-near c =
     near_counts c.args.key.bytes.now c.args.postings.now c.min-near.result c.count_below-count.result c.requires c.if-count-near.true
-        c.count_below-count.ensures
+    c.count_below-count.ensures
 
 pub returns-else-count-near : goal.returns-else-count-near
 returns-else-count-near c =
