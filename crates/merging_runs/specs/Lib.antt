@@ -1,5 +1,6 @@
 -- What contracts say of runs that are merged.
 pub mod Contents
+pub mod MadeRuns
 pub mod Next
 pub mod RunSizes
 pub mod Value

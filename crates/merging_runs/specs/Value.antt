@@ -1,7 +1,7 @@
 -- What `Runs` holds as contracts see it.
-use Rattle.std.specs.Prelude.{◌≡◌, ◌≤◌, ◌<◌, ℕ, ◌+◌, ◌^◌, nat_le, if◌then◌else◌, List, map, Option, Some, None}
+use Rattle.std.specs.Prelude.{◌≡◌, ◌≤◌, ◌<◌, ℕ, ◌+◌, ◌^◌, Bool, nat_le, if◌then◌else◌, List, map, Option, Some, None}
 use Rattle.merging_runs.specs.Contents.{Contents, RunContents, IsSameBut, partial_upto, size_upto}
-use Rattle.merging_runs.specs.RunSizes.{RunSize}
+use Rattle.merging_runs.specs.RunSizes.{RunSize, left_above}
 
 -- the runs, how many more fit without memory, how far each is merged, how much they hold, and how often memory for a
 -- merge was refused
@@ -40,6 +40,14 @@ size_old from sizes elements oldest rs = size_upto oldest (map (contents_of from
 -- how much work it is to look at the runs that may have numbers up to that one, and others above it
 abbrev pub size_partial : {R : Type 0} → (R → ℕ) → (R → RunSize) → (R → ℕ) → ℕ → List R → ℕ
 size_partial from sizes elements oldest rs = partial_upto oldest (map (contents_of from sizes elements) rs)
+
+-- runs of which elements with numbers up to that one were dropped: they answer as they did, none of them is to be freed
+-- as a whole, and no more is to be moved
+pub record AreSwept {R : Type 0} (Agree : (ℕ → Bool) → List R → List R → Type 0) (from : R → ℕ) (sizes : R
+    → RunSize) (elements : R → ℕ) (oldest : ℕ) (old new : List R) : Type 0 where
+  pub agree : Agree (nat_le oldest) new old
+  pub whole : size_old from sizes elements oldest new ≡ 0
+  pub left : left_above oldest (map sizes new) ≤ left_above oldest (map sizes old)
 
 -- Of the work of looking at runs, one of them is so much, and was done where that is no more than `most`; or there is
 -- none.

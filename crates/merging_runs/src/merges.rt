@@ -2,6 +2,7 @@
 ghost use Rattle.std.specs.Prelude.{◌≡◌, ◌≤◌, ◌<◌, ◌-◌, ◌++◌, ◌&&◌, ℕ, Bool, [], ◌∷◌, true, false, map, nat_le, take};
 ghost use Rattle.std.specs.Prelude.{drop};
 ghost use Rattle.std.specs.Vec.{vec_len};
+ghost use Rattle.merging_runs.specs.MadeRuns.{AreMade, IsMade, MakesOne};
 ghost use Rattle.merging_runs.specs.RunSizes.{AreMerged, EndsIf, IsMerged, IsMoved, IsTried, RestsFrom, has_alike};
 
 use crate::run::Run;
@@ -59,6 +60,7 @@ fn move_on<R: Run>(
     requires { oldest < (R.sizes run.old).last }
     ensures agree { R.agree (λ b. nat_le oldest b && R.asks active.now b) (earlier.now ++ run.new ∷ [])
         (earlier.now ++ run.old ∷ []) }
+    ensures made { IsMade (R.makes earlier.now active.now oldest) run.old run.new }
     ensures most { result ≤ most }
     ensures merged { IsMerged R.each (most - result) (R.sizes run.old) (R.sizes run.new) }
     ensures ended { 0 < result → (R.sizes run.new).left ≡ 0 }
@@ -81,6 +83,7 @@ fn move_at<R: Run>(
     most: usize,
 ) -> usize
     ensures agree { R.agree (λ b. nat_le oldest b && R.asks active.now b) runs.new.items runs.old.items }
+    ensures made { MakesOne (λ earlier. R.makes earlier active.now oldest) runs.old.items place runs.new.items }
     ensures most { result ≤ most }
     ensures len { vec_len runs.new ≡ vec_len runs.old }
     ensures merged { AreMerged R.each oldest (most - result) (map R.sizes runs.old.items) (map R.sizes runs.new.items) }
@@ -99,6 +102,7 @@ fn move_at<R: Run>(
 // Moves elements so many times at most in the runs that are being made of two, in the last runs first: these are the shortest.
 pub(crate) fn move_runs<R: Run>(runs: &mut Vec<R>, oldest: u64, active: &R::Active, most: usize)
     ensures agree { R.agree (λ b. nat_le oldest b && R.asks active.now b) runs.new.items runs.old.items }
+    ensures made { AreMade (λ earlier. R.makes earlier active.now oldest) runs.old.items runs.new.items }
     ensures moved { IsMoved R.each oldest most (map R.sizes runs.old.items) (map R.sizes runs.new.items) }
 {
     let mut rest = most;

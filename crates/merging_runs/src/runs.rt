@@ -1,9 +1,9 @@
 //! The list of runs: a commit adds one, merges go on in steps, and what is forgotten is dropped.
 ghost use Rattle.std.specs.Prelude.{◌≡◌, ◌≤◌, ◌<◌, ◌+◌, ◌-◌, ◌++◌, ◌&&◌, ◌||◌, ℕ, Bool, [], ◌∷◌, length, nat_le};
-ghost use Rattle.std.specs.Prelude.{nat_lt};
-ghost use Rattle.std.specs.Prelude.{All, OnOk, None, false};
+ghost use Rattle.std.specs.Prelude.{nat_lt, All, OnOk, None, false};
 ghost use Rattle.std.specs.List.{list_any};
 ghost use Rattle.merging_runs.specs.Contents.{HasSamePartial, garbage_upto, freed_a_forget, size_in, whole_upto};
+ghost use Rattle.merging_runs.specs.MadeRuns.{AreMade};
 ghost use Rattle.merging_runs.specs.Next.{IsNext};
 ghost use Rattle.merging_runs.specs.RunSizes.{IsMoved, IsTried, LeavesMerges, left_above, moves_for};
 ghost use Rattle.merging_runs.specs.Value.{OnlyFrees, size_of};
@@ -143,6 +143,7 @@ impl<R: Run> Runs<R> {
     /// begin before `oldest`. Takes no memory.
     pub fn move_on(&mut self, oldest: u64, active: &R::Active, count: usize)
         ensures agree { R.agree (λ b. nat_le oldest b && R.asks active.now b) self.new.runs self.old.runs }
+        ensures made { AreMade (λ earlier. R.makes earlier active.now oldest) self.old.runs self.new.runs }
         ensures moved { IsMoved R.each oldest (moves_for count) self.old.sizes self.new.sizes }
         ensures refused { self.new.refused ≡ self.old.refused }
     {

@@ -1,8 +1,7 @@
 //! Sweeps runs that have forgotten numbers and later ones: it drops the elements with the former.
-ghost use Rattle.std.specs.Prelude.{◌≡◌, ◌≤◌, ◌<◌, ◌-◌, ◌^◌, IfSome, nat_le, map, All, None};
+ghost use Rattle.std.specs.Prelude.{◌≡◌, ◌<◌, ◌^◌, IfSome, nat_le, All, None};
 ghost use Rattle.std.specs.List.{position};
-ghost use Rattle.merging_runs.specs.RunSizes.{left_above};
-ghost use Rattle.merging_runs.specs.Value.{LooksAt, LooksFor, size_partial, size_old};
+ghost use Rattle.merging_runs.specs.Value.{AreSwept, LooksAt, LooksFor, size_partial, size_old};
 
 use crate::run::Run;
 
@@ -23,12 +22,10 @@ fn first_from<R: Run>(runs: &[R], oldest: u64) -> Option<usize>
 // no such run.
 fn sweep_first<R: Run>(runs: &mut Vec<R>, oldest: u64, most: usize) -> Option<usize>
     requires { size_old R.from R.sizes R.elements oldest runs.old.items ≡ 0 }
-    ensures agree { R.agree (nat_le oldest) runs.new.items runs.old.items }
-    ensures whole { size_old R.from R.sizes R.elements oldest runs.new.items ≡ 0 }
+    ensures swept { AreSwept R.agree R.from R.sizes R.elements oldest runs.old.items runs.new.items }
     ensures looked { LooksAt result most (size_partial R.from R.sizes R.elements oldest runs.old.items)
         (size_partial R.from R.sizes R.elements oldest runs.new.items) }
     ensures none { result ≡ None → All (R.above oldest) runs.new.items }
-    ensures left { left_above oldest (map R.sizes runs.new.items) ≤ left_above oldest (map R.sizes runs.old.items) }
 {
     let place = first_from(runs, oldest)?;
     let work = runs[place].size().saturating_mul(LOOK).min(LOOKED_MAX);
@@ -42,13 +39,11 @@ fn sweep_first<R: Run>(runs: &mut Vec<R>, oldest: u64, most: usize) -> Option<us
 // them, `None` where there is no more.
 pub(crate) fn sweep_for<R: Run>(runs: &mut Vec<R>, oldest: u64, most: usize) -> Option<usize>
     requires { size_old R.from R.sizes R.elements oldest runs.old.items ≡ 0 }
-    ensures agree { R.agree (nat_le oldest) runs.new.items runs.old.items }
-    ensures whole { size_old R.from R.sizes R.elements oldest runs.new.items ≡ 0 }
+    ensures swept { AreSwept R.agree R.from R.sizes R.elements oldest runs.old.items runs.new.items }
     ensures few { IfSome result (λ n. n < 2 ^ 63) }
     ensures looked { LooksFor result most (size_partial R.from R.sizes R.elements oldest runs.old.items)
         (size_partial R.from R.sizes R.elements oldest runs.new.items) }
     ensures none { result ≡ None → All (R.above oldest) runs.new.items }
-    ensures left { left_above oldest (map R.sizes runs.new.items) ≤ left_above oldest (map R.sizes runs.old.items) }
 {
     let mut rest = most;
     'runs: while let Some(work) = sweep_first(runs, oldest, rest) {
@@ -63,11 +58,9 @@ pub(crate) fn sweep_for<R: Run>(runs: &mut Vec<R>, oldest: u64, most: usize) -> 
 // Sweeps all runs that may have numbers up to `oldest`.
 pub(crate) fn sweep_all<R: Run>(runs: &mut Vec<R>, oldest: u64)
     requires { size_old R.from R.sizes R.elements oldest runs.old.items ≡ 0 }
-    ensures agree { R.agree (nat_le oldest) runs.new.items runs.old.items }
-    ensures whole { size_old R.from R.sizes R.elements oldest runs.new.items ≡ 0 }
+    ensures swept { AreSwept R.agree R.from R.sizes R.elements oldest runs.old.items runs.new.items }
     ensures partial { size_partial R.from R.sizes R.elements oldest runs.new.items ≡ 0 }
     ensures none { All (R.above oldest) runs.new.items }
-    ensures left { left_above oldest (map R.sizes runs.new.items) ≤ left_above oldest (map R.sizes runs.old.items) }
 {
     'runs: while sweep_first(runs, oldest, LOOKED_MAX).is_some() {}
 }

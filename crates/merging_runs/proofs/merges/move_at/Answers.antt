@@ -1,11 +1,14 @@
 use Rattle.merging_runs.proofs.merges.move_at.Goals as goal
-use Rattle.std.proofs.Common.{◌≡◌, ◌<◌, ◌+◌, ◌-◌, ◌*◌, ◌++◌, ◌∷◌, [], ℕ, length, map, take, drop, get_or, ap, sym}
-use Rattle.std.proofs.Common.{subst, ◌∙◌, arith, refl, rules}
+use Rattle.std.proofs.Common.{List, ◌≡◌, ◌<◌, ◌+◌, ◌-◌, ◌*◌, ◌++◌, ◌∷◌, [], ℕ, length, map, take, drop, get_or, ap}
+use Rattle.std.proofs.Common.{sym}
+use Rattle.std.proofs.Common.{subst, ◌∙◌, arith, inr, refl, rules}
 use Rattle.std.proofs.lemmas.List.{get_or-drop, get_or_read}
+use Rattle.std.proofs.lemmas.Option.{slice_get_read}
 use Rattle.std.specs.Prelude.{◌&&◌, nat_le}
 use Rattle.merging_runs.proofs.Moves.{as_slow}
 use Rattle.merging_runs.proofs.RunSteps.{as_long, left_changed, lasts_changed, no_longer_changed, none_left}
 use Rattle.merging_runs.proofs.RunSteps.{behind_agrees, passed_left, same_run, set_behind}
+use Rattle.merging_runs.specs.MadeRuns.{IsMade}
 use Rattle.merging_runs.specs.RunSizes.{AreMerged, left_above}
 
 pub returns : goal.returns
@@ -13,6 +16,7 @@ returns g c =
     let runs = c.args.runs.now in
     let o = c.args.oldest in
     let begins = λ (b : ℕ). nat_le o b && g.R.Run.asks c.args.active.now b in
+    let makes : List g.row.R.Denot → g.row.R.Denot → g.row.R.Denot → Type 0 = λ earlier. g.R.Run.makes earlier c.args.active.now o in
     let i = c.args.place in
     let size = g.R.Run.sizes in
     let within : i < length runs.items = omega (arith, c.if-place-len.false, c.len.ensures, runs.ok.0) in
@@ -36,6 +40,9 @@ returns g c =
     record {
       agree = subst (λ l. g.R.Run.agree begins l runs.items) (sym now)
           (behind_agrees (g.R.Run.agree begins) (g.met.R.Run.between begins) runs.items i was new within at agrees);
+      made = inr
+          (was, new, slice_get_read runs.items (length runs.items) i was refl within at, subst (λ l. IsMade (makes l) was new) front_is c.move_on.ensures.made,
+              now);
       most = c.move_on.ensures.most;
       len = search rules;
       merged = subst (λ l. AreMerged g.R.Run.each o (c.args.most - c.move_on.result) (map size runs.items) (map size l)) (sym now) (record {

@@ -1,17 +1,21 @@
 use Rattle.merging_runs.proofs.merges.move_runs.Goals as goal
-use Rattle.std.proofs.Common.{◌≡◌, ◌≤◌, ◌+◌, ◌-◌, refl, ap, ◌∙◌, drop, map, arith, inl, inr}
+use Rattle.std.proofs.Common.{List, ◌≡◌, ◌≤◌, ◌+◌, ◌-◌, suc, refl, ap, sym, subst, ◌∙◌, drop, map, arith, inl, inr}
 use Rattle.std.proofs.lemmas.Bool.{cases_lt}
 use Rattle.std.specs.Prelude.{◌&&◌, min, nat_le}
 use Rattle.std.specs.Vec.{vec_len}
+use Rattle.merging_runs.proofs.MadeRuns.{AreMadeFrom, none_made, one_made}
 use Rattle.merging_runs.proofs.Moves.{slower, slowest}
 use Rattle.merging_runs.proofs.RunSteps.{as_long, no_longer_through, past_left}
+use Rattle.merging_runs.specs.MadeRuns.{MakesOne}
 use Rattle.merging_runs.specs.RunSizes.{left_above}
 
 pub loop-after-init : goal.loop-after-init
 loop-after-init g c =
     let len = c.args.runs.now.ok.0 in
+    let makes : List g.row.R.Denot → g.row.R.Denot → g.row.R.Denot → Type 0 = λ earlier. g.R.Run.makes earlier c.args.active.now c.args.oldest in
     record {
       agree = g.met.R.Run.same (λ b. nat_le c.args.oldest b && g.R.Run.asks c.args.active.now b) c.args.runs.now.items;
+      made = none_made makes (vec_len c.args.runs.now - 0) c.args.runs.now.items;
       len = refl;
       most = omega arith;
       merged = record { lasts = refl; wholes = as_long (map g.R.Run.sizes c.args.runs.now.items); moved = omega arith; slowly = omega arith };
@@ -29,10 +33,15 @@ loop-after-preserved g c =
     let test = c.loop-after-test.true in
     let end = c.len-after-end.ensures in
     let at : vec_len runs - (after + 1) ≡ c.len.result - after - 1 = omega (arith, len, is.len) in
+    let makes : List g.row.R.Denot → g.row.R.Denot → g.row.R.Denot → Type 0 = λ earlier. g.R.Run.makes earlier c.args.active.now o in
+    let last : vec_len runs - after ≡ suc (vec_len runs - (after + 1)) = omega (arith, test, end) in
     let behind : c.len.result - after - 1 + 1 ≡ vec_len runs - after = omega (arith, len, is.len, test, end) in
     record {
       agree = g.met.R.Run.through (λ b. nat_le o b
           && g.R.Run.asks c.args.active.now b) c.move_at-rest.new.runs.items c.loop-after.runs.items runs.items moved.agree is.agree;
+      made = one_made makes _ runs.items c.loop-after.runs.items c.move_at-rest.new.runs.items
+          (subst (λ n. AreMadeFrom makes n runs.items c.loop-after.runs.items) last is.made)
+          (subst (λ n. MakesOne makes c.loop-after.runs.items n c.move_at-rest.new.runs.items) (sym at) moved.made);
       len = moved.len ∙ is.len;
       most = omega (arith, is.most, moved.most);
       merged = record {
@@ -66,3 +75,7 @@ returns-clause-moved g c =
       moved = moved;
       slowly = slowest g.R.Run.each c.args.most c.loop-after.rest was now is.most merged.slowly;
     }
+
+pub returns-clause-made : goal.returns-clause-made
+returns-clause-made g c = λ place was at. c.loop-after.invariant.made.made place was
+    (omega (arith, c.loop-after-test.false, c.len-after-end.ensures)) at

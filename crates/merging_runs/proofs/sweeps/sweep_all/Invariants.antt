@@ -1,14 +1,9 @@
 use Rattle.merging_runs.proofs.sweeps.sweep_all.Given as goal
-use Rattle.std.proofs.Common.{◌≡◌, ◌≤◌, map}
-use Rattle.std.specs.Prelude.{nat_le}
-use Rattle.merging_runs.specs.RunSizes.{left_above}
-use Rattle.merging_runs.specs.Value.{size_partial, size_old}
+use Rattle.merging_runs.specs.Value.{AreSwept, size_partial}
 
 abbrev pub invariant-runs : goal.invariant-runs
 invariant-runs g l = record {
-  agree : g.R.Run.agree (nat_le l.oldest) l.runs.items l.fn.runs.items;
-  whole : size_old g.R.Run.from g.R.Run.sizes g.R.Run.elements l.oldest l.runs.items ≡ 0;
-  left : left_above l.oldest (map g.R.Run.sizes l.runs.items) ≤ left_above l.oldest (map g.R.Run.sizes l.fn.runs.items);
+  swept : AreSwept g.R.Run.agree g.R.Run.from g.R.Run.sizes g.R.Run.elements l.oldest l.fn.runs.items l.runs.items;
 }
 
 abbrev pub decreases-runs : goal.decreases-runs

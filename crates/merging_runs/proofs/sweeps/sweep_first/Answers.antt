@@ -49,11 +49,13 @@ returns-then-work-most g c =
     ) in
     let partial = partial_swept f o rs i was is found.within at found.from found.last c.sweep.ensures.from in
     record {
-      agree = other_agrees (g.R.Run.agree (nat_le o)) (g.met.R.Run.between (nat_le o)) rs i was is found.within at c.sweep.ensures.agree;
-      whole = whole_swept f o rs i was is found.within at found.last swept.last ∙ c.requires;
+      swept = record {
+        agree = other_agrees (g.R.Run.agree (nat_le o)) (g.met.R.Run.between (nat_le o)) rs i was is found.within at c.sweep.ensures.agree;
+        whole = whole_swept f o rs i was is found.within at found.last swept.last ∙ c.requires;
+        left = left_swept size o rs i was is found.within at found.last swept.last swept.left;
+      };
       looked = (omega (arith, looked), omega (arith, looked), omega (arith, looked, partial), grind (arith, nat_tests, looked, partial));
       none = λ none. absurd cc;
-      left = left_swept size o rs i was is found.within at found.last swept.last swept.left;
     }
 
 pub returns-else-work-most-clause-looked : goal.returns-else-work-most-clause-looked
