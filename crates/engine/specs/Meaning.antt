@@ -18,8 +18,7 @@ use Rattle.model.specs.declared.ranges.RangeRef.{RangeRef}
 use Rattle.model.specs.declared.refusals.Refusal.TheVariants.{NotOpen, FullMarks}
 use Rattle.sector.specs.SectorModel.{LeavesOnly}
 use Rattle.sector.specs.declared.device.Sectors.{Ghosts}
-use Rattle.commit_log.specs.LogState.{failure_count, record_count, log_device}
-use Rattle.commit_log.specs.LogState.{is_log_stopped}
+use Rattle.commit_log.specs.LogState.{failure_count, record_count, log_device, is_log_stopped}
 use Rattle.commit_log.specs.declared.log.Log.{Log}
 use Rattle.versions.specs.Chains.{ChainsValue}
 use Rattle.snapshot.specs.Made.{is_refused, range_read}

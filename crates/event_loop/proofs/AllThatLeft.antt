@@ -15,8 +15,7 @@ use Rattle.stream_driver.specs.declared.buffered.BufferedStream.{BufferedStream}
 use Rattle.stream_driver.specs.declared.entries.Entry.{Entry}
 use Rattle.slab.specs.Slab.{Slab}
 use Rattle.event_loop.proofs.Departing.{GoesOn, Slots, accepts_goes, all_kept, closed_goes, driven_goes, ends_report}
-use Rattle.event_loop.proofs.Departing.{inner_reports}
-use Rattle.event_loop.proofs.Departing.{holds_map, last_sound, rests_goes, stands_now, turned_goes}
+use Rattle.event_loop.proofs.Departing.{inner_reports, holds_map, last_sound, rests_goes, stands_now, turned_goes}
 use Rattle.event_loop.proofs.WholeTurns.{they_speak}
 use Rattle.event_loop.specs.AllThatLeft.{HaveOneRun, HoldsAtAllEnds, TurnsTo}
 use Rattle.event_loop.specs.AllThatLeft.TurnsTo.{Fault, NoTurn, OneMore}

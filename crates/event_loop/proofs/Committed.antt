@@ -26,9 +26,8 @@ use Rattle.sessions.proofs.FoundMapLaws.{CommitsBy, commits_in_event}
 use Rattle.sessions.proofs.FoundMapLaws.CommitsBy.{Fails, NoMore, OneMore}
 use Rattle.sessions.specs.SessionStreams.{HubState, HubEvent, Choice, Effect, Head, SessionState, SessionStream}
 use Rattle.sessions.specs.SessionStreams.{Joins, Receives, Serves, Sends, Whole, More, Bad, asks, disconnect}
-use Rattle.sessions.specs.SessionStreams.{hub_step}
-use Rattle.sessions.specs.SessionStreams.{is_open, may_serve, new_stream, receive, room, run, send, serve_choice}
-use Rattle.sessions.specs.SessionStreams.{serve_head, serve_session, stream_of, Leaves}
+use Rattle.sessions.specs.SessionStreams.{hub_step, is_open, may_serve, new_stream, receive, room, run, send}
+use Rattle.sessions.specs.SessionStreams.{serve_choice, serve_head, serve_session, stream_of, Leaves}
 use Rattle.sessions.specs.declared.events.Outcome.{Outcome}
 use Rattle.stream_driver.proofs.Carry.{run_then}
 use Rattle.event_loop.proofs.Present.{by_if, join_step}

@@ -18,8 +18,7 @@ use Rattle.stream_driver.proofs.States.{seen_after}
 use Rattle.stream_driver.specs.Buffers.{has_had_share}
 use Rattle.stream_driver.specs.Drives.{LeavesIfGone}
 use Rattle.stream_driver.specs.Entries.{DrivenAll, DrivenIn, DrivenSlot, DrivenOnce, DrivenThen, HaveSessions}
-use Rattle.stream_driver.specs.Entries.{entry_state_after}
-use Rattle.stream_driver.specs.Entries.{with_last}
+use Rattle.stream_driver.specs.Entries.{entry_state_after, with_last}
 use Rattle.stream_driver.specs.Sessions.{Point, Leads, IsPresent, Stands, status_at}
 use Rattle.stream_driver.specs.Traffic.{Traffic, untouched}
 use Rattle.stream_driver.specs.declared.answers.Progress.{Progress}

@@ -1,16 +1,14 @@
 -- Sessions that have left stay so, and one that leaves in a drive has received what came in over its stream.
 use Rattle.std.proofs.Common.{◌≡◌, ◌≢◌, ℕ, not, nat_le, nat_lt, List, [], ◌∷◌, ◌++◌, length, Option, Some, None, refl}
-use Rattle.std.proofs.Common.{sym}
-use Rattle.std.proofs.Common.{ap, append_assoc, subst, ◌∙◌}
+use Rattle.std.proofs.Common.{sym, ap, append_assoc, subst, ◌∙◌}
 use Rattle.std.proofs.lemmas.List.{append-nil}
 use Rattle.std.proofs.lemmas.List.Elements.{Contains-append_left, Contains-push}
 use Rattle.std.specs.List.{Contains}
 use Rattle.model.specs.Map.{Bytes}
 use Rattle.sessions.specs.Laws.{IsSessionStream}
 use Rattle.sessions.specs.SessionStreams.{HubState, HubEvent, Choice, Joins, Leaves, Receives, Sends, Serves}
-use Rattle.sessions.specs.SessionStreams.{SessionStream}
-use Rattle.sessions.specs.SessionStreams.{disconnect, hub_step, is_open, receive, requests_text, room, run, send}
-use Rattle.sessions.specs.SessionStreams.{serve_session, stream_of}
+use Rattle.sessions.specs.SessionStreams.{SessionStream, disconnect, hub_step, is_open, receive, requests_text, room}
+use Rattle.sessions.specs.SessionStreams.{run, send, serve_session, stream_of}
 use Rattle.sessions.specs.declared.events.Outcome.{Outcome}
 use Rattle.stream_driver.proofs.Carry.{one_history}
 use Rattle.stream_driver.specs.Drives.{Disconnects, LeavesIfGone}

@@ -20,9 +20,7 @@ use Rattle.stream_driver.proofs.States.{seen_after}
 use Rattle.stream_driver.specs.Buffers.{Finishes, fresh, has_had_share, is_flushed_or_failed, is_heavy, passed_over}
 use Rattle.stream_driver.specs.Buffers.{traffic_through}
 use Rattle.stream_driver.specs.Entries.{DrivenAll, DrivenIn, DrivenSlot, DrivenThen, EndsIn, KeepSessions, is_gone}
-use Rattle.stream_driver.specs.Entries.{is_over}
-use Rattle.stream_driver.specs.Entries.{with_last}
-use Rattle.stream_driver.specs.Entries.{state_at_end}
+use Rattle.stream_driver.specs.Entries.{is_over, with_last, state_at_end}
 use Rattle.stream_driver.specs.Sessions.{Point}
 use Rattle.stream_driver.specs.Traffic.{Traffic, untouched}
 use Rattle.stream_driver.specs.declared.buffered.BufferedStream.{BufferedStream}
@@ -36,12 +34,9 @@ use Rattle.event_loop.proofs.Slots.{Slots}
 use Rattle.event_loop.proofs.Widths.{count_more}
 use Rattle.event_loop.specs.Numbers.{HasTablePlace, HavePlaces, WasRegisteredAs}
 use Rattle.event_loop.specs.Order.{AreNext, ComesNearer, HasNextTurn, after_turn, behind, has_turn, in_turn}
-use Rattle.event_loop.specs.Order.{is_of_kind}
-use Rattle.event_loop.specs.Order.{is_late_entry, is_one, is_ready_slot, late_below, late_in, light_below, light_in}
-use Rattle.event_loop.specs.Order.{share_at}
-use Rattle.event_loop.specs.Order.{share_in_turn, share_of_slot}
-use Rattle.event_loop.specs.Order.{takes_none}
-use Rattle.event_loop.specs.Order.{takes_turns, waits_as, writer_of, writes_in}
+use Rattle.event_loop.specs.Order.{is_of_kind, is_late_entry, is_one, is_ready_slot, late_below, late_in, light_below}
+use Rattle.event_loop.specs.Order.{light_in, share_at, share_in_turn, share_of_slot, takes_none, takes_turns}
+use Rattle.event_loop.specs.Order.{waits_as, writer_of, writes_in}
 use Rattle.event_loop.specs.declared.order.Kind.TheVariants.{Any, Reader, Writer}
 use Rattle.event_loop.specs.declared.order.Turns.{Turns}
 use Rattle.event_loop.specs.Sockets.{IsNewSocket}

@@ -1,7 +1,6 @@
 -- What the drives of a turn leave of each entry: its session, the number of its connection, and the bytes of its session.
 use Rattle.std.proofs.Common.{◌≡◌, ◌≢◌, inl, inr, ℕ, zero, suc, List, [], ◌∷◌, ◌++◌, length, Option, Some, None, refl}
-use Rattle.std.proofs.Common.{sym}
-use Rattle.std.proofs.Common.{ap, subst, ◌∙◌, arith}
+use Rattle.std.proofs.Common.{sym, ap, subst, ◌∙◌, arith}
 use Rattle.mio.specs.declared.event.event.Event.{Event}
 use Rattle.model.proofs.Lookups.{some_same}
 use Rattle.sessions.specs.SessionStreams.{HubState, SessionStream, stream_of}
@@ -11,8 +10,7 @@ use Rattle.stream_driver.proofs.OneEntry.{ends_last, entry_other}
 use Rattle.stream_driver.specs.Buffers.{fresh, has_had_share, traffic_through}
 use Rattle.stream_driver.specs.Drives.{Why}
 use Rattle.stream_driver.specs.Entries.{DrivenAll, DrivenEntry, DrivenIn, DrivenSlot, DrivenThen, EndsIn}
-use Rattle.stream_driver.specs.Entries.{entry_state_after}
-use Rattle.stream_driver.specs.Entries.{with_last}
+use Rattle.stream_driver.specs.Entries.{entry_state_after, with_last}
 use Rattle.stream_driver.specs.Sessions.{Point}
 use Rattle.stream_driver.specs.Traffic.{DepartAt, Traffic}
 use Rattle.stream_driver.specs.declared.answers.Progress.{Progress}

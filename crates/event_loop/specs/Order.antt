@@ -1,8 +1,7 @@
 -- Which of the entries that are ready a turn drives: so many that have written nothing and were short, and of the
 -- others one that writes, and one that reads.
 use Rattle.std.specs.Prelude.{◌≡◌, ◌⊎◌, ℕ, zero, suc, ◌+◌, ◌-◌, ◌*◌, ◌/◌, ◌<◌, ◌≤◌, ◌==◌, ◌&&◌, ◌||◌, nat_le, nat_lt}
-use Rattle.std.specs.Prelude.{max, min, not}
-use Rattle.std.specs.Prelude.{Bool, true, false, cond, length, List, Option, Some, None}
+use Rattle.std.specs.Prelude.{max, min, not, Bool, true, false, cond, length, List, Option, Some, None}
 use Rattle.sector.specs.declared.device.Sectors.{Ghosts}
 use Rattle.sessions.specs.StandsFor.{has_written}
 use Rattle.sessions.specs.declared.events.TheConstants.{SESSIONS_MAX}

@@ -14,10 +14,9 @@
 ghost use Rattle.std.specs.Prelude.{◌≡◌, ◌-◌, ◌*◌, ◌<◌, ◌≤◌, length, nat_lt, not, ℕ, Bool, Some};
 ghost use Rattle.event_loop.specs.declared.order.Kind.TheVariants.{Any};
 ghost use Rattle.event_loop.specs.Order.{AreNext, ComesNearer, HasNextTurn, after_turn, behind, has_turn};
-ghost use Rattle.event_loop.specs.Order.{heavy_streams};
-ghost use Rattle.event_loop.specs.Order.{in_turn, is_late_entry, is_of_kind, is_one, is_writer, late_in, light_in};
-ghost use Rattle.event_loop.specs.Order.{share_at, share_in_turn, takes_turns, unused_in, waits_as};
-ghost use Rattle.event_loop.specs.Order.{width_after, writer_of, writes_in};
+ghost use Rattle.event_loop.specs.Order.{heavy_streams, in_turn, is_late_entry, is_of_kind, is_one, is_writer};
+ghost use Rattle.event_loop.specs.Order.{late_in, light_in, share_at, share_in_turn, takes_turns, unused_in};
+ghost use Rattle.event_loop.specs.Order.{waits_as, width_after, writer_of, writes_in};
 ghost use Rattle.event_loop.specs.Tables.{slot_at};
 
 use crate::socket::Socket;

@@ -1,6 +1,5 @@
 //! The system's poll, with its last events and counts of how often it succeeded and failed.
-ghost use Rattle.std.specs.Prelude.{◌≡◌};
-ghost use Rattle.std.specs.Prelude.{IfOk, OnOk};
+ghost use Rattle.std.specs.Prelude.{◌≡◌, IfOk, OnOk};
 ghost use Rattle.mio.specs.Events.{capacity as events_capacity, items};
 ghost use Rattle.socket_calls.specs.HappenedCalls.{WasReported};
 ghost use Rattle.event_loop.specs.Polls.{WasAskedOnce, after_wait, polls_of};

@@ -1,7 +1,6 @@
 -- How many of postings by rising key have keys below one.
 use Rattle.std.proofs.Common.{◌≡◌, ◌≤◌, ◌<◌, ◌+◌, ℕ, zero, suc, true, false, [], ◌∷◌, List, length, take, drop}
-use Rattle.std.proofs.Common.{get_or, refl}
-use Rattle.std.proofs.Common.{ap, sym, subst, ◌∙◌, not, arith}
+use Rattle.std.proofs.Common.{get_or, refl, ap, sym, subst, ◌∙◌, not, arith}
 use Rattle.std.proofs.lemmas.Bool.{and_from, and_parts}
 use Rattle.std.specs.Ordering.{is_le, is_lt}
 use Rattle.model.proofs.Elements.{all-each, all-pass, all-take}

@@ -1,7 +1,6 @@
 -- A posting is dropped where another answers whoever may ask in its place.
 use Rattle.std.proofs.Common.{◌≡◌, ◌+◌, ℕ, zero, suc, length, Bool, true, false, ◌&&◌, ◌||◌, List, [], ◌∷◌, ◌++◌}
-use Rattle.std.proofs.Common.{refl, Option}
-use Rattle.std.proofs.Common.{Some, None, sym, ap, ◌∙◌, arith}
+use Rattle.std.proofs.Common.{refl, Option, Some, None, sym, ap, ◌∙◌, arith}
 use Rattle.std.proofs.lemmas.Bool.{and_parts}
 use Rattle.std.proofs.lemmas.Bool.Decides.{nat_tests}
 use Rattle.std.proofs.lemmas.Grind.{common_steps}
@@ -18,8 +17,7 @@ use Rattle.pivot_check.specs.Agreeing.{lesser_assoc, lesser_none, least-append}
 use Rattle.pivot_check.specs.Kept.{Reach, may_ask}
 use Rattle.pivot_check.specs.Postings.{AnswerForAll, Posting, asked_in, keys_rise, least, lesser}
 use Rattle.pivot_check.specs.Redundant.{IsWithin, MakesFor, are_needed, are_spaced, is_redundant, is_redundant_behind}
-use Rattle.pivot_check.specs.Redundant.{is_redundant_by}
-use Rattle.pivot_check.specs.Redundant.{is_undivided}
+use Rattle.pivot_check.specs.Redundant.{is_redundant_by, is_undivided}
 
 -- ---- who may ask
 

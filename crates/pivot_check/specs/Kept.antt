@@ -1,8 +1,7 @@
 -- What is kept of committed transactions, so that a commit can be checked once older ones are forgotten.
 use Rattle.std.specs.List.{list_any}
 use Rattle.std.specs.Prelude.{◌≡◌, ℕ, ◌<◌, ◌≤◌, nat_le, nat_lt, Bool, true, false, ◌&&◌, ◌||◌, ◌==◌, List, [], ◌∷◌}
-use Rattle.std.specs.Prelude.{Option}
-use Rattle.std.specs.Prelude.{Some, None, find, option_map, map, max, ◌+◌, ◌-◌, if◌then◌else◌}
+use Rattle.std.specs.Prelude.{Option, Some, None, find, option_map, map, max, ◌+◌, ◌-◌, if◌then◌else◌}
 use Rattle.model.specs.Map.{Bytes, KeyWrite, is_same_key}
 use Rattle.model.specs.PrivateCopy.{Mark, is_covered}
 use Rattle.merging_runs.specs.Contents.{Contents, garbage_upto, freed_a_forget}

@@ -2,8 +2,7 @@
 use Rattle.std.specs.List.{AllByRecursion, filter, list_all}
 use Rattle.std.specs.Ordering.{is_le, is_lt}
 use Rattle.std.specs.Prelude.{◌≡◌, ◌≤◌, ℕ, ◌-◌, length, min, Bool, true, not, ◌&&◌, ◌||◌, List, [], ◌∷◌, ◌++◌, Option}
-use Rattle.std.specs.Prelude.{Some, None}
-use Rattle.std.specs.Prelude.{is_some, if◌then◌else◌, nat_lt, take, drop}
+use Rattle.std.specs.Prelude.{Some, None, is_some, if◌then◌else◌, nat_lt, take, drop}
 use Rattle.model.specs.Map.{Bytes, key_cmp}
 use Rattle.model.specs.PrivateCopy.{Mark, covers, is_covered}
 

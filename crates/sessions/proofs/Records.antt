@@ -14,16 +14,14 @@ use Rattle.model.specs.declared.refusals.Refusal.{Refusal}
 use Rattle.snapshot.proofs.Copies.{writes-made}
 use Rattle.engine.proofs.Requests.{none_read_only, read_only}
 use Rattle.engine.specs.Changes.{AddsOneAtMost, entry_of}
-use Rattle.engine.specs.Meaning.{IsReadOnly, has_writes}
-use Rattle.engine.specs.Meaning.{StandsFor as EngineStandsFor, has_engine_written}
+use Rattle.engine.specs.Meaning.{IsReadOnly, has_writes, StandsFor as EngineStandsFor, has_engine_written}
 use Rattle.engine.specs.declared.engine.Engine.{Engine}
 use Rattle.sessions.proofs.Reached.{reached}
 use Rattle.sessions.proofs.StreamLaws.{by_if}
 use Rattle.sessions.specs.SessionStreams.{Outcome, HubState, SessionState, HubEvent, Joins, Receives}
 use Rattle.sessions.specs.SessionStreams.{Serves, Sends, Leaves, Head, Whole, More, Bad, Choice, Effect, hub_step}
 use Rattle.sessions.specs.SessionStreams.{stream_of, serve_choice, serve_head, serve_session, may_serve, asks}
-use Rattle.sessions.specs.StandsFor.{Ghosts, Hub, StandsFor, HubLeads, CountsRecords, has_written, log}
-use Rattle.sessions.specs.StandsFor.{records_of}
+use Rattle.sessions.specs.StandsFor.{Ghosts, Hub, StandsFor, HubLeads, CountsRecords, has_written, log, records_of}
 
 -- ---- the machine
 

@@ -10,9 +10,8 @@ pub use Rattle.sector.specs.declared.device.Sectors.{Ghosts}
 use Rattle.commit_log.specs.LogState.{sync_count}
 use Rattle.commit_log.specs.declared.faults.Unopened.{Unopened}
 use Rattle.commit_log.specs.declared.log.Log.{Log}
-use Rattle.engine.specs.Meaning.{StandsFor as EngineStandsFor, device_of, failures_of}
-use Rattle.engine.specs.Meaning.{has_engine_stopped, has_engine_written}
-use Rattle.engine.specs.Meaning.{log_of, engine_records}
+use Rattle.engine.specs.Meaning.{StandsFor as EngineStandsFor, device_of, failures_of, has_engine_stopped}
+use Rattle.engine.specs.Meaning.{has_engine_written, log_of, engine_records}
 use Rattle.sessions.specs.Calls.{is_memory, has_failed}
 use Rattle.sessions.specs.SessionStreams.{Status, Outcome, HubState, SessionState, SessionStream, HubEvent, Joins}
 use Rattle.sessions.specs.SessionStreams.{Receives, Serves, Sends, Leaves, Choice, IsPossible, hub_step, room}

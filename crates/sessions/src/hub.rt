@@ -13,8 +13,7 @@ ghost use Rattle.sessions.specs.OneOrder.{RestartsHaveOneHistory};
 ghost use Rattle.sessions.specs.Readings.{RunsHaveOneReading};
 ghost use Rattle.sessions.specs.SessionStreams.{HubState, is_above, hub_over, Joins, Receives, Serves, Sends, Leaves};
 ghost use Rattle.sessions.specs.StandsFor.{HubLeads, StandsFor, event_of, status_of, room_of, pending_of, device};
-ghost use Rattle.sessions.specs.StandsFor.{AsksDevice, CountsRecords, failures, has_written, log};
-ghost use Rattle.sessions.specs.StandsFor.{records_of};
+ghost use Rattle.sessions.specs.StandsFor.{AsksDevice, CountsRecords, failures, has_written, log, records_of};
 
 use crate::events::{Event, Outcome, SESSIONS_MAX, SessionView, Status};
 use crate::present::Present;

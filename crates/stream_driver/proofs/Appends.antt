@@ -24,8 +24,7 @@ use Rattle.stream_driver.specs.Entries.{all_but}
 use Rattle.stream_driver.specs.Sends.{LeadsAnswering}
 use Rattle.stream_driver.specs.Sessions.{Ghosts, Hub, Leads, Stands, pending_at, session_of}
 use Rattle.stream_driver.specs.Traffic.{IsShareEnded, ReceivesBytes, Share, TakesOf, Traffic, SendsBytes}
-use Rattle.stream_driver.specs.Traffic.{WritesWithin}
-use Rattle.stream_driver.specs.Traffic.{bytes_written}
+use Rattle.stream_driver.specs.Traffic.{WritesWithin, bytes_written}
 use Rattle.stream_driver.specs.Types.{Empty, Exchange, WriteAnswer, Wrote, WriteBlocked, WriteFailed, Entry}
 use Rattle.stream_driver.specs.Types.{EntryState, Ready}
 

@@ -11,8 +11,7 @@ use Rattle.stream_driver.proofs.Carry.{grown}
 use Rattle.stream_driver.specs.Buffers.{buffered_in, BehindEnds, BehindMoved, FlushFails, GivesSome, KeepsBytes}
 use Rattle.stream_driver.specs.Buffers.{ShortAfter, TakesSome, InnerWasRead, WhyGave, WhyGaveSome, WhyTook}
 use Rattle.stream_driver.specs.Buffers.{WhyTookSome, traffic_through, ReadFails, RoomFails, StaysFailed, WhyRoom}
-use Rattle.stream_driver.specs.Buffers.{WriteFails, KeepsTurn, WritesBuffered, buffer_room, Flushes}
-use Rattle.stream_driver.specs.Buffers.{WhyBufferFlushed}
+use Rattle.stream_driver.specs.Buffers.{WriteFails, KeepsTurn, WritesBuffered, buffer_room, Flushes, WhyBufferFlushed}
 use Rattle.stream_driver.specs.Traffic.{AllMoved, Departure, DepartAt, CountsLast, IsBeginning, ReadsWithin, Traffic}
 use Rattle.stream_driver.specs.Traffic.{WritesWithin, bytes_read, bytes_written}
 use Rattle.stream_driver.specs.Types.{ReadAnswer, Moved, WriteAnswer, Wrote, WriteBlocked, WriteFailed, Read, Write}

@@ -1,6 +1,5 @@
 -- What a drive adds to the log, and what it takes of its stream's share.
-use Rattle.std.specs.Prelude.{◌≡◌, ◌≢◌, ◌⊎◌, ℕ, ◌+◌, ◌≤◌, true, false, List, [], ◌∷◌, length, Option, Some}
-use Rattle.std.specs.Prelude.{None}
+use Rattle.std.specs.Prelude.{◌≡◌, ◌≢◌, ◌⊎◌, ℕ, ◌+◌, ◌≤◌, true, false, List, [], ◌∷◌, length, Option, Some, None}
 use Rattle.sessions.specs.StandsFor.{has_written, pending_of, records_of}
 use Rattle.stream_driver.specs.Sessions.{Ghosts, Hub}
 use Rattle.stream_driver.specs.Traffic.{Share, TakesOf, Traffic}

@@ -1,7 +1,6 @@
 -- A stream that buffers what is written to it, over an inner one.
 use Rattle.std.specs.Prelude.{◌≡◌, ◌⊎◌, ◌+◌, ◌-◌, ◌<◌, ◌≤◌, ◌==◌, ◌++◌, ◌&&◌, ◌||◌, ◌≢◌, ◌↔◌, ℕ, Bool, true, false}
-use Rattle.std.specs.Prelude.{not}
-use Rattle.std.specs.Prelude.{List, [], ◌∷◌, cond, take, drop, length, max, min, nat_le, nat_lt, vec_len}
+use Rattle.std.specs.Prelude.{not, List, [], ◌∷◌, cond, take, drop, length, max, min, nat_le, nat_lt, vec_len}
 use Rattle.stream_driver.specs.Counts.{counted, counted_with}
 use Rattle.stream_driver.specs.Traffic.{AllMoved, DepartAt, CountsLast, Share, Traffic, ReadsWithin, WritesWithin}
 use Rattle.stream_driver.specs.Traffic.{bytes_read, bytes_written, untouched}

@@ -8,8 +8,7 @@ use Rattle.stream_driver.specs.Sessions.{Ghosts, Hub, Point, status_at, inbox_ro
 use Rattle.stream_driver.specs.Traffic.{Traffic, AllMoved, CountsLast}
 use Rattle.stream_driver.specs.Types.{Read, Write, ReadAnswer, Moved, Blocked, Failed, Ended, WriteAnswer, Wrote}
 use Rattle.stream_driver.specs.Types.{WriteBlocked, WriteFailed, OutputState, Empty, FlushBlocked, FlushFailed}
-use Rattle.stream_driver.specs.Types.{Exchange, Replied, Starved, ExchangeBlocked, ExchangeFailed}
-use Rattle.stream_driver.specs.Types.{ExchangeEnded}
+use Rattle.stream_driver.specs.Types.{Exchange, Replied, Starved, ExchangeBlocked, ExchangeFailed, ExchangeEnded}
 
 -- how many requests were served
 abbrev pub served_in : {s : ℕ} {reports : Type 0} {old : Point} {before : Traffic} {new : Point} {after : Traffic}

@@ -40,9 +40,13 @@ returns g c =
     record {
       agree = subst (λ l. g.R.Run.agree begins l runs.items) (sym now)
           (behind_agrees (g.R.Run.agree begins) (g.met.R.Run.between begins) runs.items i was new within at agrees);
-      made = inr
-          (was, new, slice_get_read runs.items (length runs.items) i was refl within at, subst (λ l. IsMade (makes l) was new) front_is c.move_on.ensures.made,
-              now);
+      made = inr (
+        was,
+        new,
+        slice_get_read runs.items (length runs.items) i was refl within at,
+        subst (λ l. IsMade (makes l) was new) front_is c.move_on.ensures.made,
+        now,
+      );
       most = c.move_on.ensures.most;
       len = search rules;
       merged = subst (λ l. AreMerged g.R.Run.each o (c.args.most - c.move_on.result) (map size runs.items) (map size l)) (sym now) (record {

@@ -7,8 +7,7 @@ use Rattle.stream_driver.proofs.Appends.{appends_last, appends_more, at_most_non
 use Rattle.stream_driver.proofs.OneEntry.{below}
 use Rattle.stream_driver.proofs.Waiting.{EntriesBelow, below_all, below_others, below_vacant, each_and_last}
 use Rattle.stream_driver.proofs.Turns.{but_last, but_none, driven_numbers, driven_sessions, entries_driven}
-use Rattle.stream_driver.proofs.Turns.{entries_none, entries_vacant}
-use Rattle.stream_driver.proofs.Turns.{entries_wait, none_last, same_slot, then_last}
+use Rattle.stream_driver.proofs.Turns.{entries_none, entries_vacant, entries_wait, none_last, same_slot, then_last}
 use Rattle.stream_driver.proofs.entries.drive_ready_then.Goals.{in-Some, in_default}
 use Rattle.stream_driver.specs.Appends.{UsesShare}
 use Rattle.stream_driver.specs.Entries.{all_but}
