@@ -12,7 +12,7 @@ Each crate has a short README, and what that names is a file, or stands in the c
 What docs/MAINTAINING.md names is there. The commands and refusals of docs/PROTOCOL.md, docs/CLIENTS.md and man/ssikvd.7 are those of the definitions,
 and the tables of docs/LOG_FORMAT.md those of the model's logs. docs/TESTING.md has each harness of runner.py. Numbers of the code are its constants.
 A commit has each version that CHANGELOG.md names. Documents that are installed link to none that isn't. Of each block of ```ini and ```python: a unit
-that `systemd-analyze verify` takes, Python that is Python.
+that `systemd-analyze verify` takes, Python that is Python. A server that is started under a lock has the one that the tools of dist/ look for.
 """
 import glob
 import os
@@ -460,6 +460,24 @@ def expect_shown(report, name="docs/PERFORMANCE.md"):
     expect(report.returncode == 0 and report.stdout and not missing, f"{name} has not {missing[:1]} {report.stderr}")
 
 
+def lock_calls(text):
+    """Each start of a server under `flock` in a text: the words before `ssikvd serve`, and its data file."""
+    joined = re.sub(r"\\e?\n\s*", " ", text).replace('\\"', "")
+    return re.findall(r"flock ([^`\n]*?)ssikvd serve --data (\S+)", joined)
+
+
+def locks(tally):
+    """Where a document, a man page, a unit or the image starts a server under a lock, it is that of the data file, which the tools look for."""
+    found = []
+    for name in [*documents(), "Containerfile", *sorted(glob.glob("man/*", root_dir=TOP)), *sorted(glob.glob("dist/*", root_dir=TOP))]:
+        for words, data in lock_calls(text_of(name)):
+            found.append(name)
+            with tally.run(f"the lock of {data} in {name}"):
+                expect(words.startswith(f"-n -F -E 75 {data}.lock "), f"flock gets {words}")
+    with tally.run("the places that start a server under a lock"):
+        expect({"Containerfile", "docs/OPERATIONS.md", "dist/ssikvd@.service", "man/ssikvd.1"} <= set(found), f"only {found} do")
+
+
 def stands_on():
     """The crates of crates.txt, each with those that it stands on."""
     lines = [line.partition(":") for line in text_of("crates.txt").splitlines() if line and line[0] != "#"]
@@ -622,7 +640,9 @@ def log_format(tally):
 class Documents(Harness):
     NAME = "documents"
     NEEDS = (PROGRAM,)
-    PARTS = (run_commands, worked, other_blocks, style, links, pictures, constants, limits, versions, installed, layers, readmes, recipes, sealed, tests, names, log_format)
+    PARTS = (
+        run_commands, worked, other_blocks, style, links, pictures, constants, limits, versions, installed, locks, layers, readmes, recipes, sealed, tests,
+        names, log_format)
 
 
 if __name__ == "__main__":
