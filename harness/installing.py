@@ -392,6 +392,10 @@ def versions(tally):
         for name, form, due in (("CHANGELOG.md", r"^## \[(.*?)\]", newest), ("debian/changelog", r"^ssikvd \((.*?)\)", version.replace("-", "~"))):
             found = re.findall(form, text_of(name), re.M)
             expect(found and found[0] == due, f"{name} has {found}, not {due}")
+    with tally.run("the versions that are supported"):
+        newest, *older = dict.fromkeys(re.findall(r"^## \[(\d+\.\d+)\.", text_of("CHANGELOG.md"), re.M))
+        found = re.findall(r"^\| ([\d.]+) \| (\w+) \|", text_of("SECURITY.md"), re.M)
+        expect(found == [(newest, "yes"), *((it, "no") for it in older)], f"SECURITY.md has {found}, and CHANGELOG.md names {newest} and {older}")
 
 
 # The Debian package
