@@ -5,7 +5,7 @@ and `ssikvd-why` names this cause alone, in one line with its cure, and leaves a
 that look odd and aren't wrong. The unit's line runs it where a start failed, and not otherwise.
 
 `ssikvd-stat` reports what was done to a server: commits and keys, connections and their silence, memory, the ages of a backup and of a compaction;
-also without `ss`. The probe reports a full log. Each figure of the alert rules is one that a tool writes.
+also without `ss`. The probe reports a full log. Each figure of the alert rules is one that a tool writes, and that a unit of dist/ has it write.
 """
 import contextlib
 import errno
@@ -25,7 +25,8 @@ from ssikvd_harness.deviations import expect, is_refused, missing, wait_for
 from ssikvd_harness.examples import simple_client
 from ssikvd_harness.log_format import SECTOR, log_image
 from ssikvd_harness.server import Server, create, folder, free_port
-from ssikvd_harness.settings import PATIENCE, PROGRAM
+from ssikvd_harness.services import Unit
+from ssikvd_harness.settings import PATIENCE, PROGRAM, text_of
 from ssikvd_harness.tools import DIST, ENVIRONMENT, fill, loaded, operations, tool, within
 from ssikvd_harness.units import judge_metrics, names_of_metrics
 
@@ -548,17 +549,56 @@ def links(tally, place, words):
             expect(file.read() == "[1]" and not os.path.islink(state), "what the link leads to was changed")
 
 
+def figures_of_rules():
+    """The figures that the alert rules rest on."""
+    with open(os.path.join(DIST, "alerts.yml"), encoding="utf-8") as file:
+        return set(re.findall(r"\bssikvd_[a-z]+_\w+", re.sub(r"(?m)^#.*|summary:.*", "", file.read())))
+
+
 def alerts(tally):
     """Each figure that a rule names is written by a tool, and each alert is in docs/OPERATIONS.md."""
     with open(os.path.join(DIST, "alerts.yml"), encoding="utf-8") as file:
         text = file.read()
     with tally.run("the figures of the alert rules"):
-        named = set(re.findall(r"\bssikvd_[a-z]+_\w+", re.sub(r"(?m)^#.*|summary:.*", "", text)))
+        named = figures_of_rules()
         due = names_of_metrics()
         expect(len(named) > 10 and named <= due, f"the rules name {sorted(named - due)}")
     with tally.run("the alerts in docs/OPERATIONS.md"):
         lost = [name for name in re.findall(r"alert: (\w+)", text) if f"`{name}`" not in operations()]
         expect(not lost, f"it lacks {lost}")
+
+
+def of_units(tally):
+    """The services of figures and of backups write each figure that a rule rests on. Where there is no backup, its age alone is missing."""
+    with folder() as place:
+        data, copies, metrics = (os.path.join(place, name) for name in ("shop.data", "copies", "metrics"))
+        create(data, SECTORS)
+        os.mkdir(copies)
+        os.mkdir(metrics)
+        os.link(data, data + ".old")    # as a compaction leaves one
+        with locked_server(data) as (_, port):
+            settings = {"LISTEN": f"127.0.0.1:{port}", "METRICS": metrics, "BACKUPS": copies}
+            with tally.run("the figures of the unit without a backup"):
+                written = run_unit("ssikvd-used", place, settings)
+                expect({"ssikvd_stat_connections", "ssikvd_stat_compaction_age_seconds"} <= written, f"it writes {sorted(written)}")
+                expect("ssikvd_stat_backup_age_seconds" not in written, "it writes the age of a backup that isn't there")
+            with tally.run("the figures of the units"):
+                put(port, 1)
+                run_unit("ssikvd-ship", place, settings)
+                named = figures_of_rules()
+                lost = named - run_unit("ssikvd-used", place, settings)
+                expect(len(named) > 10 and not lost, f"the units never write {sorted(lost)}, which the rules name")
+
+
+def run_unit(name, place, settings):
+    """Runs the commands of a service over the files of this folder: the names of all figures that are written then."""
+    unit = Unit(name, "shop", settings)
+    for line in unit.commands["ExecStart"]:
+        words = [word.replace("/var/lib/ssikvd/", place + "/") for word in unit.words(line)]
+        ran = tool(*words)
+        expect(ran[0] == 0, f"{words} answered {ran}")
+    texts = [text_of(os.path.join(settings["METRICS"], it)) for it in os.listdir(settings["METRICS"])]
+    return {found for text in texts for found in re.findall(r"^(ssikvd_\w+)[{ ]", text, re.M)}
 
 
 def put(port, count):
@@ -603,7 +643,7 @@ class StatAndWhy(Harness):
     NEEDS = (PROGRAM,)
     PARTS = (
         writes_nothing, kinds_of_file, permissions, folders, formats, damage, room, locks, addresses, no_cause, the_unit, probes,
-        stats, alerts, show_that_they_fail)
+        stats, alerts, of_units, show_that_they_fail)
 
 
 if __name__ == "__main__":
