@@ -1,9 +1,10 @@
 """The proxies of examples/proxies in front of `serve`: stunnel, haproxy and ssh with the configurations that stand there.
 
-The commands of their document are typed into a shell. Then: a client without a certificate, or with a foreign one, is refused; a silent
-client is disconnected and its transaction aborted; the clients beyond the limit wait and are served; the health check finds the server up
-and down; a server that is drained serves those that are connected and nobody else; the tunnel leads to one port alone. For each of these the configuration is also changed, or the server ended, so that the check must
-see it. What isn't installed is left out, and a line says so. Ports are other, free ones.
+The commands of their document are typed into a shell. Then: no authority is replaced by a second run; a client without a certificate, or with a
+foreign one, is refused; a silent client is disconnected and its transaction aborted; the clients beyond the limit wait and are served; the health
+check finds the server up and down; a server that is drained serves those that are connected and nobody else; the tunnel leads to one port alone.
+For each of these but the first the configuration is also changed, or the server ended, so that the check must see it. What isn't installed is left
+out, and a line says so. Ports are other, free ones.
 
 `quick` waits for one second where `long` also waits in vain.
 """
@@ -26,7 +27,7 @@ from ssikvd_harness.cases import Harness
 from ssikvd_harness.deviations import Deviation, expect, wait_for
 from ssikvd_harness.examples import simple_client
 from ssikvd_harness.server import Server, create, folder, free_port
-from ssikvd_harness.settings import PATIENCE, PROGRAM, TOP, text_of
+from ssikvd_harness.settings import PATIENCE, PROGRAM, TOP, bytes_of, text_of
 
 FOLDER = os.path.join(TOP, "examples", "proxies")
 DOCUMENT = "examples/proxies/README.md"
@@ -228,10 +229,35 @@ def written(tally):
 
 # TLS
 
+def run_certificates(place, name, user):
+    return subprocess.run(["sh", os.path.join(FOLDER, "certificates.sh"), name, "shop.example", user], cwd=place, capture_output=True, check=False)
+
+
 def certificates(place, name="keys", user="ann"):
-    ran = subprocess.run(["sh", os.path.join(FOLDER, "certificates.sh"), name, "shop.example", user], cwd=place, capture_output=True, check=False)
+    ran = run_certificates(place, name, user)
     expect((ran.returncode, ran.stdout, ran.stderr) == (0, b"", b""), f"certificates.sh ended with {ran}")
     return os.path.join(place, name)
+
+
+def authorities(tally):
+    """An authority isn't replaced by a second run in its folder, also where its key was taken elsewhere or its certificate was."""
+    if not are_there("the authority", "openssl"):
+        return
+    with tally.run("a second authority in one folder"), folder() as place:
+        certificates(place)
+        for gone in (None, "ca.key", "ca.pem"):
+            if gone:
+                os.rename(os.path.join(place, "keys", gone), os.path.join(place, gone))
+            before = files_of(os.path.join(place, "keys"))
+            ran = run_certificates(place, "keys", "bob")
+            expect(ran.returncode == 1 and b" is there: " in ran.stderr and b"openssl" not in ran.stderr, f"certificates.sh ended with {ran}")
+            expect(files_of(os.path.join(place, "keys")) == before, "it changed what was there")
+            if gone:
+                os.rename(os.path.join(place, gone), os.path.join(place, "keys", gone))
+
+
+def files_of(place):
+    return {name: bytes_of(os.path.join(place, name)) for name in os.listdir(place)}
 
 
 class NoCertificate(simple_client.Client):
@@ -495,7 +521,7 @@ def server_of(place):
 class Proxies(Harness):
     NAME = "proxies"
     NEEDS = (PROGRAM,)
-    PARTS = (written, typed, tls, limits, drained, chained, ssh)
+    PARTS = (written, typed, authorities, tls, limits, drained, chained, ssh)
 
 
 if __name__ == "__main__":

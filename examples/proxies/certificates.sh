@@ -1,10 +1,17 @@
 #!/bin/sh
 # Makes an authority and two certificates of it, for a server and for a client: certificates.sh FOLDER SERVER CLIENT
-# The server's name is the one by which clients reach it. The authority's key, ca.key, belongs on neither machine.
+# The server's name is the one by which clients reach it. The authority's key, ca.key, belongs on neither machine. Where FOLDER has an authority, it
+# ends with status 1 and makes nothing.
 set -eu
 umask 077
 mkdir -p "$1"
 cd "$1"
+for left in ca.pem ca.key; do
+    [ ! -e "$left" ] || {
+        echo "certificates.sh: $1/$left is there: with a new authority, all certificates of the old one would be refused; give another folder" >&2
+        exit 1
+    }
+done
 new_key="-newkey ec -pkeyopt ec_paramgen_curve:prime256v1 -nodes"
 
 # shellcheck disable=SC2086    # they are several words
