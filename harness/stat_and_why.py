@@ -214,11 +214,41 @@ def formats(tally):
                 file.write(content)
             expect_fault(data, text)
             expect_causes(why("--data", data), due)
-    with store(tally, "the cure of an odd size") as (_, data):
-        with open(data, "wb") as file:
-            file.write(new[:-100])
-        subprocess.run(["sh", "-c", cure_of(why("--data", data)).partition(";")[0]], check=True, env=ENVIRONMENT, capture_output=True)
-        expect_none(why("--data", data + ".new"), data + ".new")
+    cures = {
+        "an odd size": (new[:-100], ".new", lambda cure: cure.partition(";")[0]), "format 1": (old, "", str),
+        "a file that is no log": (bytes(1_024), "", lambda cure: cure.partition("in its place: ")[2].replace("COPY", "$0"))}
+    for what, (content, end, command_in) in cures.items():
+        with store(tally, f"the cure of {what}") as (place, data):
+            copy, environment = os.path.join(place, "copy"), {**ENVIRONMENT, "PATH": as_program(place)}
+            write_bytes(copy, new)
+            write_bytes(data, content)
+            own(data)
+            before = owner_and_mode(data)
+            subprocess.run(["sh", "-c", "umask 022; " + command_in(cure_of(why("--data", data))), copy], check=True, env=environment, capture_output=True)
+            expect_none(why("--data", data + end), data + end)
+            expect(owner_and_mode(data + end) == before, f"the server's user has it no longer: {owner_and_mode(data + end)}")
+    with store(tally, "the cure of a lost file") as (place, data):
+        os.rename(data, data + ".old")
+        cure = cure_of(why("--data", data)).partition("in its place: ")[2].partition(";")[0].replace("COPY", "$0")
+        subprocess.run(["sh", "-c", cure, data + ".old"], check=True, env=ENVIRONMENT, capture_output=True)
+        expect_none(why("--data", data), data)
+
+
+def write_bytes(name, content):
+    with open(name, "wb") as file:
+        file.write(content)
+
+
+def own(data):
+    """Makes a file one of the server's user alone, where that may be another."""
+    os.chmod(data, 0o600)
+    if IS_ROOT:
+        os.chown(data, NOBODY, NOBODY)
+
+
+def owner_and_mode(name):
+    found = os.stat(name)
+    return found.st_uid, found.st_gid, found.st_mode
 
 
 def damage(tally):
