@@ -275,7 +275,8 @@ class Befores:
     STAND_IN = """#!/bin/sh
 echo >>{place}/calls
 if [ $(wc -l <{place}/calls) -eq {number} ]; then
-    {{ env PATH={path} SSIKVD={program} {script} {data} 64 >{place}/other 2>&1; echo $? >>{place}/other; }} 9<&- &
+    # It holds nothing of the first run's: no lock, and no pipe whose end that reads to.
+    {{ env PATH={path} SSIKVD={program} {script} {data} 64 >{place}/other 2>&1; echo $? >>{place}/other; }} 9<&- >/dev/null 2>&1 &
     sleep 0.2
 fi
 exec {real} "$@"

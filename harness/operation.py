@@ -32,7 +32,7 @@ from ssikvd_harness.frames import frame
 from ssikvd_harness.log_format import SECTOR, Damaged, NotALog, log_of, map_of, read_log
 from ssikvd_harness.server import Server, check, create, folder, free_port
 from ssikvd_harness.settings import PATIENCE, PROGRAM
-from ssikvd_harness.tools import DIST, SECTORS, commit, fill, loaded, tool
+from ssikvd_harness.tools import DIST, ENVIRONMENT, SECTORS, commit, fill, loaded, operations, tool
 from ssikvd_harness.trials import Recorder, Trial, write_script
 from ssikvd_harness.units import allocator, judge_metrics, rules, scripts, texts, units
 
@@ -620,17 +620,37 @@ def before_a_start(tally):
             found = tool("ssikvd-before", link, "64")
             expect(found[0] == 1 and "missing and was there before" in found[2] and not os.listdir(there), f"it answered {found}")
         with tally.run("a size in the place of a number of sectors"):
-            for words, due in ((["32KiB"], 64), (["1MiB"], 2_048), (["1XiB"], None), (["MiB"], None), ([], None), (["1MiB", "2MiB"], None)):
+            for words, due in ((["32KiB"], 64), (["1MiB"], 2_048), (["1.2KiB"], 3), (["1XiB"], None), (["MiB"], None), ([], None), (["1MiB", "2MiB"], None)):
                 found = tool("ssikvd-before", data, *words)
                 expect((found[0] == 0) == os.path.exists(data) == (due is not None), f"{words} was answered {found}")
                 if due:
                     expect(check(data)[3] == due, f"{words} made {check(data)[3]} sectors")
                     os.remove(data)
+        sections(tally, place)
         with tally.run("what a killed create left"):
             with open(data + ".new", "wb") as file:
                 file.write(bytes(100))
             found = tool("ssikvd-before", data, "64")
             expect(found == (0, "", "") and check(data)[3] == 64, f"it answered {found}")
+
+
+def sections(tally, place):
+    """What keeps a file from being served is told with the section of docs/OPERATIONS.md that says what to do. A stand-in says it."""
+    data, stand_in = os.path.join(place, "shop.data"), os.path.join(place, "tools")
+    os.mkdir(stand_in)
+    create(data, 64)
+    for said, status, due in (
+        ("closed gate of record 3", 2, "After damaged record"), ("damaged record 3", 2, "After damaged record"),
+        ("the cache differs from the device", 2, "After store stopped"), ("can't be read past the cache", 3, "After store stopped"),
+        ("not a log", 2, "Why a start fails"), ("Permission denied", 2, "Why a start fails"),
+    ):
+        with tally.run(f"the section on: {said}"):
+            write_script(os.path.join(stand_in, "ssikvd-verify"), f"#!/bin/sh\necho \"{data}: {said}\" >&2\nexit {status}\n")
+            found = tool("ssikvd-before", data, "64", environment={**ENVIRONMENT, "PATH": f"{stand_in}:{ENVIRONMENT['PATH']}"})
+            expect(found[:2] == (status, "") and found[2].startswith(f"{data}: {said}\n"), f"it answered {found}")
+            expect(re.findall(r'"(.*)"', found[2]) == [due], f"it names another section than {due}: {found[2]}")
+            expect(f"\n### {due}\n" in operations().replace("`", ""), f"docs/OPERATIONS.md has no section {due}")
+    os.remove(data)
 
 
 # Process 1
