@@ -24,7 +24,7 @@ from ssikvd_harness.cases import Harness
 from ssikvd_harness.deviations import expect, is_refused, missing, wait_for
 from ssikvd_harness.examples import simple_client
 from ssikvd_harness.log_format import SECTOR, log_image
-from ssikvd_harness.server import Server, create, folder, free_port
+from ssikvd_harness.server import Server, check, create, folder, free_port
 from ssikvd_harness.services import Unit
 from ssikvd_harness.settings import PATIENCE, PROGRAM, text_of
 from ssikvd_harness.tools import DIST, ENVIRONMENT, fill, loaded, operations, tool, within
@@ -394,6 +394,26 @@ def the_unit(tally):
             expect(ran.returncode == due and not ran.stderr and ran.stdout.count("ssikvd-why: ") == 2 * due, f"it answered {ran}")
 
 
+def sizes(tally):
+    """A size is as many sectors here as in the tools in shell, and what is none here is none there."""
+    with folder() as place:
+        data = os.path.join(place, "shop.data")
+        for text in ("64", "32KiB", "1.5MiB", "1.0001MiB", ".5MiB", "0.7KiB", "1.0000001KiB", "1.MiB", "1XiB", "1e1KiB", "-1MiB", "nanMiB", "MiB", "1mib"):
+            with tally.run(f"the size {text}"):
+                made = check(data)[3] if tool("ssikvd-before", data, text)[0] == 0 else None
+                with contextlib.suppress(FileNotFoundError):
+                    os.remove(data)
+                try:
+                    found = WHY.sectors(text)
+                except ValueError:
+                    found = None
+                expect(made == found, f"ssikvd-before makes {made} sectors, ssikvd-why takes {found}")
+    with store(tally, "the unit with a part of a size") as (place, data):
+        os.remove(data)
+        ran = tool("ssikvd-before", "--failed", data, "1.5MiB", "127.0.0.1:0")
+        expect(ran[0] == 1 and not ran[2] and f"there is no file {data}" in ran[1], f"it answered {ran}")
+
+
 # The probe
 
 def expect_probe(found, status, *texts):
@@ -672,7 +692,7 @@ class StatAndWhy(Harness):
     NAME = "stat_and_why"
     NEEDS = (PROGRAM,)
     PARTS = (
-        writes_nothing, kinds_of_file, permissions, folders, formats, damage, room, locks, addresses, no_cause, the_unit, probes,
+        writes_nothing, kinds_of_file, permissions, folders, formats, damage, room, locks, addresses, no_cause, the_unit, sizes, probes,
         stats, alerts, of_units, show_that_they_fail)
 
 
