@@ -1,6 +1,7 @@
 # `make` lists what it can do. docs/INSTALL.md and CONTRIBUTING.md say more.
 #
-# It works in the repository and in an unpacked tarball of `make dist`. Only `build` and `check` need the kit.
+# It works in the repository and in an unpacked tarball of `make dist`. `build`, `check` and `try` need the kit; these, `test` and `definitions` the
+# repository.
 
 PREFIX = /usr/local
 DESTDIR =
