@@ -314,6 +314,10 @@ def copied_a_second():
     return next(row["keys"] / median(row["seconds"]["compact"]) for row in read("copies")["rows"] if row["order"] == "random")
 
 
+def of_allocator(name, figure):
+    return median(it[figure] for it in read("allocators")["rows"][name])
+
+
 def stopped_s():
     """For how many seconds clients weren't served in a compaction of so many keys."""
     return {row["keys"]: median(row["not_served_s"]) for row in read("compactions")["rows"]}
@@ -339,7 +343,11 @@ QUOTED = (
     ("docs/OPERATIONS.md", r"A million keys take ([\d.]+) to ([\d.]+) seconds", lambda: sorted(
         f"{median(row['seconds']['compact']):.1f}" for row in read("copies")["rows"])),
     ("docs/OPERATIONS.md", r"After 100,000 keys that had been written again, the longest turn took ([\d.]+) ms", lambda: [
-        f"{median(it['end_ms'] for it in read('allocators')['rows']['C library']):.1f}"]),
+        f"{of_allocator('C library', 'end_ms'):.1f}"]),
+    ("docs/OPERATIONS.md", r"such clients took ([\d.]+) ms with the C library, and ([\d.]+) ms with jemalloc", lambda: [
+        f"{of_allocator(name, 'crowd_ms'):.1f}" for name in ("C library", "jemalloc")]),
+    ("docs/OPERATIONS.md", r"the largest RANGEs then take ([\d.]+) times the CPU time", lambda: [
+        f"{of_allocator('jemalloc, decay at once', 'large_us') / of_allocator('jemalloc', 'large_us'):.1f}"]),
     ("docs/OPERATIONS.md", r"`serve` for that file: ([\d,]+) MB where that takes ([\d,]+)", lambda: [
         f"{read('copies')['most_mb']:,.0f}", f"{scaled('opening', 'start', 'resident_mb')[1_000_000]:,.0f}"]),
     ("docs/OPERATIONS.md", r"An idle connection takes (\d+) KiB more", lambda: [
