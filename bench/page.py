@@ -284,6 +284,22 @@ def rate_of(what, peer):
     return rounded(rows()[what, peer]["rate"])
 
 
+def rates_of_reads():
+    """The rates of the slices in which 16 connections read four keys with one request at a time and nobody else does anything: those of each place
+    of the run that measures this."""
+    what = f"{WORKS['read']}, 16 connections, {ONE}"
+    alone = (row for row in read("readers_and_writers")["rows"] if (row["server"], row["kind"]) == ("ssikvd", "readers alone"))
+    return [
+        throughput()["read", ONE, "ssikvd", 16]["rates"], *([it["readers"]["rate"] for it in row["slices"]] for row in alone),
+        *(row["rates"] for (name, _), row in rows().items() if name == what),
+        *(row["peer_rates"] for (name, peer), row in rows().items() if name.startswith(what) and peer == "without that")]
+
+
+def least_and_most(values):
+    values = list(values)
+    return [rounded(min(values)), rounded(max(values))]
+
+
 def opening_s(keys):
     return f"{scaled('opening', 'start', 'start_ms')[keys] / 1000:.1f}"
 
@@ -325,12 +341,15 @@ def stopped_s():
 
 # Of each document the words around figures, whose places are the groups, and what the figures are.
 QUOTED = (
-    ("README.md", r"([\d,]+) transactions of four reads a second, ([\d,]+) durable commits, ([\d,]+) PINGs; a million keys opened in ([\d.]+) s", lambda: [
-        rate_of("BEGIN, 4 GET, COMMIT, 16 connections, one request at a time", "PostgreSQL SERIALIZABLE"),
+    ("README.md", r"([\d,]+) to ([\d,]+) transactions of four reads a second, ([\d,]+) durable commits, ([\d,]+) PINGs", lambda: [
+        *least_and_most(median(rates) for rates in rates_of_reads()),
         rate_of("BEGIN, SET, COMMIT, 16 connections, one request at a time", "the device, two syncs"),
-        rate_of("PING, 16 connections", "C epoll echo"), opening_s(1_000_000)]),
+        rate_of("PING, 16 connections", "C epoll echo")]),
+    ("README.md", r"a million keys are read in ([\d.]+) s", lambda: [opening_s(1_000_000)]),
     ("README.md", r"(\d+) to (\d+) bytes for a key of 16 bytes with a value of 100", bytes_of_key),
     ("docs/PERFORMANCE.md", r"writes and two syncs of a commit take ([\d.]+) ms", lambda: [two_syncs_ms()]),
+    ("docs/PERFORMANCE.md", r"slices of this run had ([\d,]+) to ([\d,]+) transactions of four reads a second", lambda: least_and_most(
+        rate for rates in rates_of_reads() for rate in rates)),
     ("docs/OPERATIONS.md", r"A disk that took ([\d.]+) milliseconds to write a small record with its two syncs gave ([\d,]+) commits", lambda: [
         two_syncs_ms(), rate_of("BEGIN, SET, COMMIT, 16 connections, one request at a time", "the device, two syncs")]),
     ("docs/OPERATIONS.md", r"takes any rate that was measured over a disk, up to ([\d,]+) a second", lambda: [most_commits()]),
