@@ -635,7 +635,7 @@ def before_a_start(tally):
 
 
 def sections(tally, place):
-    """What keeps a file from being served is told with the section of docs/OPERATIONS.md that says what to do. A stand-in says it."""
+    """What keeps a file from being served is reported with the section of docs/OPERATIONS.md that says what to do. A stand-in finds it."""
     data, stand_in = os.path.join(place, "shop.data"), os.path.join(place, "tools")
     os.mkdir(stand_in)
     create(data, 64)
