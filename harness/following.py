@@ -168,6 +168,25 @@ def refusals(tally):
         refused("a state that is none", 2, "", lambda: _put(pair.state, b"{}"))
         with tally.run("none of these changed what follows"):
             judge_copy(pair, pair.follow("--once", pair.data, pair.new))
+    for is_link in (False, True):
+        with tally.run(f"{'a second name of ' if is_link else ''}the data file as its own copy"), folder() as place:
+            refuse_itself(Pair(place, random.Random(6)), is_link)
+
+
+def refuse_itself(pair, is_link):
+    """Nothing is appended to the data file, whose server appends at the same place."""
+    new = pair.data
+    if is_link:
+        new = pair.new
+        os.link(pair.data, new)
+    with Server(pair.data) as server:
+        pair.commit(server.port, 3)
+        expect(pair.follow(pair.data)[0] == 0, "no place was noted")
+        pair.commit(server.port, 3)
+        before = bytes_of(pair.data)
+        found = pair.follow("--once", pair.data, new)
+        expect(found[0] == 2 and "is the data file itself" in found[2], f"it answered {found}")
+        expect(bytes_of(pair.data) == before, "the data file was changed")
 
 
 def _put(name, content):

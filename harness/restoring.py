@@ -541,6 +541,64 @@ def links_of_ships(tally, copies):
             expect(before == after and os.listdir(elsewhere) == ["target"], f"it wrote to what the link leads to: {found}")
 
 
+def itself(tally, copies):
+    """A data file that has one of the copy's names: nothing is written to it, and it keeps its names."""
+    for name, link in (("", False), ("", True), (".new", False), (".new", True), (".old", False), (".old", True), (".old.2", False)):
+        with tally.run(f"COPY{name} is {'a second name of ' if link else ''}the data file"), folder() as place:
+            copy = os.path.join(place, "copy")
+            data = os.path.join(place, "data") if link else copy + name
+            shutil.copy(copies.data[0], data)
+            if link:
+                os.link(data, copy + name)
+            if name:
+                shutil.copy(copies.data[1], copy)
+            before = {name: (bytes_of(os.path.join(place, name)), os.stat(os.path.join(place, name)).st_ino) for name in os.listdir(place)}
+            found = tool("ssikvd-ship", "--keep", "2", data, copy)
+            expect(found[0] == 2 and "is the data file itself" in found[2], f"it answered {found}")
+            os.remove(copy + ".lock")
+            after = {name: (bytes_of(os.path.join(place, name)), os.stat(os.path.join(place, name)).st_ino) for name in os.listdir(place)}
+            expect(before == after, f"it left {sorted(after)}")
+    with tally.run("a name that only begins as that of the copy does"), folder() as place:
+        shutil.copy(copies.data[0], os.path.join(place, "copy.data"))
+        found = tool("ssikvd-ship", os.path.join(place, "copy.data"), os.path.join(place, "copy"))
+        expect(found[0] == 0, f"it answered {found}")
+    for is_link in (False, True):
+        with tally.run(f"commits to {'a second name of ' if is_link else ''}the data file that is given as the copy"), folder() as place:
+            commits_meanwhile(place, is_link)
+    with tally.run("a data file that a start makes under the name of the copy"), folder() as place:
+        data = os.path.join(place, "data")
+        found = within(acting(lambda: shutil.copy(copies.data[0], data)), [data, data])
+        expect(found[0] == 2 and "is the data file itself" in found[2] and bytes_of(data) == copies.bytes[0], f"it answered {found}")
+        expect(sorted(os.listdir(place)) == ["data", "data.lock"], f"it left {sorted(os.listdir(place))}")
+
+
+def acting(act):
+    """The tool, which does this between its readings of the copy and of the data file."""
+    ship = loaded("ssikvd-ship")
+    own = ship.copy_of
+
+    def copy_of(name):
+        found = own(name)
+        act()
+        return found
+
+    ship.copy_of = copy_of
+    return ship
+
+
+def commits_meanwhile(place, is_link):
+    """The server appends while the tool is between its two readings: no acknowledged commit is lost."""
+    data = os.path.join(place, "data")
+    copy = os.path.join(place, "copy") if is_link else data
+    fill(data, 3, 64)
+    if is_link:
+        os.link(data, copy)
+    with Server(data) as server:
+        found = within(acting(lambda: [commit(server.port, number) for number in range(3, 6)]), [data, copy])
+    expect(found[0] == 2 and "is the data file itself" in found[2], f"it answered {found}")
+    expect(len(log_of(data)) == 6, f"of 6 commits {len(log_of(data))} are left")
+
+
 def unit(tally, copies):
     """The unit's command with its default settings, in folders of another user."""
     with open(os.path.join(DIST, "ssikvd-ship@.service"), encoding="utf-8") as file:
@@ -624,7 +682,7 @@ class Restoring(Harness):
     def test_copies(self):
         with folder() as place:
             copies = Copies(place)
-            for part in (keeping, ages, links_of_ships, unit):
+            for part in (keeping, ages, links_of_ships, itself, unit):
                 part(self.tally, copies)
 
 
