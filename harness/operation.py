@@ -265,7 +265,10 @@ def backups(tally):
 def judge_ship(ship, data, copy, is_new):
     """Each image of a crash within a run over this copy is a log: the previous one, or that of the data file. How many were looked at?"""
     chance, log, images = random.Random(8), log_of(data), 0
-    before, place = (None, 0) if is_new else (log_of(copy), ship.copy_of(copy).place)
+    before, place = None, 0
+    if not is_new:
+        with ship.Place(copy) as held:
+            before, place = log_of(copy), ship.copy_of(held).place
     recorder = Recorder(b"", os.path.getsize(data), -1) if is_new else Recorder(open(copy, "rb").read(), os.path.getsize(data), place)
 
     def judged(call):

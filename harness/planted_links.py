@@ -1,7 +1,7 @@
 """Links that the service's user plants, and the tools of dist/ that root runs over that user's folder.
 
-`ssikvd-used` writes its state and its metrics, `ssikvd-compact` its lock, its new file and the old one in folders that the service's user owns. That
-user, or whoever has taken over the server, makes each of these names a link to a file of root's, to a name that isn't there, to another folder or to
+`ssikvd-used` writes its state and its metrics, `ssikvd-compact` its lock, its new file and the old one in folders that the service's user owns, and
+`ssikvd-ship` and `ssikvd-restore` may be given such folders. That user, or whoever has taken over the server, makes each of these names a link to a file of root's, to a name that isn't there, to another folder or to
 a pipe, or a second name of a file of root's, and does so again and again while the tool runs. Whatever the tool says, nothing outside is written,
 made, removed or given another owner or mode. Links of root's own, as an operator makes them, are followed as before. Tools with a planted fault must
 be reported.
@@ -26,7 +26,7 @@ from ssikvd_harness.settings import PROGRAM
 from ssikvd_harness.tools import DIST, ENVIRONMENT, tool
 
 USER = 12_345
-TOOLS = ("ssikvd-used", "ssikvd-verify", "ssikvd-follow", "ssikvd-compact", "ssikvd-probe", "ssikvd-stat")
+TOOLS = ("ssikvd-used", "ssikvd-verify", "ssikvd-follow", "ssikvd-compact", "ssikvd-probe", "ssikvd-stat", "ssikvd-ship", "ssikvd-restore")
 
 
 def picture(place):
@@ -111,6 +111,12 @@ class Place:
     def stat(self):
         return tool("ssikvd-stat", "--state", self.state, "--metrics", self.metrics, "--data", self.data, "--listen", "127.0.0.1:1",
                     environment=self.environment)
+
+    def ship(self, copy, metrics):
+        return tool("ssikvd-ship", "--metrics", metrics, self.data, copy, environment=self.environment)
+
+    def restore(self, data, copy):
+        return tool("ssikvd-restore", "--data", data, copy, environment=self.environment)
 
     def judge_outside(self, found):
         """Nothing outside has changed."""
@@ -229,6 +235,46 @@ def others(tally):
             expect("a link of another user" in found[2], f"it answered {found}")
 
 
+def judge_backup(what, kind, changes=()):
+    """A backup and a restore, one of whose files is in a folder that is a link: what is to be written there is refused."""
+    with place_of(changes) as place:
+        linked, own = os.path.dirname(place.metrics), os.path.join(place.outside, "own")
+        os.mkdir(own)
+        place.before = picture(place.outside)
+        place.plant(linked, kind)
+        names = {"COPY": os.path.join(own, "copy"), "metrics": os.path.join(own, "text"), "DATA": os.path.join(own, "data"), "backup": place.other}
+        names[what] = os.path.join(linked, "other.data" if what == "backup" else "made")
+        found = place.ship(names["COPY"], names["metrics"]) if what in ("COPY", "metrics") else place.restore(names["DATA"], names["backup"])
+        for name in ("copy", "copy.lock", "text"):
+            with contextlib.suppress(FileNotFoundError):
+                os.remove(os.path.join(own, name))
+        place.judge_outside(found)
+        expect(found[0] == (0 if what == "metrics" else 2) and "metrics is a link of another user" in found[2], f"it answered {found}")
+
+
+def backups(tally):
+    for what in ("COPY", "metrics", "DATA", "backup"):
+        with tally.run(f"ssikvd-{'ship' if what in ('COPY', 'metrics') else 'restore'}, where the folder of the {what} is a link"):
+            judge_backup(what, "a link to a folder")
+    with tally.run("ssikvd-ship and ssikvd-restore behind links of root's"), place_of() as place:
+        linked = os.path.dirname(place.metrics)
+        os.rename(linked, linked + ".real")
+        os.symlink(os.path.basename(linked) + ".real", linked)
+        copy, data = (os.path.join(linked, name) for name in ("copy", "data"))
+        os.symlink("copy.real", copy)
+        os.symlink(os.path.join(linked, "data.real"), data)
+        found = place.ship(copy, place.metrics), place.restore(data, copy)
+        expect([answer[0] for answer in found] == [0, 0] and not found[0][2] + found[1][2], f"they answered {found}")
+        due = ["copy", "copy.real", "copy.real.lock", "data", "data.lock", "data.real", "shop.prom"]
+        expect(sorted(os.listdir(linked + ".real")) == due, f"they left {sorted(os.listdir(linked + '.real'))}")
+    with tally.run("ssikvd-ship of links that lead in a circle"), place_of() as place:
+        os.symlink("circle", os.path.join(place.outside, "circle"))
+        place.before = picture(place.outside)
+        found = place.ship(os.path.join(place.outside, "circle"), place.metrics)
+        place.judge_outside(found)
+        expect(found[0] == 2 and "Too many levels" in found[2], f"it answered {found}")
+
+
 def judge_compact(name, kind, changes=()):
     with place_of(changes) as place:
         place.plant(place.data + name, kind)
@@ -283,6 +329,9 @@ WRONG = {
         ("ssikvd-used", "os.unlink(new, dir_fd=folder)\n        file =", "pass\n        file ="), ("ssikvd-used", " | os.O_EXCL", "")]),
     "a probe that writes through links": (functools.partial(judge_other, "probe"), "metrics.tmp", "a link", [(
         "ssikvd-probe", "neighbour(\"ssikvd-used\").write(name, text)", "open(name + \".tmp\", \"w\").write(text)")]),
+    "a backup through a link among the folders": (judge_backup, "COPY", "a link to a folder", [(
+        "ssikvd-ship", "with used.within_folder(path, True) as (folder, self.name):", "for folder, self.name in [(None, os.path.basename(path))]:"), (
+        "ssikvd-ship", 'os.open(".", os.O_RDONLY | os.O_DIRECTORY, dir_fd=folder)', "os.open(os.path.dirname(path), os.O_RDONLY | os.O_DIRECTORY)")]),
     "a compaction with root's rights": (judge_compact, ".lock", "a link to nothing", [
         ("ssikvd-compact", "who=$(owner) || exit 2", "who=''"), ("ssikvd-compact", '    if [ -L "$lock" ] ||', "    if false &&")]),
     "another store, compacted with root's rights": (
@@ -304,7 +353,7 @@ def show_that_they_fail(tally):
 class PlantedLinks(Harness):
     NAME = "planted_links"
     NEEDS = (PROGRAM,)
-    PARTS = (used, others, compact, show_that_they_fail)
+    PARTS = (used, others, backups, compact, show_that_they_fail)
 
     @classmethod
     def setUpClass(cls):

@@ -577,8 +577,8 @@ def acting(act):
     ship = loaded("ssikvd-ship")
     own = ship.copy_of
 
-    def copy_of(name):
-        found = own(name)
+    def copy_of(place):
+        found = own(place)
         act()
         return found
 
@@ -652,7 +652,7 @@ def show_that_they_fail(tally, files):
     with open(os.path.join(DIST, "ssikvd-restore"), encoding="utf-8") as file:
         text = file.read()
     with folder() as place:
-        for name in ("ssikvd-verify", "ssikvd-restore"):
+        for name in ("ssikvd-used", "ssikvd-verify", "ssikvd-restore"):
             shutil.copy(os.path.join(DIST, name), place)
         changed = os.path.join(place, "ssikvd-restore")
         with tally.run("the tool as it is"):
