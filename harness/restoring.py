@@ -504,6 +504,19 @@ def judge_killed_ship(copies, number, is_after):
         expect(copies.kept(copy) == {"copy": 3, "copy.old": 2, "copy.old.2": 1}, f"run again it keeps {copies.kept(copy)}")
 
 
+def without_room(tally, copies):
+    """A new copy for which there is no room isn't left behind: neither a first one, nor one that a compaction asks for."""
+    for is_first in (True, False):
+        for call in ("truncate", "pwrite", "fsync"):
+            with tally.run(f"{'a first' if is_first else 'a new'} copy whose {call} fails"), copies.shipped(0 if is_first else 1, 1) as copy:
+                failing, before = Calls(), os.listdir(os.path.dirname(copy))
+                setattr(failing, call, refusing)
+                found = within(with_calls("ssikvd-ship", failing), [copies.data[1], copy])
+                expect(found[0] == 2 and "No space left" in found[2], f"it answered {found}")
+                expect(set(os.listdir(os.path.dirname(copy))) == {*before, "copy.lock"}, f"it left {os.listdir(os.path.dirname(copy))}")
+                expect(is_first or bytes_of(copy) == copies.bytes[0], "the copy is another one")
+
+
 def ages(tally, copies):
     with tally.run("the metrics of a backup"), copies.shipped(1, 1) as copy:
         text = copy + ".prom"
@@ -682,7 +695,7 @@ class Restoring(Harness):
     def test_copies(self):
         with folder() as place:
             copies = Copies(place)
-            for part in (keeping, ages, links_of_ships, itself, unit):
+            for part in (keeping, without_room, ages, links_of_ships, itself, unit):
                 part(self.tally, copies)
 
 
