@@ -310,7 +310,7 @@ def refusals(tally, files):
     with tally.run("words that don't fit"), files.case() as case:
         for words in ([], [case.copy], ["shop", "--data", case.data, case.copy], ["--stop", "true", "shop", case.copy], ["a/b", case.copy]):
             found = tool("ssikvd-restore", *words)
-            expect(found[0] in (1, 2) and "usage:" in found[2], f"{words} gave {found}")
+            expect(found[0] in (1, 2) and "usage:" in found[2] and found[2].count("[--as-it-ends]") == 2, f"{words} gave {found}")
 
 
 def refusing(*_):
