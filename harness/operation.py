@@ -470,8 +470,18 @@ def compactions(tally):
     with tally.run("ssikvd-compact makes room"), trial_of(script, 60) as trial:
         found = trial.run(words=["--sectors", "1XiB"])
         expect(found[0] == 1 and "usage: " in found[2] and check(trial.data)[3] != 2_048, f"a size of 1XiB gave {found[:3]}")
+        for seconds in ("abc", "1s", "", ".", "1.2.3", "-1"):
+            found = trial.run(words=["--wait", seconds])
+            expect(found[0] == 1 and found[2].startswith("usage: "), f"--wait {seconds} gave {found[:3]}")
         found = trial.run(words=["--sectors", "1MiB"])
         expect(found[0] == 0 and check(trial.data)[3] == 2_048, f"it ended with {found[:3]}")
+    with tally.run("ssikvd-compact on a full disk, whose figure df pads"), folder() as place:
+        data, commands = os.path.join(place, "data"), os.path.join(place, "commands")
+        create(data, 64)
+        os.mkdir(commands)
+        write_script(os.path.join(commands, "df"), "#!/bin/sh\necho 'Avail'\necho '    0'\n")
+        found = tool("ssikvd-compact", "--stop", "true", "--start", "true", data, environment={**ENVIRONMENT, "PATH": f"{commands}:{ENVIRONMENT['PATH']}"})
+        expect(found[0] == 2 and "where 0 are free" in found[2], f"it answered {found}")
     with tally.run("ssikvd-compact of a file whose map fills it"):
         growing(script)
     with tally.run("ssikvd-compact of a full file whose map needs more"):
