@@ -168,9 +168,21 @@ def refusals(tally):
         refused("a state that is none", 2, "", lambda: _put(pair.state, b"{}"))
         with tally.run("none of these changed what follows"):
             judge_copy(pair, pair.follow("--once", pair.data, pair.new))
+    for what in ("state", "new"):
+        with tally.run(f"no room for the {what}"), folder() as place:
+            without_room(Pair(place, random.Random(7)), what)
     for is_link in (False, True):
         with tally.run(f"{'a second name of ' if is_link else ''}the data file as its own copy"), folder() as place:
             refuse_itself(Pair(place, random.Random(6)), is_link)
+
+
+def without_room(pair, what):
+    """The file that can't be written is named, and not the data file."""
+    with Server(pair.data) as server:
+        pair.copy(server.port, 3, 3)
+    words = ["--once", pair.data, *([pair.new] if what == "new" else [])]
+    found = tool("sh", "-c", "ulimit -f 0; exec ssikvd-follow \"$@\"", "sh", "--state", pair.state, *words)
+    expect(found[0] == 2 and found[2] == f"ssikvd-follow: {getattr(pair, what)}: File too large\n", f"it answered {found}")
 
 
 def refuse_itself(pair, is_link):

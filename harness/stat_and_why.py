@@ -566,6 +566,7 @@ def stats(tally):
                 expect(stat(*words[:-1], "--metrics", name) == "" and figures(open(name, encoding="utf-8").read()), "it wrote none")
                 expect(os.stat(name).st_mode & 0o777 == 0o644 and not [it for it in os.listdir(place) if it.startswith(".")], "it left something")
             links(tally, place, words)
+            unwritten(tally, place, words)
         with tally.run("no server"):
             status, out, err = tool("ssikvd-stat", *words)
             expect(status == 1 and "log_sectors" in out and "no process holds" in err, f"it answered {status, out, err}")
@@ -585,6 +586,17 @@ def age_state(state, seconds):
     with open(state, "w", encoding="utf-8") as file:
         json.dump(found, file)
     return found["log"]["time"]
+
+
+def unwritten(tally, place, words):
+    """The file that can't be written is named, with its folder, and not the data file."""
+    state, absent = os.path.join(place, "full"), os.path.join(place, "absent", "full")
+    for option in ("--state", "--metrics"):
+        for name, limit, due in ((state, "0", "File too large"), (absent, "unlimited", "No such file or directory")):
+            with tally.run(f"{option}: {due}"):
+                found = tool("sh", "-c", f"ulimit -f {limit}; exec ssikvd-stat \"$@\"", "sh", *words[:4], "--interval", "0", option, name)
+                expect(found[0] == 2 and found[2].startswith(f"ssikvd-stat: {name}: {due}"), f"it answered {found}")
+                expect(not os.path.lexists(name + ".tmp"), "it left what it couldn't write")
 
 
 def links(tally, place, words):
