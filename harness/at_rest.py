@@ -208,6 +208,19 @@ def changed_images(tally):
         expect(closed > count // 50, f"only {closed} of {count} images have a closed gate")
 
 
+def pipes(tally):
+    """Of a pipe no tool waits for a writer."""
+    with folder() as place:
+        pipe, other = os.path.join(place, "pipe"), os.path.join(place, "other")
+        os.mkfifo(pipe)
+        for words in (["ssikvd-verify", pipe], ["ssikvd-verify", "--past-cache", pipe], ["ssikvd-salvage", "--from", "0", pipe, other],
+                      ["ssikvd-restore", "--data", other, pipe], ["ssikvd-ship", pipe, other], ["ssikvd-ship", other, pipe]):
+            with tally.run(f"{words[0]} of a pipe"):
+                found = tool(*words)
+                expect(found[0] == 2 and "Illegal seek" in found[2], f"it answered {found}")
+                expect(not os.path.exists(other), "it made a file")
+
+
 # Two at once
 
 class Interrupted:
@@ -374,7 +387,7 @@ def show_that_they_fail(tally):
 class AtRest(Harness):
     NAME = "at_rest"
     NEEDS = (PROGRAM,)
-    PARTS = (one_bit, changed_images, two_ships, two_befores, show_that_they_fail)
+    PARTS = (one_bit, changed_images, pipes, two_ships, two_befores, show_that_they_fail)
 
 
 if __name__ == "__main__":
