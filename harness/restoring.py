@@ -478,8 +478,10 @@ def keeping(tally, copies):
     with tally.run("fewer than before"), copies.shipped(4, 3) as copy:
         found = tool("ssikvd-ship", copies.data[4], copy)
         expect(found[0] == 0 and copies.kept(copy) == due[1], f"it answered {found}, and keeps {copies.kept(copy)}")
-    with tally.run("none fewer than none"):
-        expect(tool("ssikvd-ship", "--keep", "-1", copies.data[0], "copy")[0] == 2, "it was taken")
+    for option in ("--keep", "--records"):
+        with tally.run(f"{option}: none fewer than none"), folder() as place:
+            found = tool("ssikvd-ship", option, "-1", copies.data[0], os.path.join(place, "copy"))
+            expect(found[0] == 2 and f"{option} takes a number" in found[2] and not os.listdir(place), f"it answered {found}")
     with copies.shipped(3, 2) as copy:
         calls = Calls()
         found = within(with_calls("ssikvd-ship", calls), ["--keep", "2", copies.data[3], copy])
