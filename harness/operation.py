@@ -340,6 +340,45 @@ def planted(ship, data, copy):
         ship.ship = own
 
 
+# What the tools print
+
+def outputs(tally):
+    """Where a tool can't print, a line says so, and the status is one that its man page has."""
+    with folder() as place:
+        data, copy, state = (os.path.join(place, name) for name in ("data", "copy", "state"))
+        fill(data, 6, 256)
+        with Server(data) as server:
+            address = f"127.0.0.1:{server.port}"
+            runs = {
+                "ssikvd-verify": ([data], 2), "ssikvd-used": ([data], 3), "ssikvd-ship": ([data, copy], 2), "ssikvd-probe": ([address], 3),
+                "ssikvd-restore": (["--data", os.path.join(place, "restored"), data], 2), "ssikvd-export": ([address], 2),
+                "ssikvd-stat": (["--data", data, "--listen", address, "--interval", "0"], 2),
+                "ssikvd-salvage": (["--from", "3", data, os.path.join(place, "lines")], 2)}
+            for name, (words, due) in runs.items():
+                with tally.run(f"{name} where the output has no room"):
+                    status, _, err = tool("sh", "-c", 'exec "$@" >/dev/full', "sh", name, *words)
+                    expect(status == due and err == f"{name}: standard output: No space left on device\n", f"it answered {status, err}")
+            os.remove(os.path.join(place, "lines"))
+            for name, (words, _) in runs.items():
+                with tally.run(f"{name} without an output"):
+                    status, _, err = tool("sh", "-c", 'exec "$@" >&-', "sh", name, *words)
+                    is_export = name == "ssikvd-export"
+                    due = (2, "ssikvd-export: standard output: it is closed\n") if is_export else (0, "")
+                    expect((status, err) == due, f"it answered {status, err}")
+            with tally.run("a command line that the probe refuses, where the output has no room"):
+                status, _, err = tool("sh", "-c", "exec ssikvd-probe >/dev/full")
+                expect(status == 3 and err == "ssikvd-probe: standard output: No space left on device\n", f"it answered {status, err}")
+            with tally.run("ssikvd-follow where the output has no room"):
+                create(copy + ".compacted", 256)
+                words = ["--state", state, "--once", data, copy + ".compacted"]
+                status, _, err = tool("sh", "-c", 'exec "$@" >/dev/full', "sh", "ssikvd-follow", *words)
+                expect(status == 2 and err == "ssikvd-follow: standard output: No space left on device\n", f"it answered {status, err}")
+            for words in (["localhost"], ["127.0.0.1:x"], [":7777"], ["127.0.0.1:70000"]):
+                with tally.run(f"ssikvd-export {words[0]}"):
+                    found = tool("ssikvd-export", *words)
+                    expect(found[0] == 2 and "is not ADDRESS:PORT" in found[2], f"it answered {found}")
+
+
 # Compaction
 
 FILES = {"data", "data.old", "data.new", "data.new.state", "data.new.state.tmp", "data.lock"}
@@ -704,7 +743,7 @@ def process_1(tally):
 
 class Operation(Harness):
     NAME = "operation"
-    PARTS = (probes, fills, backups, crashes_of_backups, before_a_start, compactions, process_1, units, allocator, rules, scripts, texts)
+    PARTS = (probes, fills, backups, crashes_of_backups, outputs, before_a_start, compactions, process_1, units, allocator, rules, scripts, texts)
 
 
 if __name__ == "__main__":
