@@ -358,6 +358,10 @@ def outputs(tally):
                 with tally.run(f"{name} where the output has no room"):
                     status, _, err = tool("sh", "-c", 'exec "$@" >/dev/full', "sh", name, *words)
                     expect(status == due and err == f"{name}: standard output: No space left on device\n", f"it answered {status, err}")
+            for name, words in (("ssikvd-used", [data, data + ".absent"]), ("ssikvd-probe", [f"127.0.0.1:{free_port()}"])):
+                with tally.run(f"{name} of what is wrong, where the output has no room"):
+                    status, _, err = tool("sh", "-c", 'exec "$@" >/dev/full', "sh", name, *words)
+                    expect(status == 2 and err.endswith(f"{name}: standard output: No space left on device\n"), f"it answered {status, err}")
             os.remove(os.path.join(place, "lines"))
             for name, (words, _) in runs.items():
                 with tally.run(f"{name} without an output"):
