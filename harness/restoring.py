@@ -285,6 +285,11 @@ def refusals(tally, files):
         case.is_untouched(files.old)
         found = restore(case, "--as-it-ends", *case.words)
         expect(found[0] == 0 and log_of(case.data) == files.log[:4], f"it answered {found}")
+    with tally.run("a copy of the name of what a killed run left"), files.case() as case:
+        left = case.data + ".restoring-0123abcd"
+        os.rename(case.copy, left)
+        found = restore(case, *case.words[:-1], left)
+        expect(found[0] == 0 and bytes_of(case.data) == files.new and bytes_of(left) == files.copy, f"it answered {found}")
     with tally.run("no room"), files.case() as case:
         full = Calls()
         full.fstatvfs = lambda _: os.statvfs_result((4096, 4096, 100, 10, 10, 100, 10, 10, 0, 255))
