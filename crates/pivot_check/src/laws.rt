@@ -16,5 +16,5 @@ pub fn law_few_postings()
 pub fn law_merge_limits()
     ensures merged { MERGED_MAX ≡ 131072 }
     ensures long { SEARCHED_MIN ≡ 65536 }
-    ensures searched { SEARCHED_MAX ≡ 16 }
+    ensures searched { SEARCHED_MAX ≡ 4 }
 {}
