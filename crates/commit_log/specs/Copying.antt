@@ -11,8 +11,7 @@ use Rattle.commit_log.specs.LogState.{IsSameBefore, OnlyWrites}
 use Rattle.commit_log.specs.Opening.{MightHold}
 use Rattle.commit_log.specs.Reading.{OnlyReads}
 use Rattle.commit_log.specs.RecordFormat.{first_digest, body_sectors, closed_gate, open_gate, padded_body}
-use Rattle.commit_log.specs.RecordFormat.{record_body}
-use Rattle.commit_log.specs.RecordFormat.{record_digest, sectors_in}
+use Rattle.commit_log.specs.RecordFormat.{record_body, record_digest, sectors_in}
 use Rattle.commit_log.specs.Recovery.{map_after}
 use Rattle.commit_log.specs.declared.faults.LogFault.{LogFault}
 use Rattle.commit_log.specs.declared.faults.LogFault.TheVariants.{Full, Device, Memory, NotEmpty}

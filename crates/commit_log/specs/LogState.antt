@@ -1,7 +1,6 @@
 -- What a log stands for.
 use Rattle.std.specs.Prelude.{◌≡◌, ◌⊎◌, ◌≤◌, ◌<◌, ℕ, ◌+◌, ◌-◌, ◌/◌, ◌%◌, ◌^◌, Bool, false, List, [], ◌∷◌, ◌++◌}
-use Rattle.std.specs.Prelude.{length, take}
-use Rattle.std.specs.Prelude.{slice_set, Result, OnOk}
+use Rattle.std.specs.Prelude.{length, take, slice_set, Result, OnOk}
 use Rattle.model.specs.Map.{KeyWrite}
 use Rattle.sector.specs.SectorModel.{FollowsWrites, IsSettled, IsSameElsewhere, LeavesNoMore, LeavesOnly}
 use Rattle.sector.specs.SectorModel.{ReadsNoMoreOutside}

@@ -1,8 +1,7 @@
 //! Writes a new log of a map, for `compact`. The head is written last: over a durable first sector of zeros a crash leaves the whole log or
 //! none.
 ghost use Rattle.std.specs.Prelude.{◌≡◌, ◌⊎◌, ◌≤◌, ◌+◌, ◌/◌, ◌^◌, [], length, vec_capacity, OnOk, IfOk, IfErr};
-ghost use Rattle.std.specs.Prelude.{IfSome};
-ghost use Rattle.std.specs.Prelude.{IfNone};
+ghost use Rattle.std.specs.Prelude.{IfSome, IfNone};
 ghost use Rattle.model.specs.Map.{IsMap, IsInBounds};
 ghost use Rattle.commit_log.specs.LogImage.{span};
 ghost use Rattle.commit_log.specs.Reading.{CountsCalls, CountsFaults, OnlyReads};

@@ -3,8 +3,7 @@ ghost use Rattle.std.specs.Prelude.{◌≡◌, ◌<◌, ◌≤◌, ◌+◌, ◌/
 ghost use Rattle.commit_log.specs.Reading.{CountsCalls};
 ghost use Rattle.commit_log.specs.RecordFormat.{open_gate, closed_gate};
 ghost use Rattle.commit_log.specs.LogState.{AtOk, FitsBehind, HoldsBoth, LeavesEither, LeavesStaged, OfNextRecord};
-ghost use Rattle.commit_log.specs.LogState.{OfStaged};
-ghost use Rattle.commit_log.specs.LogState.{OnlyWrites};
+ghost use Rattle.commit_log.specs.LogState.{OfStaged, OnlyWrites};
 
 use sector::{DeviceFault, SECTOR_SIZE, Sector, Sectors};
 

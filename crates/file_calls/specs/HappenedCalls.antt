@@ -3,8 +3,7 @@
 -- answers in `proofs/` of this crate.
 use Rattle.std.specs.Path.{path_parent}
 use Rattle.std.specs.Prelude.{◌≡◌, ◌⊎◌, ◌<◌, ◌-◌, ◌^◌, ℕ, ℤ, pos, Bool, false, List, [], ◌∷◌, codes, Option, Some}
-use Rattle.std.specs.Prelude.{None}
-use Rattle.std.specs.Prelude.{Result, Ok, Err, IfErr, IsErr}
+use Rattle.std.specs.Prelude.{None, Result, Ok, Err, IfErr, IsErr}
 use Rattle.std.specs.declared.io.Error.{Error}
 use Rattle.file_calls.specs.OpenFacts.{file_after_call}
 use Rattle.file_calls.specs.declared.counted.CountedFile.{CountedFile}

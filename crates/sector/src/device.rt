@@ -2,8 +2,7 @@
 ghost use Rattle.std.specs.Prelude.{◌≡◌, ◌≢◌, ◌<◌, ◌≤◌, ◌/◌, ℕ, List, length, OnOk, OnErr};
 ghost use Rattle.sector.specs.Counts.{AreCounted, IsCounted, KeepsCounts, RoseByOne};
 ghost use Rattle.sector.specs.SectorModel.{AreWithin, FollowsBytes, FollowsWrite, LeavesNoMore, MightRead};
-ghost use Rattle.sector.specs.SectorModel.{ReadsBytes};
-ghost use Rattle.sector.specs.SectorModel.{ReadsNoMore, ReadsNoMoreOutside, Syncs, TimeGoesOn};
+ghost use Rattle.sector.specs.SectorModel.{ReadsBytes, ReadsNoMore, ReadsNoMoreOutside, Syncs, TimeGoesOn};
 
 use thiserror::Error;
 

@@ -13,8 +13,7 @@ ghost use Rattle.snapshot.specs.View.{new_view, value_read, after_get, view_afte
 ghost use Rattle.snapshot.specs.Merged.{is_full_range};
 ghost use Rattle.snapshot.specs.RowPairs.{row_pairs};
 ghost use Rattle.snapshot.specs.Made.{HasMade, WhereMade, WhereSeen, MakesOneMore, IsFullWhen, IsValueReply};
-ghost use Rattle.snapshot.specs.Made.{MarkFaults};
-ghost use Rattle.snapshot.specs.Made.{IsDoneReply, IsKnownRange, IsLeftByGet, range_read};
+ghost use Rattle.snapshot.specs.Made.{MarkFaults, IsDoneReply, IsKnownRange, IsLeftByGet, range_read};
 ghost use Rattle.snapshot.specs.PairsReply.{IsPairsReply, IsLeftByRange};
 ghost use Rattle.snapshot.specs.contracts.transaction.Transaction.{the_row};
 

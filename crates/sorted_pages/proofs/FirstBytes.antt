@@ -1,7 +1,6 @@
 -- The heads of two keys stand as the keys do, where they differ; and what entries come to has the head of their first key.
 use Rattle.std.proofs.Common.{◌≡◌, ℕ, zero, suc, ◌+◌, ◌*◌, ◌^◌, ◌<◌, ◌≤◌, List, [], ◌∷◌, ◌++◌, length, take, drop}
-use Rattle.std.proofs.Common.{set, insert, replicate}
-use Rattle.std.proofs.Common.{get_or, nat_lt, refl, sym, subst, ap, ◌∙◌, arith}
+use Rattle.std.proofs.Common.{set, insert, replicate, get_or, nat_lt, refl, sym, subst, ap, ◌∙◌, arith}
 use Rattle.std.proofs.lemmas.Bool.Decides.{nat_tests}
 use Rattle.std.proofs.lemmas.Grind.{common_steps}
 use Rattle.std.specs.Cmp.Lexicographic.{slice_cmp}

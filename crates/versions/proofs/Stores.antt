@@ -27,14 +27,12 @@ use Rattle.versions.proofs.Visibles.{IsMap-visible, value-visible, visible-put, 
 use Rattle.versions.proofs.Visibles.{sorted-put}
 use Rattle.versions.specs.Chains.{Stamped, ChainValue, Chains, ChainsValue, find_chain, seen, seen_in, value_of}
 use Rattle.versions.specs.Chains.{visible, with_pair, added, stamped, CanAddVersion, HasPlace, HavePlaces}
-use Rattle.versions.specs.Chains.{ChainHasRoom, count_together}
-use Rattle.versions.specs.Chains.{reclaimed, IsReclaimedAt, base_chains, IsKept, IsRisingChain, AreRoomier}
-use Rattle.versions.specs.Chains.{IsRoomierChain}
+use Rattle.versions.specs.Chains.{ChainHasRoom, count_together, reclaimed, IsReclaimedAt, base_chains, IsKept}
+use Rattle.versions.specs.Chains.{IsRisingChain, AreRoomier, IsRoomierChain}
 use Rattle.versions.specs.Installing.{places_taken}
 use Rattle.versions.specs.Listings.{IsPartReclaimed}
-use Rattle.versions.specs.Meaning.{kept_in, is_written_by, is_among}
-use Rattle.versions.specs.Meaning.{garbage_of, lists_a_step, IsSameMeaning, IsReclaimed}
-use Rattle.versions.specs.Meaning.{IsReclaimedInPart, IsSeenSame, IsTightChain, writes_of}
+use Rattle.versions.specs.Meaning.{kept_in, is_written_by, is_among, garbage_of, lists_a_step, IsSameMeaning}
+use Rattle.versions.specs.Meaning.{IsReclaimed, IsReclaimedInPart, IsSeenSame, IsTightChain, writes_of}
 
 -- ---- a fact of all chains
 

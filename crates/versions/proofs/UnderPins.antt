@@ -22,8 +22,7 @@ use Rattle.versions.specs.Listings.{followed, has_version, is_seen_from, pin_for
 use Rattle.versions.specs.Listings.{AreUnclassifiedCollected, AreNeeded, IsFollowed, IsNeededChain, IsPartReclaimed}
 use Rattle.versions.specs.Listings.{IsCollected, IsTrulyUnclassified, IsClassified}
 use Rattle.versions.specs.Meaning.{is_among}
-use Rattle.versions.specs.Pins.{seen_number, number_seen, AreUnderPins, IsAddedTo, IsUnderChain}
-use Rattle.versions.specs.Pins.{IsUnderPin}
+use Rattle.versions.specs.Pins.{seen_number, number_seen, AreUnderPins, IsAddedTo, IsUnderChain, IsUnderPin}
 
 -- the group's versions are under its pin
 abbrev pub IsUnder : (ℕ → Bool) → ChainsValue → GroupValue → Type 0

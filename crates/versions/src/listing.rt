@@ -4,8 +4,7 @@ ghost use Rattle.std.specs.List.{list_all};
 ghost use Rattle.std.specs.Vec.{vec_len};
 ghost use Rattle.versions.specs.Listings.{AreSeenFrom, greatest_below, is_seen_by, is_seen_from, spare_in};
 ghost use Rattle.versions.specs.Listings.{versions_in};
-ghost use Rattle.versions.specs.Meaning.{garbage_for};
-ghost use Rattle.versions.specs.Meaning.{is_among};
+ghost use Rattle.versions.specs.Meaning.{garbage_for, is_among};
 
 use model::{Key, Memory};
 use std::collections::LinkedList;
