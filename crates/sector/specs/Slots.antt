@@ -2,9 +2,9 @@
 use Rattle.std.proofs.Common.{ap}
 use Rattle.std.specs.Borrow.{Bor}
 use Rattle.std.specs.Option.{is_none}
-use Rattle.std.specs.Prelude.{◌≡◌, ◌⊎◌, ◌<◌, ◌-◌, ℕ, suc, Bool, false, List, [], ◌∷◌, length, map, slice_get}
-use Rattle.std.specs.Prelude.{slice_index_or, slice_set, All, Some, None, IfSome, unwrap_or, refl}
-use Rattle.sector.specs.Counts.{count_max}
+use Rattle.std.specs.Prelude.{◌≡◌, ◌⊎◌, ◌↔◌, ◌<◌, ◌-◌, ℕ, suc, Bool, false, List, [], ◌∷◌, length, map, slice_get}
+use Rattle.std.specs.Prelude.{slice_index_or, slice_set, All, Some, None, IfSome, unwrap_or, refl, Result, IsErr}
+use Rattle.sector.specs.Counts.{count_max, IsCounted}
 use Rattle.sector.specs.declared.memory.MemSectors.{MemSectors}
 use Rattle.sector.specs.declared.memory.Slot.{Slot}
 
@@ -106,3 +106,15 @@ FailsNext device = (calls_to_failure device ≡ 1) ⊎ (device.failures ≡ coun
 -- the call that is to fail has come one nearer
 abbrev pub CountsDown : MemSectors → MemSectors → Type 0
 CountsDown old new = old.failures < count_max → calls_to_failure new ≡ calls_to_failure old - 1
+
+-- each sector is settled, no call of the device has failed, and none is to
+pub record IsAsNew (device : MemSectors) : Type 0 where
+  pub settled : IsAllSettled device
+  pub none_failed : device.failures ≡ 0
+  pub none_to_fail : calls_to_failure device ≡ 0
+
+-- a call failed exactly where it was to fail, or the count of failures stood at its end; and it was counted
+pub record FailsAsAsked {A E : Type 0} (old new : MemSectors) (result : Result A E) : Type 0 where
+  pub fails : IsErr result ↔ FailsNext old
+  pub counted : IsCounted result old.failures new.failures
+  pub next : CountsDown old new

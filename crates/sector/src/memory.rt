@@ -1,8 +1,8 @@
 //! A device in memory, which a test can make fail and crash.
 ghost use Rattle.std.specs.Prelude.{◌≡◌, ◌<◌, ◌≤◌, ◌%◌, ◌^◌, ◌↔◌, length, IfOk, OnOk};
-ghost use Rattle.std.specs.Prelude.{IsErr, IsTrue, MatchBool, MatchResult, map, replicate};
+ghost use Rattle.std.specs.Prelude.{IsTrue, MatchBool, MatchResult, map, replicate};
 ghost use Rattle.std.specs.List.{concat};
-ghost use Rattle.sector.specs.Counts.{IsCounted, KeepsCounts, Rose, RoseByOne, Stayed};
+ghost use Rattle.sector.specs.Counts.{KeepsCounts, Rose, RoseByOne, Stayed};
 ghost use Rattle.sector.specs.Settled.{AreSettledBefore, AreSettledFrom};
 
 use crate::{DeviceFault, SECTOR_SIZE, Sector, Sectors};
@@ -74,15 +74,12 @@ pub struct MemSectors {
 }
 
 impl MemSectors {
-    ghost use Rattle.sector.specs.Slots.{image, AreFilled, MayLeave, IsAllSettled, calls_to_failure, FailsNext};
-    ghost use Rattle.sector.specs.Slots.{CountsDown};
+    ghost use Rattle.sector.specs.Slots.{image, AreFilled, MayLeave, IsAsNew, FailsNext, CountsDown};
 
     /// A device of `count` sectors of zeros, all settled. It takes about 1 KiB for each sector; `Memory` where they are refused.
     pub fn new(alloc: Global, count: u64) -> Result<Self, Memory>
         ensures image { IfOk result (λ m. image m ≡ replicate count (replicate SECTOR_SIZE 0)) }
-        ensures settled { IfOk result IsAllSettled }
-        ensures failures { IfOk result (λ m. m.failures ≡ 0) }
-        ensures failing { IfOk result (λ m. calls_to_failure m ≡ 0) }
+        ensures as_new { IfOk result IsAsNew }
     {
         let mut slots = Vec::with_capacity(alloc, count as usize)?;
         for _i in 0..count {
@@ -105,9 +102,7 @@ impl MemSectors {
     pub fn from_image(alloc: Global, bytes: &[u8]) -> Result<Self, Memory>
         requires { length bytes.now % SECTOR_SIZE ≡ 0 }
         ensures image { IfOk result (λ m. concat (image m) ≡ bytes.now) }
-        ensures settled { IfOk result IsAllSettled }
-        ensures failures { IfOk result (λ m. m.failures ≡ 0) }
-        ensures failing { IfOk result (λ m. calls_to_failure m ≡ 0) }
+        ensures as_new { IfOk result IsAsNew }
     {
         let mut slots = Vec::with_capacity(alloc, bytes.len() / SECTOR_SIZE)?;
         let mut rest = bytes;
@@ -144,10 +139,8 @@ impl MemSectors {
     pub fn crash<F: Fn(u64, &Sector, &Sector) -> Sector + Drop>(self, fill: F) -> Self
         requires { F.IsAlwaysCallable fill }
         ensures possible { MayLeave self.slots.items (image result) }
-        ensures settled { IsAllSettled result }
         ensures filled { AreFilled (F.post fill) self.slots.items result.slots.items }
-        ensures failures { result.failures ≡ 0 }
-        ensures failing { calls_to_failure result ≡ 0 }
+        ensures as_new { IsAsNew result }
     {
         let mut slots = self.slots;
         for i in 0..slots.len() {
@@ -218,7 +211,7 @@ impl Slot {
 impl Sectors for MemSectors {
     ghost use Rattle.sector.specs.SectorModel.{FollowsWrite, LeavesNoMore, Syncs};
     ghost use Rattle.sector.specs.Slots.{MayBeLeft, MayRead, length-left, IsSettledAs, IsWritten};
-    ghost use Rattle.sector.specs.Slots.{HasSameSectors, FailsNext, CountsDown};
+    ghost use Rattle.sector.specs.Slots.{HasSameSectors, FailsAsAsked};
 
     ghost size = { λ m. length m.slots.items };
 
@@ -249,12 +242,8 @@ impl Sectors for MemSectors {
     fn read(&mut self, at: u64, into: &mut Sector) -> Result<(), DeviceFault>
         requires { at < length self.old.slots.items }
         ensures counts { KeepsCounts (λ m. length m.slots.items) (λ m. m.syncs) self.old self.new }
-        ensures failures { IsCounted result self.old.failures self.new.failures }
+        ensures fails { FailsAsAsked self.old self.new result }
         ensures gives { OnOk result (MayRead self.old at into.new) }
-
-        // The call fails exactly where it was to fail, or the count of failures stands at its end.
-        ensures reported { IsErr result ↔ FailsNext self.old }
-        ensures next { CountsDown self.old self.new }
 
         // A read settles nothing.
         ensures sectors { self.new.slots ≡ self.old.slots }
@@ -269,12 +258,8 @@ impl Sectors for MemSectors {
     fn write(&mut self, at: u64, from: &Sector) -> Result<(), DeviceFault>
         requires { at < length self.old.slots.items }
         ensures counts { KeepsCounts (λ m. length m.slots.items) (λ m. m.syncs) self.old self.new }
-        ensures failures { IsCounted result self.old.failures self.new.failures }
+        ensures fails { FailsAsAsked self.old self.new result }
         ensures crash { FollowsWrite at (MayBeLeft self.old) (MayBeLeft self.new) }
-
-        // The call fails exactly where it was to fail, or the count of failures stands at its end.
-        ensures reported { IsErr result ↔ FailsNext self.old }
-        ensures next { CountsDown self.old self.new }
 
         // Whether or not it failed, the sector was written and is unsettled, and the others are as they were.
         ensures sectors { IsWritten at from.now self.old self.new }
@@ -294,13 +279,9 @@ impl Sectors for MemSectors {
     fn sync(&mut self) -> Result<(), DeviceFault>
         ensures counts { (length self.new.slots.items ≡ length self.old.slots.items)
             × RoseByOne self.old.syncs self.new.syncs }
-        ensures failures { IsCounted result self.old.failures self.new.failures }
+        ensures fails { FailsAsAsked self.old self.new result }
         ensures settles { OnOk result (Syncs (λ m. length m.slots.items) MayRead MayBeLeft self.old self.new) }
         ensures crash { LeavesNoMore (MayBeLeft self.old) (MayBeLeft self.new) }
-
-        // The call fails exactly where it was to fail, or the count of failures stands at its end.
-        ensures reported { IsErr result ↔ FailsNext self.old }
-        ensures next { CountsDown self.old self.new }
 
         // It settles each sector, or where it fails none.
         ensures sectors { MatchResult result (λ _. IsSettledAs self.old self.new)
