@@ -81,6 +81,10 @@ impl Run for ReadRun {
     // one step, or two of one key
     ghost each = { 2 };
 
+    ghost work_of = { λ _. 1 };
+
+    ghost heaviest = { 1 };
+
     ghost alike = { are_alike };
 
     ghost makes = { λ rs active o old new. IsMade o new.first.items new.second.items old.made.items new.made.items };
@@ -141,6 +145,10 @@ impl Run for ReadRun {
         self.earliest = self.earliest.min(earliest);
         self.second = made;
         self.first = mem::replace(&mut self.made, places);
+    }
+
+    fn work(&self) -> usize {
+        1
     }
 
     // What a run says of a key is needed whatever the earlier ones say.

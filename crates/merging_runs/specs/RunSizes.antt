@@ -1,7 +1,7 @@
 -- How runs are merged, some elements at a time.
 use Rattle.std.specs.List.{AllZip}
-use Rattle.std.specs.Prelude.{◌≡◌, ◌≤◌, ◌+◌, ◌*◌, ◌-◌, ◌^◌, ◌++◌, ◌⊎◌, ◌&&◌, ◌||◌, ◌==◌, ℕ, Bool, true, false, nat_lt}
-use Rattle.std.specs.Prelude.{nat_le, max, min, map, drop, List, [], ◌∷◌, if◌then◌else◌}
+use Rattle.std.specs.Prelude.{◌≡◌, ◌≤◌, ◌+◌, ◌*◌, ◌-◌, ◌/◌, ◌^◌, ◌++◌, ◌⊎◌, ◌&&◌, ◌||◌, ◌==◌, ℕ, Bool, true, false}
+use Rattle.std.specs.Prelude.{nat_lt, nat_le, max, min, map, drop, List, [], ◌∷◌, if◌then◌else◌}
 
 -- a run: a number that none of its numbers is above, how many elements are still to be moved of the two runs that it is
 -- being made of, and how many were made
@@ -74,9 +74,9 @@ IsTried alike old new was is = IsEnded alike old new was is ⊎ ((has_alike alik
 abbrev pub with_run : ℕ → ℕ → List RunSize → List RunSize
 with_run n count rs = if nat_lt 0 count then rs ++ record { last = n; left = 0; made = count } ∷ [] else rs
 
--- how many moves there are for so many elements that are noted
-abbrev pub moves_for : ℕ → ℕ
-moves_for count = min (16 * count + 64) (2 ^ 64 - 1)
+-- how much work there is to do for so many elements that are noted
+abbrev pub work_for : ℕ → ℕ
+work_for count = min (16 * count + 64) (2 ^ 64 - 1)
 
 abbrev pub lasts_of : List RunSize → List ℕ
 lasts_of rs = map (λ r. r.last) rs
@@ -89,32 +89,33 @@ whole_of r = r.left + r.made
 abbrev pub AreNoLonger : List RunSize → List RunSize → Type 0
 AreNoLonger new old = AllZip (λ r s. whole_of r ≤ whole_of s) new old
 
--- so many moves of so many elements at most
+-- so much work moved so many elements for each at most
 abbrev pub AtMostMoved : ℕ → ℕ → ℕ → List RunSize → List RunSize → Type 0
-AtMostMoved each o n old new = left_above o old ≤ left_above o new + each * n
+AtMostMoved each o work old new = left_above o old ≤ left_above o new + each * work
 
--- Of a run, so many moves of so many elements at most were made. It may have fewer elements than before.
-pub record IsMerged (each moves : ℕ) (old new : RunSize) : Type 0 where
+-- Of a run, elements were moved by so much work: one at least for so much as the heaviest move is, and so many at most
+-- for each. It may have fewer elements than before.
+pub record IsMerged (each heaviest work : ℕ) (old new : RunSize) : Type 0 where
   pub last : new.last ≡ old.last
   pub whole : whole_of new ≤ whole_of old
-  pub moved : new.left + moves ≤ old.left
-  pub slowly : old.left ≤ new.left + each * moves
+  pub moved : heaviest * new.left + work ≤ heaviest * old.left
+  pub slowly : old.left ≤ new.left + each * work
 
 -- so it is of these runs, which have numbers above that one where something was moved
-pub record AreMerged (each o moves : ℕ) (old new : List RunSize) : Type 0 where
+pub record AreMerged (each heaviest o work : ℕ) (old new : List RunSize) : Type 0 where
   pub lasts : lasts_of new ≡ lasts_of old
   pub wholes : AreNoLonger new old
-  pub moved : left_above o new + moves ≤ left_above o old
-  pub slowly : AtMostMoved each o moves old new
+  pub moved : heaviest * left_above o new + work ≤ heaviest * left_above o old
+  pub slowly : AtMostMoved each o work old new
 
 -- where nothing was left to move behind the place, nothing is left from it on
 abbrev pub RestsFrom : ℕ → ℕ → List RunSize → List RunSize → Type 0
 RestsFrom o place old new = left_above o (drop (place + 1) old) ≡ 0 → left_above o (drop place new) ≡ 0
 
--- What is to be moved was moved so many times, unless nothing is left to move; a move takes so many elements at most.
--- No run has more elements than before.
-pub record IsMoved (each o most : ℕ) (old new : List RunSize) : Type 0 where
+-- What is to be moved was moved as often as the heaviest move goes into so much work, unless nothing is left to move;
+-- for each of it so many elements at most were moved. No run has more elements than before.
+pub record IsMoved (each heaviest o most : ℕ) (old new : List RunSize) : Type 0 where
   pub lasts : lasts_of new ≡ lasts_of old
   pub wholes : AreNoLonger new old
-  pub moved : left_above o new + min most (left_above o old) ≤ left_above o old
+  pub moved : left_above o new + min (most / heaviest) (left_above o old) ≤ left_above o old
   pub slowly : AtMostMoved each o most old new

@@ -48,8 +48,8 @@ pub(crate) fn open_last<R: Run>(runs: &mut Vec<R>, oldest: u64, refused: &mut u6
     }
 }
 
-// Moves elements of a run, which stands behind others, so many times at most: how many moves are left, which are none while there is
-// something to move.
+// Moves elements of a run, which stands behind others, by so much work at most: how much is left of it, which isn't enough for a move
+// while there is something to move.
 fn move_on<R: Run>(
     run: &mut R,
     earlier: &[R],
@@ -62,19 +62,19 @@ fn move_on<R: Run>(
         (earlier.now ++ run.old ∷ []) }
     ensures made { IsMade (R.makes earlier.now active.now oldest) run.old run.new }
     ensures most { result ≤ most }
-    ensures merged { IsMerged R.each (most - result) (R.sizes run.old) (R.sizes run.new) }
-    ensures ended { 0 < result → (R.sizes run.new).left ≡ 0 }
+    ensures merged { IsMerged R.each R.heaviest (most - result) (R.sizes run.old) (R.sizes run.new) }
+    ensures ended { R.heaviest ≤ result → (R.sizes run.new).left ≡ 0 }
 {
-    for moved in 0..most {
-        if run.is_at_rest() {
-            return most - moved;
-        }
+    let work = run.work();
+    let mut rest = most;
+    'moves: while work <= rest && !run.is_at_rest() {
         run.move_one(earlier, oldest, active);
+        rest -= work;
     }
-    0
+    rest
 }
 
-// Moves elements so many times at most in the run at the place, where there is one with numbers above `oldest`: how many moves are left.
+// Moves elements by so much work at most in the run at the place, where there is one with numbers above `oldest`: how much is left of it.
 fn move_at<R: Run>(
     runs: &mut Vec<R>,
     place: usize,
@@ -86,8 +86,10 @@ fn move_at<R: Run>(
     ensures made { MakesOne (λ earlier. R.makes earlier active.now oldest) runs.old.items place runs.new.items }
     ensures most { result ≤ most }
     ensures len { vec_len runs.new ≡ vec_len runs.old }
-    ensures merged { AreMerged R.each oldest (most - result) (map R.sizes runs.old.items) (map R.sizes runs.new.items) }
-    ensures ended { 0 < result → RestsFrom oldest place (map R.sizes runs.old.items) (map R.sizes runs.new.items) }
+    ensures merged { AreMerged R.each R.heaviest oldest (most - result) (map R.sizes runs.old.items)
+        (map R.sizes runs.new.items) }
+    ensures ended { R.heaviest ≤ result
+        → RestsFrom oldest place (map R.sizes runs.old.items) (map R.sizes runs.new.items) }
 {
     if place >= runs.len() {
         return most;
@@ -99,11 +101,11 @@ fn move_at<R: Run>(
     move_on(&mut rest[0], earlier, oldest, active, most)
 }
 
-// Moves elements so many times at most in the runs that are being made of two, in the last runs first: these are the shortest.
+// Moves elements by so much work at most in the runs that are being made of two, in the last runs first: these are the shortest.
 pub(crate) fn move_runs<R: Run>(runs: &mut Vec<R>, oldest: u64, active: &R::Active, most: usize)
     ensures agree { R.agree (λ b. nat_le oldest b && R.asks active.now b) runs.new.items runs.old.items }
     ensures made { AreMade (λ earlier. R.makes earlier active.now oldest) runs.old.items runs.new.items }
-    ensures moved { IsMoved R.each oldest most (map R.sizes runs.old.items) (map R.sizes runs.new.items) }
+    ensures moved { IsMoved R.each R.heaviest oldest most (map R.sizes runs.old.items) (map R.sizes runs.new.items) }
 {
     let mut rest = most;
     for after in 0..runs.len() {

@@ -42,6 +42,12 @@ pub trait Run: Drop {
     /// How many elements a move takes at most.
     ghost each: { ℕ };
 
+    /// How much work a move of the run counts as.
+    ghost work_of: { Self → ℕ };
+
+    /// How much it is at most.
+    ghost heaviest: { ℕ };
+
     /// Whether two runs are of a like size, where nothing is asked of the numbers up to that one.
     ghost alike: { ℕ → RunSize → RunSize → Bool };
 
@@ -95,6 +101,12 @@ pub trait Run: Drop {
         ensures rest { result ≡ true → (sizes self.now).left ≡ 0 }
         ensures under_way { result ≡ false → 0 < (sizes self.now).left };
 
+    /// How much work a move counts as: more where it takes longer than others. Takes no memory.
+    fn work(&self) -> usize
+        ensures value { result ≡ work_of self.now }
+        ensures some { 1 ≤ result }
+        ensures most { result ≤ heaviest };
+
     /// Moves an element of the two, or more of one key, and frees their room once nothing is left of them. It may drop what none who may
     /// still ask is answered by, and what the earlier runs answer in its place. Takes no memory.
     fn move_one(&mut self, earlier: &[Self], oldest: u64, active: &Self::Active)
@@ -103,7 +115,7 @@ pub trait Run: Drop {
         ensures makes { makes earlier.now active.now oldest self.old self.new }
         ensures agree { agree (λ b. nat_le oldest b && asks active.now b) (earlier.now ++ self.new ∷ [])
             (earlier.now ++ self.old ∷ []) }
-        ensures merged { IsMerged each 1 (sizes self.old) (sizes self.new) }
+        ensures merged { IsMerged each 1 1 (sizes self.old) (sizes self.new) }
         ensures room { (sizes self.new).left ≡ 0 → room self.new ≡ 0 };
 
     /// Drops what has a number up to `oldest`. It looks at each element that it holds, and takes no memory.

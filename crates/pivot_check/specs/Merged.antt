@@ -1,9 +1,9 @@
 -- How runs of written keys are merged, some postings at a time.
 use Rattle.std.specs.Prelude.{◌≡◌, ℕ, ◌+◌, ◌&&◌, Bool, List, nat_le, length}
-use Rattle.merging_runs.specs.RunSizes.{RunSize, IsMoved, IsTried, are_alike, with_run, moves_for}
+use Rattle.merging_runs.specs.RunSizes.{RunSize, IsMoved, IsTried, are_alike, with_run, work_for}
 use Rattle.snapshot.specs.View.{View}
 use Rattle.pivot_check.specs.Kept.{CommittedValue}
-use Rattle.pivot_check.specs.declared.merges.TheConstants.{MERGED_MAX}
+use Rattle.pivot_check.specs.declared.merges.TheConstants.{MERGED_MAX, SEARCHING_WORK}
 
 -- two runs of a like size, not too long for one
 abbrev pub fit_one : ℕ → RunSize → RunSize → Bool
@@ -16,10 +16,10 @@ IsTriedIn old new = IsTried (fit_one old.facts.oldest) old.contents.sizes new.co
     new.contents.refused
 
 -- The merges that are under way in runs of these sizes were moved on, for so many written keys, one posting a move. No
--- merge was begun, so no memory for one was refused.
+-- move counts as more work than one that searches. No merge was begun, so no memory for one was refused.
 abbrev pub AreMoved : ℕ → List RunSize → CommittedValue → CommittedValue → Type 0
 AreMoved count sizes old new =
-    IsMoved 1 new.facts.oldest (moves_for count) sizes new.contents.sizes
+    IsMoved 1 SEARCHING_WORK new.facts.oldest (work_for count) sizes new.contents.sizes
     × (new.contents.refused ≡ old.contents.refused)
 
 -- so it is once the written keys of the transaction have come with number n as a run

@@ -263,13 +263,15 @@ impl Committed {
 
     /// Keeps what the check needs of the transaction, which commits as number `n`, the next one, and was cleared for it by `verdict`. From
     /// each history that is stood for it leads to that history with the new record. It can't fail and takes no memory: `reserve` made room.
-    /// Then the merges that are under way go on by 16 postings for each written key, and 64, until nothing is left to move. What none who
-    /// may ask is answered by is dropped as it is moved: of two postings of one key the later, where none who may ask began between
-    /// their numbers and the flag of the earlier tells as much. The last readers are merged in the same way, by a count of their own.
+    /// Then the merges that are under way go on by work of 16 for each written key, and 64, until nothing is left to move; a posting that
+    /// is moved counts as 1. What none who may ask is answered by is dropped as it is moved: of two postings of one key the later, where
+    /// none who may ask began between their numbers and the flag of the earlier tells as much. The last readers are merged in the same way,
+    /// by a count of their own.
     ///
     /// Where the two runs that are merged have `SEARCHED_MIN` postings or more, the earlier of the two may also stand in one of the first
-    /// `SEARCHED_MAX` runs. The merge remembers where it looked last in each of these, so a posting that is moved costs there a look at the
-    /// next few, and at those of its key; a binary search where its key isn't near, and two more while that run is being made of two.
+    /// `SEARCHED_MAX` runs, and a posting that is moved counts as `SEARCHING_WORK`. The merge remembers where it looked last in each of
+    /// these, so that posting costs there a look at the next few, and at those of its key; a binary search where its key isn't near, and
+    /// two more while that run is being made of two.
     pub fn note(&mut self, transaction: &Transaction, n: u64, cleared: Cleared)
         requires next { n ≡ self.old.facts.last + 1 }
         requires cleared { IsCleared self.old.facts transaction.now cleared }

@@ -1,5 +1,5 @@
 //! Runs of written keys, as `merging_runs` merges, frees and sweeps them.
-ghost use Rattle.std.specs.Prelude.{◌≡◌, ◌≤◌, ◌<◌, ◌+◌, ◌-◌, ◌^◌, ◌==◌, ℕ, IsTrue, length, Bool};
+ghost use Rattle.std.specs.Prelude.{◌≡◌, ◌≤◌, ◌<◌, ◌+◌, ◌-◌, ◌^◌, ◌==◌, ℕ, IsTrue, length, Bool, if◌then◌else◌};
 ghost use Rattle.std.specs.List.{list_any};
 ghost use Rattle.std.specs.Vec.{vec_capacity};
 ghost use Rattle.std.proofs.Common.{refl, ◌∙◌};
@@ -9,9 +9,10 @@ ghost use Rattle.pivot_check.specs.Inside.{written_run_size};
 ghost use Rattle.pivot_check.specs.Kept.{may_ask};
 ghost use Rattle.pivot_check.specs.Postings.{Posting, least};
 ghost use Rattle.pivot_check.specs.Merged.{fit_one};
-ghost use Rattle.pivot_check.specs.Searched.{LeavesNeeded, searched_of};
+ghost use Rattle.pivot_check.specs.Searched.{LeavesNeeded, is_searching, searched_of};
 ghost use Rattle.pivot_check.specs.Agreeing.{PostingsAgree, postings_agree_between, later_from_number};
 ghost use Rattle.pivot_check.specs.Agreeing.{no_old_postings};
+ghost use Rattle.pivot_check.specs.declared.merges.TheConstants.{SEARCHING_WORK};
 
 use crate::active::ActiveBegins;
 use crate::bound::{BLOCK, Bound};
@@ -30,6 +31,9 @@ const MERGED_MAX: usize = 131_072;
 /// From how many postings on of the two runs that one is made of, earlier runs are searched for each of them.
 const SEARCHED_MIN: usize = 65_536;
 
+/// How much work a move counts as that searches earlier runs: so merges that search get fewer moves, and no commit is long.
+const SEARCHING_WORK: usize = 5;
+
 // Room for the bounds of so many postings; none where there is no memory.
 fn bounds_for(alloc: Global, count: usize) -> Vec<Bound>
     ensures { length result.items ≡ 0 }
@@ -40,20 +44,26 @@ fn bounds_for(alloc: Global, count: usize) -> Vec<Bound>
     }
 }
 
-// The runs that are searched for what answers in the place of a posting that is moved: the first of the earlier ones where the two runs
-// that this one is made of were long, and none where they were short.
-fn searched<'a>(run: &WrittenRun, earlier: &'a [WrittenRun]) -> &'a [WrittenRun]
-    ensures { result.now ≡ searched_of run.now earlier.now }
+// Does a move of the run search earlier ones? So it does where the two runs that it is made of were long.
+fn is_searching(run: &WrittenRun) -> bool
+    ensures { result ≡ is_searching run.now }
 {
     let whole = run
         .first
         .written
         .len()
         .saturating_add(run.second.written.len());
-    if whole < SEARCHED_MIN {
-        &earlier[..0]
-    } else {
+    SEARCHED_MIN <= whole
+}
+
+// The runs that are searched for what answers in the place of a posting that is moved: the first of the earlier ones, or none.
+fn searched<'a>(run: &WrittenRun, earlier: &'a [WrittenRun]) -> &'a [WrittenRun]
+    ensures { result.now ≡ searched_of run.now earlier.now }
+{
+    if is_searching(run) {
         &earlier[..earlier.len().min(SEARCHED_MAX)]
+    } else {
+        &earlier[..0]
     }
 }
 
@@ -97,6 +107,10 @@ impl Run for WrittenRun {
     ghost fit = { λ n places. (length places.written.items ≡ 0) × (n ≤ vec_capacity places.written) };
 
     ghost each = { 1 };
+
+    ghost work_of = { λ r. if is_searching r then SEARCHING_WORK else 1 };
+
+    ghost heaviest = { SEARCHING_WORK };
 
     ghost alike = { fit_one };
 
@@ -161,6 +175,14 @@ impl Run for WrittenRun {
         self.last = self.last.max(last);
         self.second = made;
         self.first = mem::replace(&mut self.made, places);
+    }
+
+    fn work(&self) -> usize {
+        if is_searching(self) {
+            SEARCHING_WORK
+        } else {
+            1
+        }
     }
 
     fn move_one(&mut self, earlier: &[WrittenRun], _oldest: u64, active: &ActiveBegins) {

@@ -6,7 +6,7 @@ use crate::written::{Written, count_below};
 use model::KeyRef;
 
 /// Of how many runs it is kept where they were read last.
-pub(crate) const SEARCHED_MAX: usize = 4;
+pub(crate) const SEARCHED_MAX: usize = 6;
 
 // How many postings behind the place are looked at first.
 const NEAR: usize = 8;

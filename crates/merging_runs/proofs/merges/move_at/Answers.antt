@@ -5,7 +5,7 @@ use Rattle.std.proofs.Common.{subst, ◌∙◌, arith, inr, refl, rules}
 use Rattle.std.proofs.lemmas.List.{get_or-drop, get_or_read}
 use Rattle.std.proofs.lemmas.Option.{slice_get_read}
 use Rattle.std.specs.Prelude.{◌&&◌, nat_le}
-use Rattle.merging_runs.proofs.Moves.{as_slow}
+use Rattle.merging_runs.proofs.Moves.{as_heavy, as_slow}
 use Rattle.merging_runs.proofs.RunSteps.{as_long, left_changed, lasts_changed, no_longer_changed, none_left}
 use Rattle.merging_runs.proofs.RunSteps.{behind_agrees, passed_left, same_run, set_behind}
 use Rattle.merging_runs.specs.MadeRuns.{IsMade}
@@ -49,10 +49,10 @@ returns g c =
       );
       most = c.move_on.ensures.most;
       len = search rules;
-      merged = subst (λ l. AreMerged g.R.Run.each o (c.args.most - c.move_on.result) (map size runs.items) (map size l)) (sym now) (record {
+      merged = subst (λ l. AreMerged g.R.Run.each g.R.Run.heaviest o (c.args.most - c.move_on.result) (map size runs.items) (map size l)) (sym now) (record {
         lasts = lasts_changed size runs.items i was new within at merged.last;
         wholes = no_longer_changed size runs.items i was new within at merged.whole;
-        moved = omega (arith, left, merged.moved);
+        moved = as_heavy g.R.Run.heaviest _ _ (size was).left (size new).left (c.args.most - c.move_on.result) left merged.moved;
         slowly = as_slow _ _ (size was).left (size new).left (g.R.Run.each * (c.args.most - c.move_on.result)) left merged.slowly;
       });
       ended = λ some behind.

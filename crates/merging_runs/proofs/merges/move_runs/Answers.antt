@@ -1,10 +1,11 @@
 use Rattle.merging_runs.proofs.merges.move_runs.Goals as goal
-use Rattle.std.proofs.Common.{List, ◌≡◌, ◌≤◌, ◌+◌, ◌-◌, suc, refl, ap, sym, subst, ◌∙◌, drop, map, arith, inl, inr}
+use Rattle.std.proofs.Common.{List, ◌≡◌, ◌≤◌, ◌+◌, ◌-◌, ◌/◌, suc, refl, ap, sym, subst, ◌∙◌, drop, map, arith, inl}
+use Rattle.std.proofs.Common.{inr}
 use Rattle.std.proofs.lemmas.Bool.{cases_lt}
 use Rattle.std.specs.Prelude.{◌&&◌, min, nat_le}
 use Rattle.std.specs.Vec.{vec_len}
 use Rattle.merging_runs.proofs.MadeRuns.{AreMadeFrom, none_made, one_made}
-use Rattle.merging_runs.proofs.Moves.{slower, slowest}
+use Rattle.merging_runs.proofs.Moves.{divided, slower, slowest}
 use Rattle.merging_runs.proofs.RunSteps.{as_long, no_longer_through, past_left}
 use Rattle.merging_runs.specs.MadeRuns.{MakesOne}
 use Rattle.merging_runs.specs.RunSizes.{left_above}
@@ -65,9 +66,14 @@ returns-clause-moved g c =
     let none : vec_len c.args.runs.now - c.loop-after.after ≡ 0 = omega (arith, test, end) in
     let now = left_above o (map g.R.Run.sizes c.loop-after.runs.items) in
     let was = left_above o (map g.R.Run.sizes c.args.runs.now.items) in
-    let moved : now + min c.args.most was ≤ was = elim (cases_lt 0 c.loop-after.rest) [
-      | inl some ↦ let all = ap (λ n. left_above o (drop n (map g.R.Run.sizes c.loop-after.runs.items))) none in omega (arith, is.ended some, all)
-      | inr none_left ↦ omega (arith, none_left, merged.moved)
+    let heaviest = g.R.Run.heaviest in
+    let moved : now + min (c.args.most / heaviest) was ≤ was = elim (cases_lt c.loop-after.rest heaviest) [
+      | inl few ↦
+          let enough = divided heaviest c.args.most c.loop-after.rest was now few is.most merged.moved in
+          omega (arith, enough)
+      | inr some ↦
+          let all = ap (λ n. left_above o (drop n (map g.R.Run.sizes c.loop-after.runs.items))) none in
+          omega (arith, is.ended some, all)
     ] in
     record {
       lasts = merged.lasts;

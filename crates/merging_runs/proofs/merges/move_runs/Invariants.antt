@@ -1,5 +1,5 @@
 use Rattle.merging_runs.proofs.merges.move_runs.Given as goal
-use Rattle.std.proofs.Common.{◌≡◌, ◌≤◌, ◌<◌, ◌-◌, drop, map}
+use Rattle.std.proofs.Common.{◌≡◌, ◌≤◌, ◌-◌, drop, map}
 use Rattle.std.specs.Prelude.{◌&&◌, nat_le}
 use Rattle.std.specs.Vec.{vec_len}
 use Rattle.merging_runs.proofs.MadeRuns.{AreMadeFrom}
@@ -11,6 +11,6 @@ invariant-loop-after g l = record {
   made : AreMadeFrom (λ earlier. g.R.Run.makes earlier l.active l.oldest) (vec_len l.fn.runs - l.after) l.fn.runs.items l.runs.items;
   len : vec_len l.runs ≡ vec_len l.fn.runs;
   most : l.rest ≤ l.most;
-  merged : AreMerged g.R.Run.each l.oldest (l.most - l.rest) (map g.R.Run.sizes l.fn.runs.items) (map g.R.Run.sizes l.runs.items);
-  ended : 0 < l.rest → left_above l.oldest (drop (vec_len l.fn.runs - l.after) (map g.R.Run.sizes l.runs.items)) ≡ 0;
+  merged : AreMerged g.R.Run.each g.R.Run.heaviest l.oldest (l.most - l.rest) (map g.R.Run.sizes l.fn.runs.items) (map g.R.Run.sizes l.runs.items);
+  ended : g.R.Run.heaviest ≤ l.rest → left_above l.oldest (drop (vec_len l.fn.runs - l.after) (map g.R.Run.sizes l.runs.items)) ≡ 0;
 }

@@ -5,7 +5,7 @@ use Rattle.pivot_check.proofs.Joined.{behind_searched, pushed}
 use Rattle.pivot_check.specs.Inside.{in_run, postings_in}
 use Rattle.pivot_check.specs.Parts.{remaining_in}
 use Rattle.pivot_check.specs.Postings.{asked_in, least, lesser}
-use Rattle.pivot_check.specs.Searched.{is_long}
+use Rattle.pivot_check.specs.Searched.{is_searching}
 use Rattle.pivot_check.specs.declared.run.WrittenRun.{WrittenRun}
 use Rattle.pivot_check.specs.declared.seeking.TheConstants.{SEARCHED_MAX}
 
@@ -19,5 +19,5 @@ returns-clause-agree c = λ b asks keys flagged.
     c.searched-searched.ensures (c.move_least.ensures.made.answers.same b (and_parts _ _ asks).1 keys flagged) in
     pushed asked earlier c.free_room.new.run
     ∙ ap (lesser (least asked (postings_in earlier))) (c.free_room.ensures.same asked)
-    ∙ behind_searched asked (is_long was) SEARCHED_MAX earlier left (in_run was) same
+    ∙ behind_searched asked (is_searching was) SEARCHED_MAX earlier left (in_run was) same
     ∙ sym (pushed asked earlier was)
