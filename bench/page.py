@@ -219,6 +219,28 @@ def pauses_table():
                       "p99.9", "longest", "the client itself was late by"], lines)
 
 
+# Of the scenes that last, what is written in each round, and of each round its figures.
+AGAIN = (
+    ("everything written again four times, in random order, while a transaction stays open", "random order"),
+    ("the same, where the keys of long merges stand far apart in earlier runs", "keys far apart"),
+)
+ROUNDS = 4
+ROUND_FIGURES = (
+    ("round_longest_ms", "longest turn with a COMMIT, ms of CPU time"), ("round_most_ms", "p99 of these turns"), ("round_median_ms", "median"),
+    ("round_memory_mb", "memory of the server behind it, MB"))
+
+
+def rounds_table():
+    """A place stays empty until it is measured."""
+    found, lines = pauses(), []
+    for what, order in AGAIN:
+        figures = found.get(what, {}).get(1_000_000, {})
+        for name, head in ROUND_FIGURES:
+            of = figures.get(name, ROUNDS * [None])
+            lines.append([f"{order}: {head}", *(shown(value) for value in of)])
+    yield from table(["1,000,000 keys", *(f"Round {number + 1}" for number in range(ROUNDS))], lines)
+
+
 def copies_table():
     found = read("copies")
     lines = [[name, *(shown(median(row["seconds"][name])) for row in found["rows"])] for name in found["rows"][0]["seconds"]]
@@ -261,8 +283,8 @@ def sizing_table():
 
 TABLES = {
     "head": head_table, "reads": lambda: throughput_table("read"), "writes": lambda: throughput_table("write"), "rows": rows_table, "figures": figures_table,
-    "readers": readers_table, "writers": writers_table, "growth": growth_table, "opening": opening_table, "pauses": pauses_table, "copies": copies_table,
-    "compactions": compactions_table, "allocators": allocators_table, "conflicts": conflicts_table, "sizing": sizing_table,
+    "readers": readers_table, "writers": writers_table, "growth": growth_table, "opening": opening_table, "pauses": pauses_table, "rounds": rounds_table,
+    "copies": copies_table, "compactions": compactions_table, "allocators": allocators_table, "conflicts": conflicts_table, "sizing": sizing_table,
 }
 
 

@@ -4,8 +4,10 @@ CPU time and the syncs between two polls, which harness/polls.c measures."""
 import array
 import collections
 import contextlib
+import math
 import multiprocessing
 import os
+import random
 import select
 import signal
 import socket
@@ -15,7 +17,7 @@ from preloaded import Shared, Syncs, environment
 from servers import Failure, connect
 from ssikvd_harness.frames import BEGIN, COMMIT, PING, PONG, frame
 from ssikvd_harness.limits import MARKS_MAX
-from stores import COMMIT_WRITES, Client, Store, before_all, map_keys, scattered, sets
+from stores import COMMIT_WRITES, Client, Store, before_all, map_keys, parts_of, scattered, sets
 
 EACH_SECONDS = 0.001
 SESSIONS, FLOODING = 128, 60
@@ -33,6 +35,11 @@ READERS, WRITERS, SYNC_MS = 16, 16, 1
 LONG_REPLY_PAIRS = 100
 # So many clients write transactions of the most bytes. One key in so many is left where most were deleted.
 LARGE_WRITERS, LEFT_ONE_IN = 24, 384
+# How often everything is written again while a transaction stays open. A long merge of written keys looks into the first so many runs, each of so many
+# keys at most. Of those that are then written far apart, one in so many lies among the keys of these runs.
+ROUNDS, EARLIER_RUNS, LONG_RUN, APART_ONE_IN = 4, 4, 131_072, 16
+# Of a round, what these shares of its COMMITs stay below.
+SHARES = {"round_longest_ms": 1, "round_most_ms": 0.99, "round_median_ms": 0.5}
 
 
 # The client that sends PING
@@ -91,10 +98,11 @@ class Pinger:
 class Turns(Shared):
     """What the preloaded library shares: the turns of the program between two polls."""
 
-    NUMBERS = 8
+    # Behind these stands what each turn with a sync took, of the first so many.
+    NUMBERS, TURNS = 9, 131_072
 
     def __init__(self, library):
-        super().__init__(library, "POLLS_CONTROL", self.NUMBERS)
+        super().__init__(library, "POLLS_CONTROL", self.NUMBERS + self.TURNS)
 
     def count(self):
         return self.get(0)
@@ -119,6 +127,10 @@ class Turns(Shared):
     def is_idle(self):
         """Was there a poll that was to wait?"""
         return self.get(5) > 0
+
+    def with_sync_ms(self):
+        """What each turn with a sync took, one after the other."""
+        return [self.get(self.NUMBERS + number) / 1e6 for number in range(self.get(8))]
 
     def begin(self):
         """What was measured is forgotten."""
@@ -239,6 +251,18 @@ def delete_all(client, keys):
         commit_all(client, [frame(b"DEL", keys[number]) for number in numbers])
 
 
+def commit_ahead(client, keys):
+    """A transaction for each 64 of the keys, whose requests are made while the server has those of the one before."""
+    lines = 0
+    for some in parts_of(keys):
+        requests = BEGIN + sets(some) + COMMIT
+        if lines:
+            client.ask_lines(b"", lines)
+        client.socket.sendall(requests)
+        lines = 2 + len(some)
+    client.ask_lines(b"", lines)
+
+
 def small_commits(client):
     """What an end left to the ends that follow."""
     for number in range(SMALL_COMMITS):
@@ -337,6 +361,75 @@ def same_key(options):
             old.ask(COMMIT)
             single_writes(client, [b"same"] * SAME_KEY)
     return scene
+
+
+def commits_ms(scene, client, keys):
+    """Commits these keys in their order: what each turn with a COMMIT took."""
+    before = len(scene.turns.with_sync_ms())
+    commit_ahead(client, keys)
+    scene.settle()
+    return scene.turns.with_sync_ms()[before:]
+
+
+def round_figures(scene, took_ms):
+    """Of the turns of a round the longest, what all but one in a hundred stay below, the median; and the memory that the server has behind them."""
+    ordered = sorted(took_ms)
+    shares = {name: round(ordered[math.ceil(share * len(ordered)) - 1], 3) for name, share in SHARES.items()}
+    return {**shares, "round_memory_mb": round(scene.store.resident_bytes() / 1e6, 1)}
+
+
+def random_rounds(count, rounds):
+    """So many scattered keys, in another random order each time."""
+    for seed in range(rounds):
+        numbers = list(range(count))
+        random.Random(seed).shuffle(numbers)
+        yield [scattered(number) for number in numbers]
+
+
+def spread(some):
+    """The same in an order in which any that follow one another are spread over all of them: by the bits of their places, the last bit first."""
+    bits = max(1, (len(some) - 1).bit_length())
+    return [some[place] for place in sorted(range(len(some)), key=lambda it: f"{it:0{bits}b}"[::-1])]
+
+
+def apart_rounds(count, rounds):
+    """So many scattered keys, where a long merge looks into runs among whose keys those of the merge stand far apart, and finds none of them there.
+
+    Keys of a part of the map are written first, a fourth of them for each of the runs, spread over the part. Then come the others: mostly those behind
+    the part, and some that lie within it. Later rounds write these again."""
+    keys = sorted(map(scattered, range(count)))
+    first = min(EARLIER_RUNS * LONG_RUN, count * 3 // 5)
+    within = (count - first) // APART_ONE_IN
+    part, behind = keys[:first + within], spread(keys[first + within:])
+    later = {part[number * len(part) // within] for number in range(within)}
+    written = [key for key in part if key not in later]
+    earlier = [key for run in range(EARLIER_RUNS) for key in spread(written[run::EARLIER_RUNS])]
+    each = APART_ONE_IN - 1
+    mixed = [key for number, one in enumerate(spread(sorted(later))) for key in (one, *behind[each * number:each * (number + 1)])]
+    mixed += behind[each * within:]
+    yield earlier + mixed
+    for _ in range(rounds - 1):
+        yield mixed
+
+
+def stays_open(options, rounds, what):
+    """A transaction that has read stays open while all is written again and again."""
+    with Scene(options, options.keys, ROUNDS * (options.keys // COMMIT_WRITES + 1) + 8) as scene:
+        old, client = scene.client(), scene.client()
+        opened(old)
+        with scene.part(what) as more:
+            found = [round_figures(scene, commits_ms(scene, client, keys)) for keys in rounds(options.keys, ROUNDS)]
+            more.update({name: [it[name] for it in found] for name in found[0]})
+        old.ask(COMMIT)
+    return scene
+
+
+def random_again(options):
+    return stays_open(options, random_rounds, "everything written again four times, in random order, while a transaction stays open")
+
+
+def apart_again(options):
+    return stays_open(options, apart_rounds, "the same, where the keys of long merges stand far apart in earlier runs")
 
 
 def queue_key(number):
@@ -664,8 +757,10 @@ SCENES = {
     "first_long_reply": first_long_reply, "beside_writers": beside_writers, "whole_transactions": whole_transactions,
 }
 CROWDS = {"large_commits": large_commits, "old_commits": old_commits, "sparse_ranges": sparse_ranges}
+# Those that last.
+AGAIN = {"random_again": random_again, "apart_again": apart_again}
 
 
 def measured(options, name):
     """The rows of a scene: what was done, and its figures."""
-    return list((SCENES | CROWDS)[name](options).rows())
+    return list((SCENES | CROWDS | AGAIN)[name](options).rows())

@@ -11,12 +11,14 @@ ranges over them; ranges over keys that were deleted at their begin and are set 
 begin, side by side and each within the next; many COMMITs that have read all that was written before their begin; 60 clients with the largest
 RANGEs, and with such of a quarter of the bytes; 128 connections coming and going; the first long reply after an old transaction, whose versions
 were freed; 16 clients that read and 16 that write, where a sync takes 1 ms; 60 clients that send whole transactions in one piece, all at once. Three
-more are crowds, whose requests all stand ready in one turn: COMMITs of 1 MiB, COMMITs of old transactions, and RANGEs over keys most of which were deleted. Each has a server of its own over a data file in
-memory (--folder).
+more are crowds, whose requests all stand ready in one turn: COMMITs of 1 MiB, COMMITs of old transactions, and RANGEs over keys most of which were
+deleted. Two more last: everything written again four times while a transaction stays open, in random order, and where the keys of long merges stand
+far apart in earlier runs. Each has a server of its own over a data file in memory (--folder).
 
 The figures of each: the median of the waits, what all but one in a thousand stay below, the longest; the longest CPU time of the server
 between the return of a poll and the next, and of all together; of the longest what was the system's, and how many pages of memory it provided; the
-most syncs between two polls; with writers also the waits of those that read.
+most syncs between two polls; with writers also the waits of those that read. Of those that last, of each round the longest turn with a COMMIT, what all
+but one in a hundred stay below, the median, and the memory of the server behind it.
 The waits are wall-clock, so other work of the machine is in them, and so is by how much the client itself was late, which is printed too. The CPU time
 has nothing of that, but what a hypervisor takes from a processor can count as CPU time of the thread that ran there. It is measured by a library
 that is preloaded into the server (harness/polls.c). Needs Python 3, make and a C compiler, and at a million keys 2 GB of memory.
@@ -30,11 +32,12 @@ import sys
 sys.dont_write_bytecode = True
 
 from entry import need_program, parser_of, print_table, run_script, shown, write_results    # noqa: E402
-from pause_scenes import CROWDS, SCENES, measured    # noqa: E402
+from pause_scenes import AGAIN, CROWDS, SCENES, measured    # noqa: E402
 from preloaded import build    # noqa: E402
 from scale import about    # noqa: E402
 
-ALL_SCENES = SCENES | CROWDS
+ALL_SCENES = SCENES | CROWDS | AGAIN
+ROUNDS = (("round_longest_ms", "longest COMMIT"), ("round_most_ms", "99 %"), ("round_median_ms", "median"), ("round_memory_mb", "MB"))
 CLOCK = (("median_ms", "median"), ("most_ms", "99.9 %"), ("longest_ms", "longest"), ("client_late_ms", "the client itself was late"))
 
 
@@ -73,6 +76,14 @@ def print_clock_table(rows):
         for what, found in by_scene(rows).items() for size, figures in sorted(found.items())))
 
 
+def print_rounds_table(rows):
+    """What each round of the scenes that last took."""
+    print_table(["Beside", "Keys", "Round", *(head for _, head in ROUNDS)], (
+        [what, f"{size:,}", str(number), *map(shown, of)]
+        for what, found in by_scene(rows).items() for size, figures in sorted(found.items())
+        for number, of in enumerate(zip(*(figures.get(name, []) for name, _ in ROUNDS)), 1)))
+
+
 # Measuring
 
 def measure(options):
@@ -104,6 +115,9 @@ def main():
     print_processor_table(rows)
     print("\nThe wall-clock waits of PING, ms\n")
     print_clock_table(rows)
+    if any(name in AGAIN for name in options.scene or ALL_SCENES):
+        print("\nThe CPU time of turns with a COMMIT, ms, and the server's memory\n")
+        print_rounds_table(rows)
     return 0
 
 

@@ -1,5 +1,6 @@
 """For how long `serve` looks at nobody else: the longest CPU time between two polls, in the scenes of bench/pauses.py, each below its bound. In two
-of them also the most syncs between two polls, for which all others wait. `long` has the crowds, over a larger store.
+of them also the most syncs between two polls, for which all others wait. `long` has the crowds, and a transaction that stays open while everything is
+written again and again, over larger stores.
 
 The CPU time is that of the server's thread alone, so other work of the machine is hardly in it. `polls.c` measures it. A virtual machine counts as
 CPU time what its host took away meanwhile, once 29 ms in a turn of under one, and that can only add: so a scene that is above a bound runs again, and
@@ -23,6 +24,8 @@ import pause_scenes     # noqa: E402
 
 LIBRARY = os.path.join(OUT, "polls.so")
 KEYS, LONG_KEYS, SECONDS, BEHIND_SECONDS = 10_000, 100_000, 0.2, 0.02
+# Of one scene of `long`, so that several long runs of written keys stand before those that are merged.
+KEYS_OF = {"apart_again": 1_000_000}
 TRIES = 3
 
 # Of each part of a scene, in milliseconds of the processor.
@@ -52,6 +55,8 @@ LONG_MS = {
     "24 COMMITs of 64 values of 16,384 bytes, all in one turn": 60,
     "60 COMMITs of ones with 256 ranges and 64 writes, after everything was written again, all in one turn": 12,
     "60 clients with 21 RANGEs of 128 over keys of which one in 384 is left, all in one turn": 12,
+    "everything written again four times, in random order, while a transaction stays open": 9,
+    "the same, where the keys of long merges stand far apart in earlier runs": 15,
 }
 # Where they are judged, the most syncs between two polls: those of one COMMIT.
 SYNCS = {
@@ -61,14 +66,13 @@ SYNCS = {
 
 
 def scenes_and_bounds():
-    return (pause_scenes.CROWDS, LONG_MS) if is_long() else (pause_scenes.SCENES, QUICK_MS)
+    return (pause_scenes.CROWDS | pause_scenes.AGAIN, LONG_MS) if is_long() else (pause_scenes.SCENES, QUICK_MS)
 
 
-def options(wasted_ms=0):
-    place = "/dev/shm" if os.path.isdir("/dev/shm") else None
+def options(scene, wasted_ms=0):
+    place, keys = "/dev/shm" if os.path.isdir("/dev/shm") else None, KEYS_OF.get(scene, LONG_KEYS) if is_long() else KEYS
     return argparse.Namespace(
-        program=PROGRAM, library=LIBRARY, folder=place, keys=LONG_KEYS if is_long() else KEYS, seconds=SECONDS, behind=BEHIND_SECONDS,
-        wasted_ms=wasted_ms)
+        program=PROGRAM, library=LIBRARY, folder=place, keys=keys, seconds=SECONDS, behind=BEHIND_SECONDS, wasted_ms=wasted_ms)
 
 
 def judge(what, took_ms, syncs=0):
@@ -80,7 +84,7 @@ def judge(what, took_ms, syncs=0):
 def parts(scene, wasted_ms=0):
     """What the scene is made of, each with the longest CPU time and the most syncs between two polls."""
     try:
-        return [(what, (it["cpu_longest_ms"], it["most_syncs"])) for what, it in pause_scenes.measured(options(wasted_ms), scene)]
+        return [(what, (it["cpu_longest_ms"], it["most_syncs"])) for what, it in pause_scenes.measured(options(scene, wasted_ms), scene)]
     except pause_scenes.Failure as failure:
         raise Deviation(f"{scene}: {failure}") from None
 

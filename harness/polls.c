@@ -1,11 +1,12 @@
 /* Measures what a program does between two polls, by the processor time of the thread that polls.
  *
  * Preloaded into a program with one thread. The file named by POLLS_CONTROL is shared with whoever measures, who may read and write it at
- * any moment. It holds eight numbers of 64 bits: how many turns there were, which begin where a poll returns and end where the next is
+ * any moment. First it holds eight numbers of 64 bits: how many turns there were, which begin where a poll returns and end where the next is
  * called; the longest of them and all of them together, in nanoseconds of the processor; how many such nanoseconds the next turn is
  * to waste, which then sets it to 0; the most syncs of a turn; how many polls were to wait, which says that the program had nothing
- * left to do; and of the longest turn how many of its nanoseconds were the system's, and how many pages of memory it provided. Without
- * that variable all calls are passed on and nothing is measured.
+ * left to do; and of the longest turn how many of its nanoseconds were the system's, and how many pages of memory it provided. Behind
+ * them stands how many turns had a sync, and what each of these took, of the first 131,072 of them. Without that variable all calls are
+ * passed on and nothing is measured.
  */
 #define _GNU_SOURCE
 #include "shared.h"
@@ -18,8 +19,11 @@
 #include <time.h>
 #include <unistd.h>
 
+enum { PLACES = 131072 };
+
 struct control {
     uint64_t turns, longest, all, waste, syncs, idle, system, pages;
+    uint64_t with_sync, took[PLACES];
 };
 
 static volatile struct control *control;
@@ -52,6 +56,11 @@ static void note_longest(uint64_t took) {
     control->pages = (uint64_t)(now.ru_minflt - used.ru_minflt);
 }
 
+static void note_with_sync(uint64_t took) {
+    if (control->with_sync < PLACES)
+        control->took[control->with_sync++] = took;
+}
+
 static void end_turn(void) {
     uint64_t took = processor_ns() - returned;
     if (took > control->longest)
@@ -59,6 +68,8 @@ static void end_turn(void) {
     control->all += took;
     if (syncs > control->syncs)
         control->syncs = syncs;
+    if (syncs)
+        note_with_sync(took);
     syncs = 0;
     control->turns++;
 }
