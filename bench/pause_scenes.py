@@ -39,7 +39,7 @@ LARGE_WRITERS, LEFT_ONE_IN = 24, 384
 # keys at most. Of those that are then written far apart, one in so many lies among the keys of these runs.
 ROUNDS, EARLIER_RUNS, LONG_RUN, APART_ONE_IN = 4, 4, 131_072, 16
 # Of a round, what these shares of its COMMITs stay below.
-SHARES = {"round_longest_ms": 1, "round_most_ms": 0.99, "round_median_ms": 0.5}
+SHARES = {"round_longest_ms": 1, "round_most_ms": 0.999, "round_p99_ms": 0.99, "round_median_ms": 0.5}
 
 
 # The client that sends PING
@@ -372,7 +372,7 @@ def commits_ms(scene, client, keys):
 
 
 def round_figures(scene, took_ms):
-    """Of the turns of a round the longest, what all but one in a hundred stay below, the median; and the memory that the server has behind them."""
+    """Of the turns of a round the longest, what all but one in a thousand and one in a hundred stay below, the median; and the memory of the server then."""
     ordered = sorted(took_ms)
     shares = {name: round(ordered[math.ceil(share * len(ordered)) - 1], 3) for name, share in SHARES.items()}
     return {**shares, "round_memory_mb": round(scene.store.resident_bytes() / 1e6, 1)}

@@ -18,7 +18,7 @@ far apart in earlier runs. Each has a server of its own over a data file in memo
 The figures of each: the median of the waits, what all but one in a thousand stay below, the longest; the longest CPU time of the server
 between the return of a poll and the next, and of all together; of the longest what was the system's, and how many pages of memory it provided; the
 most syncs between two polls; with writers also the waits of those that read. Of those that last, of each round the longest turn with a COMMIT, what all
-but one in a hundred stay below, the median, and the memory of the server behind it.
+but one in a thousand and one in a hundred stay below, the median, and the memory of the server behind it.
 The waits are wall-clock, so other work of the machine is in them, and so is by how much the client itself was late, which is printed too. The CPU time
 has nothing of that, but what a hypervisor takes from a processor can count as CPU time of the thread that ran there. It is measured by a library
 that is preloaded into the server (harness/polls.c). Needs Python 3, make and a C compiler, and at a million keys 2 GB of memory.
@@ -37,7 +37,7 @@ from preloaded import build    # noqa: E402
 from scale import about    # noqa: E402
 
 ALL_SCENES = SCENES | CROWDS | AGAIN
-ROUNDS = (("round_longest_ms", "longest COMMIT"), ("round_most_ms", "99 %"), ("round_median_ms", "median"), ("round_memory_mb", "MB"))
+ROUNDS = (("round_longest_ms", "longest COMMIT"), ("round_most_ms", "99.9 %"), ("round_p99_ms", "99 %"), ("round_median_ms", "median"), ("round_memory_mb", "MB"))
 CLOCK = (("median_ms", "median"), ("most_ms", "99.9 %"), ("longest_ms", "longest"), ("client_late_ms", "the client itself was late"))
 
 

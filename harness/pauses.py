@@ -81,10 +81,16 @@ def judge(what, took_ms, syncs=0):
     expect(what not in SYNCS or syncs <= SYNCS[what], f"{what}: {syncs} syncs between two polls, the bound is {SYNCS.get(what)}")
 
 
+def judged_ms(figures):
+    """The longest CPU time between two polls. Of a scene that lasts what all COMMITs of a round but one in a thousand stay below: in so long a time the host
+    takes something away again and again."""
+    return max(figures.get("round_most_ms", [figures["cpu_longest_ms"]]))
+
+
 def parts(scene, wasted_ms=0):
-    """What the scene is made of, each with the longest CPU time and the most syncs between two polls."""
+    """What the scene is made of, each with the CPU time that is judged and the most syncs between two polls."""
     try:
-        return [(what, (it["cpu_longest_ms"], it["most_syncs"])) for what, it in pause_scenes.measured(options(scene, wasted_ms), scene)]
+        return [(what, (judged_ms(it), it["most_syncs"])) for what, it in pause_scenes.measured(options(scene, wasted_ms), scene)]
     except pause_scenes.Failure as failure:
         raise Deviation(f"{scene}: {failure}") from None
 
