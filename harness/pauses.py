@@ -55,8 +55,8 @@ LONG_MS = {
     "24 COMMITs of 64 values of 16,384 bytes, all in one turn": 60,
     "60 COMMITs of ones with 256 ranges and 64 writes, after everything was written again, all in one turn": 12,
     "60 clients with 21 RANGEs of 128 over keys of which one in 384 is left, all in one turn": 12,
-    "everything written again four times, in random order, while a transaction stays open": 9,
-    "the same, where the keys of long merges stand far apart in earlier runs": 15,
+    "everything written again four times, in random order, while a transaction stays open": 6,
+    "the same, where the keys of long merges stand far apart in earlier runs": 24,
 }
 # Where they are judged, the most syncs between two polls: those of one COMMIT.
 SYNCS = {
