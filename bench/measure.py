@@ -56,7 +56,7 @@ PAUSE_MS, TRIES = 3, 3
 # At a million keys in this order, as long as there is time.
 PAUSE_SCENES = ["quiet", "load", "written_again", "old_commit", "younger", "half_deleted", "straddling", "queue", "coming_and_going", "beside_writers",
                 "whole_transactions", "largest_ranges", "middle_ranges", "same_key", "first_long_reply", "overlapping", "refilled", "written_before",
-                "large_commits", "old_commits", "sparse_ranges", "random_again", "apart_again"]
+                "large_commits", "old_commits", "sparse_ranges", "much_read", "random_again", "apart_again"]
 
 
 # What was measured, and where

@@ -37,7 +37,7 @@ LONG_REPLY_PAIRS = 100
 LARGE_WRITERS, LEFT_ONE_IN = 24, 384
 # How often everything is written again while a transaction stays open. A long merge of written keys looks into the first so many runs, each of so many
 # keys at most. Of those that are then written far apart, one in so many lies among the keys of these runs.
-ROUNDS, EARLIER_RUNS, LONG_RUN, APART_ONE_IN = 4, 4, 131_072, 16
+ROUNDS, EARLIER_RUNS, LONG_RUN, APART_ONE_IN = 4, 6, 131_072, 16
 # Of a round, what these shares of its COMMITs stay below.
 SHARES = {"round_longest_ms": 1, "round_most_ms": 0.999, "round_p99_ms": 0.99, "round_median_ms": 0.5}
 
@@ -346,6 +346,29 @@ def younger(options):
         with scene.part("the end of the younger of two old ones"):
             young.ask(COMMIT)
             small_commits(client)
+    return scene
+
+
+def read_all(client, count):
+    """Transactions read so many scattered keys, 64 each, and write a key of their own."""
+    for numbers in in_commits(count):
+        client.socket.sendall(BEGIN + b"".join(frame(b"GET", scattered(number)) for number in numbers) + sets([before_all(numbers[0])]) + COMMIT)
+        for _ in range(len(numbers) + 3):
+            client.reply()
+
+
+def much_read(options):
+    """The last reader of each key is kept while an older transaction is open. A younger one begins when half of them were the last."""
+    with Scene(options, options.keys, 2 * (options.keys // COMMIT_WRITES) + SMALL_COMMITS + 8) as scene:
+        old, young, client = scene.client(), scene.client(), scene.client()
+        opened(old)
+        read_all(client, options.keys)
+        opened(young)
+        read_all(client, options.keys // 2)
+        with scene.part("the end of the older of two, after others have read everything"):
+            old.ask(COMMIT)
+            small_commits(client)
+            scene.wait_until_idle()
     return scene
 
 
@@ -751,8 +774,8 @@ def sparse_ranges(options):
 
 
 SCENES = {
-    "quiet": quiet, "load": load, "written_again": written_again, "old_commit": old_commit, "younger": younger, "same_key": same_key, "queue": queue,
-    "half_deleted": half_deleted, "refilled": refilled, "straddling": straddling, "overlapping": overlapping, "written_before": written_before,
+    "quiet": quiet, "load": load, "written_again": written_again, "old_commit": old_commit, "younger": younger, "much_read": much_read, "same_key": same_key,
+    "queue": queue, "half_deleted": half_deleted, "refilled": refilled, "straddling": straddling, "overlapping": overlapping, "written_before": written_before,
     "largest_ranges": largest_ranges, "middle_ranges": middle_ranges, "coming_and_going": coming_and_going,
     "first_long_reply": first_long_reply, "beside_writers": beside_writers, "whole_transactions": whole_transactions,
 }
