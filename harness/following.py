@@ -116,7 +116,7 @@ def follows(tally):
         judge_copy(pair, follow_through(pair, port, most=400))
     with tally.run("more than is held at once"), served_pair(chance) as (pair, port), folder() as place:
         script = planted(place, "ssikvd-follow", *FEW_HELD)
-        shutil.copy(os.path.join(DIST, "ssikvd-verify"), place)
+        copy_neighbours(place)
         judge_copy(pair, follow_through(pair, port, script, most=100))
     with tally.run("an empty copy gets all at once"), folder() as place:
         judge_first(place, *FEW_HELD)
@@ -128,10 +128,16 @@ def follows(tally):
         expect(check(pair.new)[0] == before + 1, f"of 40 keys it appended {check(pair.new)[0] - before} records")
 
 
+def copy_neighbours(place):
+    """Copies the tools that `ssikvd-follow` looks for in its own folder."""
+    for name in ("ssikvd-used", "ssikvd-verify"):
+        shutil.copy(os.path.join(DIST, name), place)
+
+
 def judge_first(place, right, wrong):
     """However few bytes are held later, a first run appends each key once, with this text of the tool in the place of another."""
     script = planted(place, "ssikvd-follow", right, wrong)
-    shutil.copy(os.path.join(DIST, "ssikvd-verify"), place)
+    copy_neighbours(place)
     with served_pair(random.Random(2)) as (pair, port):
         pair.copy(port, 100, script=script)
         expect(check(pair.new)[0] == 1, f"40 keys are in {check(pair.new)[0]} records")
@@ -473,11 +479,11 @@ def wrong_tools(tally):
     for name, texts in WRONG.items():
         with tally.run(f"{name} is reported"), folder() as place:
             script = planted(place, "ssikvd-follow", *texts)
-            shutil.copy(os.path.join(DIST, "ssikvd-verify"), place)
+            copy_neighbours(place)
             expect(any(is_refused(judge_wrong, seed, script) for seed in range(4)), f"{name} was not reported")
     with tally.run("other bytes than were written are found by the tool itself"), folder() as place:
         script = planted(place, "ssikvd-follow", *OTHER_BYTES)
-        shutil.copy(os.path.join(DIST, "ssikvd-verify"), place)
+        copy_neighbours(place)
         with served_pair(random.Random(1)) as (pair, port):
             pair.copy(port, 3, behind=3)
             found = pair.follow(pair.data, pair.new, script=script)

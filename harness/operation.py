@@ -327,7 +327,7 @@ def planted(ship, data, copy):
     own = ship.ship
 
     def wrong(log, target, place):
-        ship.copy_sectors(log.file, target, place, log.place)
+        ship.copy_sectors(log, target, place, log.place)
         ship.os.fsync(target)
 
     ship.ship = wrong

@@ -326,7 +326,7 @@ WRONG = {
         "    with open(name + \".tmp\", \"w\") as file:\n        file.write(text)\n    os.replace(name + \".tmp\", name)\n    return\n"
         "    with within_folder(name) as (folder, word):\n        new = word + \".tmp\"\n")]),
     "a temporary file that isn't fresh": (judge_used, "metrics.tmp", "a second name", [
-        ("ssikvd-used", "os.unlink(new, dir_fd=folder)\n        file =", "pass\n        file ="), ("ssikvd-used", " | os.O_EXCL", "")]),
+        ("ssikvd-used", " | os.O_CREAT | os.O_EXCL", " | os.O_CREAT")]),
     "a probe that writes through links": (functools.partial(judge_other, "probe"), "metrics.tmp", "a link", [(
         "ssikvd-probe", "neighbour(\"ssikvd-used\").write(name, text)", "open(name + \".tmp\", \"w\").write(text)")]),
     "a backup through a link among the folders": (judge_backup, "COPY", "a link to a folder", [(
