@@ -46,7 +46,7 @@ FIRST = (Harness("lint", QUICK), Harness("failing_harnesses", QUICK))
 # Several at a time, the ones that take long in front.
 TOGETHER = (
     Harness("packages"), Harness("day"), Harness("kills"), Harness("hostile"), Harness("operation"), Harness("following"), Harness("at_rest"),
-    Harness("looks"), Harness("planted_links"), Harness("stat_and_why"), Harness("restoring"), Harness("clients"), Harness("languages"), Harness("lossy"),
+    Harness("looks"), Harness("planted_links"), Harness("mistakes", QUICK), Harness("stat_and_why"), Harness("restoring"), Harness("clients"), Harness("languages"), Harness("lossy"),
     Harness("power_cuts"), Harness("vanishing"), Harness("histories"), Harness("resending", LONG), Harness("commands"), Harness("documents"),
     Harness("system_limits"), Harness("server_calls"), Harness("proxies"), Harness("every_command"), Harness("random_scripts"), Harness("trace"),
     Harness("streams"), Harness("pictures"), Harness("installing"), Harness("under_systemd", LONG), Harness("fail_over", LONG),
