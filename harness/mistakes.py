@@ -7,6 +7,7 @@ no file may grow. Two runs write one file at once. What root makes in a folder o
 Python.
 """
 import contextlib
+import fcntl
 import functools
 import itertools
 import json
@@ -490,9 +491,9 @@ def at_once(tally):
         used.PATIENCE, name = 0.3, os.path.join(place, "metrics")
         with open(name + ".tmp", "w", encoding="ascii") as left:
             used.write(name, TEXTS[0])
-            used.fcntl.flock(left, used.fcntl.LOCK_EX)
+            fcntl.flock(left, fcntl.LOCK_EX)
             with open(name + ".tmp", "w", encoding="ascii") as held:
-                used.fcntl.flock(held, used.fcntl.LOCK_EX)
+                fcntl.flock(held, fcntl.LOCK_EX)
                 begun = time.monotonic()
                 used.write(name, TEXTS[1])
         expect(time.monotonic() - begun >= 0.3 and bytes_of(name).decode() == TEXTS[1] and os.listdir(place) == ["metrics"], f"they left {os.listdir(place)}")
@@ -560,6 +561,12 @@ def owners(tally):
             expect(found == (0, "", "") and (now.st_uid, now.st_gid, stat.S_IMODE(now.st_mode)) == (USER, USER, 0o600), f"it answered {found}: {now}")
             found = as_user("ssikvd-before", made, "64")
             expect(found == (0, "", ""), f"as the user it answered {found}")
+        with tally.run("ssikvd-compact of root's file, by the owner of the folder"):
+            shutil.copy(data, os.path.join(theirs, "roots"))
+            words = ["--stop", f"echo >>{theirs}/stopped", "--start", "true", os.path.join(theirs, "roots")]
+            for found in (as_user("ssikvd-compact", *words), tool("ssikvd-compact", *words)):
+                expect_line(found, 2, "belongs to another user")
+            expect(not {"stopped", "roots.new", "roots.lock"} & set(os.listdir(theirs)), f"the server was stopped for it: {os.listdir(theirs)}")
         with tally.run("ssikvd-why of a missing file, run by root"):
             missing = os.path.join(theirs, "missing")
             found = tool("ssikvd-why", "--data", missing)
@@ -584,6 +591,50 @@ def compactions(tally):
             expect(sorted(os.listdir(place)) == ["data", "data.lock", "data.old", "started"], f"it left {os.listdir(place)}")
 
 
+def overlapping(tally):
+    """A compaction that waited for another one, which has put another file in the place, waits for one of that file as well."""
+    with tally.run("ssikvd-compact of a file that is replaced while it waits"), folder() as place:
+        data, words = os.path.join(place, "data"), ["ssikvd-compact", "--part", "prepare", os.path.join(place, "data")]
+        create(data, 64)
+        with open(data, "rb") as first:
+            fcntl.flock(first, fcntl.LOCK_EX)
+            with subprocess.Popen(words, env=ENVIRONMENT, stdin=subprocess.DEVNULL, stdout=subprocess.PIPE, stderr=subprocess.STDOUT) as process:
+                wait_for(lambda: waiters(first), "it doesn't wait")
+                create(data + ".next", 64)
+                with open(data + ".next", "rb") as second:
+                    fcntl.flock(second, fcntl.LOCK_EX)
+                    os.rename(data + ".next", data)
+                    fcntl.flock(first, fcntl.LOCK_UN)
+                    wait_for(lambda: waiters(second) or process.poll() is not None, "it doesn't wait for the other file")
+                    expect(process.poll() is None and not os.path.exists(data + ".new"), "it went on next to a compaction of the file that is there now")
+                out, _ = process.communicate(timeout=PATIENCE)
+            expect(process.returncode == 0 and os.path.exists(data + ".new"), f"it ended with {process.returncode}: {out}")
+
+
+def waiters(file):
+    """How many wait for the lock of an open file."""
+    with open("/proc/locks", encoding="ascii") as rows:
+        return sum("->" in row and row.split()[-3].endswith(f":{os.fstat(file.fileno()).st_ino}") for row in rows)
+
+
+BAD_WORDS = (("--above", "08"), ("--above", "-1"), ("--sectors", "010"), ("--sectors", 20 * "9"), ("--within", "1e3"), ("--above", "5.5"))
+
+
+def words_of_compactions(tally):
+    with folder() as place:
+        data = os.path.join(place, "data")
+        create(data, 64)
+        for option, text in BAD_WORDS:
+            with tally.run(f"ssikvd-compact {option} {text}"):
+                expect_line(tool("ssikvd-compact", option, text, "--stop", "true", "--start", "true", data), 1, "usage: ")
+        for words in (["ssikvd-compact", "--stop", "true", "--start", "true", data + "\n"], ["ssikvd-before", data + "\n", "64"]):
+            with tally.run(f"{words[0]} of a name that ends with a line break"):
+                expect_line(tool(*words), 1, "usage: ")
+        with tally.run("ssikvd-compact with its state in the data file"):
+            expect_line(tool("ssikvd-compact", "--state", data, "--stop", "true", "--start", "true", data), 2, "it is the data file itself: name another file")
+        expect(os.listdir(place) == ["data"], f"they left {os.listdir(place)}")
+
+
 def log_bytes():
     """The sectors of the log that stand in front of its closed gate."""
     with store() as (_, data):
@@ -593,7 +644,8 @@ def log_bytes():
 class Mistakes(Harness):
     NAME = "mistakes"
     NEEDS = (PROGRAM,)
-    PARTS = (replaced, numbers, lines, names, foreign, streams, errors, interrupts, without_room, at_once, owners, compactions)
+    PARTS = (replaced, numbers, lines, names, foreign, streams, errors, interrupts, without_room, at_once, owners, compactions,
+             overlapping, words_of_compactions)
 
 
 if __name__ == "__main__":
