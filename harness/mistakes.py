@@ -12,12 +12,14 @@ import functools
 import itertools
 import json
 import os
+import shlex
 import shutil
 import signal
 import stat
 import subprocess
 import threading
 import time
+import unittest.mock
 
 from ssikvd_harness.arguments import run_harness
 from ssikvd_harness.cases import Harness, leave_out
@@ -184,6 +186,8 @@ def numbers(tally):
         for text in ("inf", "1e30"):
             with tally.run(f"a number as large as {text}"):
                 expect_line(play("ssikvd-probe", "--timeout", text, NOBODY), 2, "Connection refused")
+        with tally.run("a process that can't be"):
+            expect_line(play("ssikvd-probe", "--process", 20 * "9", "--wait", "60", NOBODY), 2, "Connection refused")
         for name, status, words in (("ssikvd-load", 2, [data]), ("ssikvd-export", 2, []), ("ssikvd-probe", 3, [])):
             with tally.run(f"{name} at what is no address"):
                 for text in NO_ADDRESSES:
@@ -228,6 +232,10 @@ NAMES = (b"a b", b"a\nb", b"-a", b"--help", b"a\xffb", b"\xfc", "ü".encode(), b
 
 def names(tally):
     """A data file of any name is read, copied and restored, and the metrics of it are UTF-8."""
+    with tally.run("a unit whose name has a quote"):
+        with unittest.mock.patch("sys.argv", ["ssikvd-restore", "a'b; c", "copy"]):
+            asked = module_of("ssikvd-restore").words()
+        expect([shlex.split(text)[2:] for text in (asked.stop, asked.start)] == 2 * [["ssikvd@a'b; c.service"]], f"it calls {asked.stop} and {asked.start}")
     for name in NAMES:
         with tally.run(f"a data file of the name {name!r}"), folder() as place:
             here = functools.partial(run_here, place)
