@@ -1,4 +1,5 @@
 pub mod Steps
+pub mod Alike
 pub mod Merging
 pub mod Sweeping
 pub mod Readers

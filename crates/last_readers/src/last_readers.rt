@@ -7,11 +7,13 @@ ghost use Rattle.merging_runs.specs.Next.{IsNext};
 ghost use Rattle.last_readers.specs.Readers.{AddsRun, AnswerAlike, AddsRunAndMerges, AreUpto, HasReadersRoom};
 ghost use Rattle.last_readers.specs.Readers.{IsForgotten, IsNoted, HasSomeReadersRoom, NameNoneUpto, if_after};
 ghost use Rattle.last_readers.specs.Readers.{garbage_of_readers, is_named_reader, last_reader};
-ghost use Rattle.merging_runs.specs.RunSizes.{IsTried, LeavesMerges, are_alike};
+ghost use Rattle.last_readers.specs.Alike.{become_one};
+ghost use Rattle.merging_runs.specs.RunSizes.{IsTried, LeavesMerges};
 
 use crate::gathering::steps_of;
 use crate::run::{ReadRun, Ready};
-use crate::runs::{add_run, greatest_in};
+use crate::runs::{BEGINS_MAX, add_run, greatest_in};
+use arrayvec::ArrayVec;
 use marks::Marks;
 use merging_runs::Runs;
 use model::{KeyRef, Memory};
@@ -106,14 +108,20 @@ impl LastReaders {
     /// `Memory` where memory for that is refused. It takes the time of sorting the marks, and answers as before in either case.
     ///
     /// It begins to merge the last two runs beside one another that are of a like size, where there are such: that takes the places of
-    /// both. Where memory for these is refused, it counts the refusal, and the two stay.
-    pub fn reserve(&mut self, marks: &Marks) -> Result<(), Memory>
+    /// both. Where memory for these is refused, it counts the refusal, and the two stay. Where they have more than `SWEPT_MAX` steps
+    /// together, they are merged only where no transaction is active that began between their numbers: then each is freed in steps, and
+    /// neither is ever swept. The active ones began at these numbers, or at the last number or later.
+    pub fn reserve(
+        &mut self,
+        marks: &Marks,
+        begins: &ArrayVec<u64, BEGINS_MAX>,
+    ) -> Result<(), Memory>
         ensures readers { AnswerAlike self.old.readers self.new.readers }
-        ensures tried { IsTried (are_alike self.old.readers.oldest) self.old.runs self.new.runs self.old.refused
-            self.new.refused }
+        ensures tried { IsTried (become_one begins.now.items self.old.readers.oldest) self.old.runs self.new.runs
+            self.old.refused self.new.refused }
         ensures room { OnOk result (HasReadersRoom marks.now self.new.room) }
     {
-        self.runs.reserve(self.oldest)?;
+        self.runs.reserve(begins, self.oldest)?;
         let steps = steps_of(self.runs.allocator(), marks.as_slice())?;
         self.ready = Some(Ready { steps });
         Ok(())
@@ -157,7 +165,7 @@ impl LastReaders {
         ensures moved { AddsRunAndMerges n self.old self.new }
     {
         let count = self.add_ready(n);
-        self.runs.move_on(self.oldest, &(), count);
+        self.runs.move_on(self.oldest, &ArrayVec::new(), count);
     }
 
     /// Forgets the last readers with numbers up to `oldest`: to such keys it answers from then on that there is none. Of what stands in the

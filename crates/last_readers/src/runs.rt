@@ -4,7 +4,7 @@ ghost use Rattle.std.specs.VecDeque.{deque_len, deque_capacity};
 ghost use Rattle.last_readers.specs.Readers.{IsWithRun, greatest_at};
 ghost use Rattle.last_readers.specs.Steps.{cut, is_named_in, is_run_from};
 ghost use Rattle.last_readers.specs.Inside.{run_of, runs_in, steps_count, read_run_size};
-ghost use Rattle.merging_runs.specs.RunSizes.{are_alike};
+ghost use Rattle.last_readers.specs.Alike.{are_outside, become_one};
 ghost use Rattle.last_readers.specs.Merging.{IsMade};
 ghost use Rattle.last_readers.specs.Agreeing.{ReadersAgree, readers_agree_between, run_from_later, no_old_readers};
 ghost use Rattle.std.proofs.Common.{refl, ◌∙◌};
@@ -14,11 +14,27 @@ use crate::naming::next_named;
 use crate::run::ReadRun;
 use crate::step::Step;
 use crate::sweeping::{number_in_force, sweep};
+use arrayvec::ArrayVec;
 use merging_runs::{Run, Runs};
 use model::KeyRef;
 use std::alloc::Global;
 use std::collections::VecDeque;
 use std::mem;
+
+/// The most begin numbers that are named.
+pub const BEGINS_MAX: usize = 64;
+
+// The most steps of a run that may hold what is forgotten beside what isn't, since it is swept at once.
+const SWEPT_MAX: usize = 16_384;
+
+// Does none of these numbers part the numbers above `before` from those up to `last`?
+fn are_outside(begins: &[u64], before: u64, last: u64) -> bool
+    ensures { result ≡ are_outside begins.now before last }
+{
+    begins
+        .iter()
+        .all(|begin| *begin <= before || last <= *begin)
+}
 
 // The greatest number that a run has at the key, where it is above `begin`. Runs without such a number are passed over.
 pub(crate) fn greatest_in(runs: &[ReadRun], key: KeyRef<'_>, begin: u64) -> u64
@@ -62,7 +78,8 @@ impl Run for ReadRun {
 
     type Stale = (VecDeque<Step>, VecDeque<Step>, VecDeque<Step>);
 
-    type Active = ();
+    // the numbers with which active transactions began
+    type Active = ArrayVec<u64, BEGINS_MAX>;
 
     ghost sizes = { read_run_size };
 
@@ -85,7 +102,7 @@ impl Run for ReadRun {
 
     ghost heaviest = { 1 };
 
-    ghost alike = { are_alike };
+    ghost alike = { λ begins. become_one begins.items };
 
     ghost makes = { λ rs active o old new. IsMade o new.first.items new.second.items old.made.items new.made.items };
 
@@ -120,11 +137,19 @@ impl Run for ReadRun {
         are_empty(&self.first, &self.second)
     }
 
-    fn is_alike(&self, second: &ReadRun, oldest: u64) -> bool {
+    fn is_alike(
+        &self,
+        second: &ReadRun,
+        begins: &ArrayVec<u64, BEGINS_MAX>,
+        oldest: u64,
+        before: u64,
+    ) -> bool {
         oldest < self.last
             && self.is_at_rest()
             && second.is_at_rest()
             && self.made.len() / 2 <= second.made.len()
+            && (self.made.len().saturating_add(second.made.len()) <= SWEPT_MAX
+                || are_outside(begins.as_slice(), oldest.max(before), second.last))
     }
 
     fn places_for(alloc: Global, first: &ReadRun, second: &ReadRun) -> Option<VecDeque<Step>> {
@@ -152,7 +177,7 @@ impl Run for ReadRun {
     }
 
     // What a run says of a key is needed whatever the earlier ones say.
-    fn move_one(&mut self, _earlier: &[ReadRun], oldest: u64, _active: &()) {
+    fn move_one(&mut self, _earlier: &[ReadRun], oldest: u64, _begins: &ArrayVec<u64, BEGINS_MAX>) {
         move_greatest(&mut self.first, &mut self.second, &mut self.made, oldest);
         free_room(&mut self.first, &mut self.second);
     }

@@ -9,7 +9,8 @@ use Rattle.std.proofs.lemmas.List.{get_or_at, get_or_read, length-map}
 use Rattle.std.proofs.lemmas.List.{length-take-le, map-append, nil_from_length, set_at, take-append-drop, take_more}
 use Rattle.std.specs.List.{remove}
 use Rattle.std.specs.Prelude.{◌||◌}
-use Rattle.merging_runs.specs.RunSizes.{AreNoLonger, RunSize, left_above, has_alike, joined, IsBegun, lasts_of}
+use Rattle.merging_runs.specs.RunSizes.{AreNoLonger, RunSize, left_above, has_alike, joined, last_after, IsBegun}
+use Rattle.merging_runs.specs.RunSizes.{lasts_of}
 use Rattle.merging_runs.specs.RunSizes.{whole_of}
 
 -- ---- two runs beside one another
@@ -18,16 +19,15 @@ use Rattle.merging_runs.specs.RunSizes.{whole_of}
 pub same_run : {R : Type 0} (rs : List R) (i : ℕ) (a b : R) → i < length rs → a ≡ get_or rs i a → b ≡ get_or rs i b → a ≡ b
 same_run rs i a b lt h g = get_or_read rs i a lt h b ∙ sym g
 
--- `is` stands in the place of `first` and `second`
-pub record IsOneOfTwo {R : Type 0} (rs new : List R) (first second is : R) : Type 0 where
-  pub earlier : List R
+-- `is` stands in the place of `first` and `second`, behind these earlier runs
+pub record IsOneOfTwo {R : Type 0} (earlier rs new : List R) (first second is : R) : Type 0 where
   pub later : List R
   pub was : rs ≡ earlier ++ (first ∷ second ∷ later)
   pub now : new ≡ earlier ++ (is ∷ later)
 
 pub one_of_two : {R : Type 0} (rs left : List R) (i j : ℕ) (a first second is : R) → i ≡ suc j → i < length rs → a ≡ get_or rs j a → left ≡ remove rs i
     → second ≡ get_or rs i second → first ≡ get_or left j first
-    → (first ≡ a) × IsOneOfTwo rs (set left j is) first second is
+    → (first ≡ a) × IsOneOfTwo (take j rs) rs (set left j is) first second is
 one_of_two {R} rs left i j a first second is next lt a_is without second_is first_is =
     let front = take j rs in
     let behind = drop (suc i) rs in
@@ -39,7 +39,6 @@ one_of_two {R} rs left i j a first second is next lt a_is without second_is firs
     let same : first ≡ a = first_is ∙ ap (λ (l : List R). get_or l j first) out ∙ get_or_at front a behind first j at in (
       same,
       record {
-        earlier = front;
         later = behind;
         was = sym (take-append-drop i rs) ∙ (λ k. taken k ++ rest k) ∙ append_assoc front (a ∷ []) (second ∷ behind)
             ∙ ap (λ r. front ++ r ∷ second ∷ behind) (sym same);
@@ -48,48 +47,67 @@ one_of_two {R} rs left i j a first second is next lt a_is without second_is firs
     )
 
 -- they are alike
-pub begun : {R : Type 0} (size : R → RunSize) (alike : RunSize → RunSize → Bool) (rs new : List R) (first second is : R) → IsOneOfTwo rs new first second is
-    → alike (size first) (size second) ≡ true → size is ≡ joined (size first) (size second)
+pub begun : {R : Type 0} (size : R → RunSize) (alike : ℕ → RunSize → RunSize → Bool) (earlier rs new : List R) (first second is : R)
+    → IsOneOfTwo earlier rs new first second is → alike (last_after 0 (map size earlier)) (size first) (size second) ≡ true
+    → size is ≡ joined (size first) (size second)
     → IsBegun alike (map size rs) (map size new)
-begun size alike rs new first second is at are whole = record {
-  earlier = map size at.earlier;
+begun size alike earlier rs new first second is at are whole = record {
+  earlier = map size earlier;
   first = size first;
   second = size second;
   later = map size at.later;
   are = are;
-  was = ap (map size) at.was ∙ map-append size at.earlier (first ∷ second ∷ at.later);
-  is = ap (map size) at.now ∙ map-append size at.earlier (is ∷ at.later) ∙ ap (λ s. map size at.earlier ++ s ∷ map size at.later) whole;
+  was = ap (map size) at.was ∙ map-append size earlier (first ∷ second ∷ at.later);
+  is = ap (map size) at.now ∙ map-append size earlier (is ∷ at.later) ∙ ap (λ s. map size earlier ++ s ∷ map size at.later) whole;
 }
 
 -- they aren't alike
-pub unlike_at : {R : Type 0} (size : R → RunSize) (alike : RunSize → RunSize → Bool) (rs : List R) (i j : ℕ) (first second : R) → i ≡ suc j → i < length rs
-    → first ≡ get_or rs j first → second ≡ get_or rs i second
-    → alike (size first) (size second) ≡ false → has_alike alike (take 2 (drop j (map size rs))) ≡ false
-unlike_at {R} size alike rs i j first second next lt first_is second_is unlike =
+pub unlike_at : {R : Type 0} (size : R → RunSize) (alike : ℕ → RunSize → RunSize → Bool) (before : ℕ) (rs : List R) (i j : ℕ) (first second : R) → i ≡ suc j
+    → i < length rs → first ≡ get_or rs j first → second ≡ get_or rs i second
+    → alike before (size first) (size second) ≡ false → has_alike alike before (take 2 (drop j (map size rs))) ≡ false
+unlike_at {R} size alike before rs i j first second next lt first_is second_is unlike =
     let one = drop-cons rs j first (omega arith) in
     let two = drop-cons rs (suc j) second (omega arith) in
-    let at = ap (λ (l : List R). has_alike alike (take 2 (map size l))) (one ∙ ap (λ l. get_or rs j first ∷ l) two) in
-    ap (λ l. has_alike alike (take 2 l)) (drop-map size j rs) ∙ at
-    ∙ (λ k. alike (size (sym first_is k)) (size (sym (rw next at second_is) k)) || (false || false)) ∙ ap (λ b. b || (false || false)) unlike
+    let at = ap (λ (l : List R). has_alike alike before (take 2 (map size l))) (one ∙ ap (λ l. get_or rs j first ∷ l) two) in
+    ap (λ l. has_alike alike before (take 2 l)) (drop-map size j rs) ∙ at
+    ∙ (λ k. alike before (size (sym first_is k)) (size (sym (rw next at second_is) k)) || (false || false)) ∙ ap (λ b. b || (false || false)) unlike
+
+-- the last number before a place: that of the run before it
+pub last_taken : {R : Type 0} (size : R → RunSize) (rs : List R) (i : ℕ) (a : R) (n : ℕ) → i < length rs → a ≡ get_or rs i a
+    → last_after n (take (suc i) (map size rs)) ≡ (size a).last
+last_taken size [] i a n lt at = absurd (omega arith)
+last_taken size (q ∷ rs) zero a n lt at = ap (λ r. (size r).last) (sym at)
+last_taken size (q ∷ rs) (suc i) a n lt at = last_taken size rs i a (size q).last (omega arith) at
+
+-- that before the next place
+last_next : (rs : List RunSize) (j n : ℕ) → last_after n (take (suc j) rs) ≡ last_after (last_after n (take j rs)) (take 1 (drop j rs))
+last_next [] zero n = refl
+last_next [] (suc j) n = refl
+last_next (q ∷ rs) zero n = refl
+last_next (q ∷ rs) (suc j) n = last_next rs j q.last
 
 -- nor are two of those behind them
-pub unlike_from : (alike : RunSize → RunSize → Bool) (rs : List RunSize) (i j : ℕ) → i ≡ suc j → has_alike alike (take 2 (drop j rs)) ≡ false
-    → has_alike alike (drop i rs) ≡ false → has_alike alike (drop j rs) ≡ false
+pub unlike_from : (alike : ℕ → RunSize → RunSize → Bool) (rs : List RunSize) (i j : ℕ) → i ≡ suc j
+    → has_alike alike (last_after 0 (take j rs)) (take 2 (drop j rs)) ≡ false
+    → has_alike alike (last_after 0 (take i rs)) (drop i rs) ≡ false → has_alike alike (last_after 0 (take j rs)) (drop j rs) ≡ false
 unlike_from alike rs i j next here behind =
     let more : j + 1 ≡ i = omega arith in
-    by (drop j rs) here (ap (has_alike alike) (drop-drop 1 j rs ∙ ap (λ n. drop n rs) more) ∙ behind)
+    let before : last_after (last_after 0 (take j rs)) (take 1 (drop j rs)) ≡ last_after 0 (take i rs) =
+    sym (last_next rs j 0) ∙ ap (λ n. last_after 0 (take n rs)) (sym next) in
+    by (last_after 0 (take j rs)) (drop j rs) here ((λ k. has_alike alike (before k) ((drop-drop 1 j rs ∙ ap (λ n. drop n rs) more) k)) ∙ behind)
   where
-    by : (rs : List RunSize) → has_alike alike (take 2 rs) ≡ false → has_alike alike (drop 1 rs) ≡ false → has_alike alike rs ≡ false
-    by [] h g = refl
-    by (q ∷ []) h g = refl
-    by (q ∷ p ∷ l) h g = grind arith
+    by : (b : ℕ) (l : List RunSize) → has_alike alike b (take 2 l) ≡ false → has_alike alike (last_after b (take 1 l)) (drop 1 l) ≡ false
+        → has_alike alike b l ≡ false
+    by b [] h g = refl
+    by b (q ∷ []) h g = refl
+    by b (q ∷ p ∷ l) h g = grind arith
 
 -- of one run there are no two
-pub none_alike : {R : Type 0} (size : R → RunSize) (alike : RunSize → RunSize → Bool) (rs : List R) (i : ℕ) → length rs ≤ i + 1
-    → has_alike alike (drop i (map size rs)) ≡ false
-none_alike size alike [] i le = ap (has_alike alike) (drop-nil i)
-none_alike size alike (q ∷ rs) zero le = ap (λ l. has_alike alike (size q ∷ map size l)) (nil_from_length rs (omega arith))
-none_alike size alike (q ∷ rs) (suc i) le = none_alike size alike rs i (omega arith)
+pub none_alike : {R : Type 0} (size : R → RunSize) (alike : ℕ → RunSize → RunSize → Bool) (before : ℕ) (rs : List R) (i : ℕ) → length rs ≤ i + 1
+    → has_alike alike before (drop i (map size rs)) ≡ false
+none_alike size alike before [] i le = ap (has_alike alike before) (drop-nil i)
+none_alike size alike before (q ∷ rs) zero le = ap (λ l. has_alike alike before (size q ∷ map size l)) (nil_from_length rs (omega arith))
+none_alike size alike before (q ∷ rs) (suc i) le = none_alike size alike before rs i (omega arith)
 
 -- ---- what is left to move
 
@@ -190,8 +208,9 @@ module _ {R : Type 0} (agree : List R → List R → Type 0) (between : (front x
   placed front xs ys behind rs new was now same =
       subst (λ (l : List R). agree l rs) (sym now) (subst (λ (l : List R). agree (front ++ (xs ++ behind)) l) (sym was) (between front xs ys behind same))
 
-  pub one_agrees : (rs new : List R) (first second is : R) → IsOneOfTwo rs new first second is → agree (is ∷ []) (first ∷ second ∷ []) → agree new rs
-  one_agrees rs new first second is at = placed at.earlier (is ∷ []) (first ∷ second ∷ []) at.later rs new at.was at.now
+  pub one_agrees : (earlier rs new : List R) (first second is : R) → IsOneOfTwo earlier rs new first second is → agree (is ∷ []) (first ∷ second ∷ [])
+      → agree new rs
+  one_agrees earlier rs new first second is at = placed earlier (is ∷ []) (first ∷ second ∷ []) at.later rs new at.was at.now
 
   whole : (rs : List R) (i : ℕ) (was : R) → i < length rs → was ≡ get_or rs i was → rs ≡ take i rs ++ (was ∷ drop (suc i) rs)
   whole rs i was lt at = sym (take-append-drop i rs) ∙ ap (λ l. take i rs ++ l) (drop-cons rs i was lt ∙ ap (λ r. r ∷ drop (suc i) rs) (sym at))

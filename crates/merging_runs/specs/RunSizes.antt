@@ -25,14 +25,20 @@ pub record LeavesMerges (o : ℕ) (old new : List RunSize) (was is : ℕ) : Type
 abbrev pub are_alike : ℕ → RunSize → RunSize → Bool
 are_alike o r s = nat_lt o r.last && (r.left == 0 && (s.left == 0 && nat_le r.made (2 * s.made + 1)))
 
-abbrev pub starts_alike : (RunSize → RunSize → Bool) → RunSize → List RunSize → Bool
-starts_alike alike r [] = false
-starts_alike alike r (s ∷ ss) = alike r s
+-- the last number of the last of the runs, and that one where there is none
+abbrev pub last_after : ℕ → List RunSize → ℕ
+last_after n [] = n
+last_after n (r ∷ rs) = last_after r.last rs
+
+-- Whether two runs are alike may go by the last number before them.
+abbrev pub starts_alike : (ℕ → RunSize → RunSize → Bool) → ℕ → RunSize → List RunSize → Bool
+starts_alike alike before r [] = false
+starts_alike alike before r (s ∷ ss) = alike before r s
 
 -- whether two runs beside one another are alike
-abbrev pub has_alike : (RunSize → RunSize → Bool) → List RunSize → Bool
-has_alike alike [] = false
-has_alike alike (r ∷ rs) = starts_alike alike r rs || has_alike alike rs
+abbrev pub has_alike : (ℕ → RunSize → RunSize → Bool) → ℕ → List RunSize → Bool
+has_alike alike before [] = false
+has_alike alike before (r ∷ rs) = starts_alike alike before r rs || has_alike alike r.last rs
 
 -- the run that is to be made of both
 abbrev pub joined : RunSize → RunSize → RunSize
@@ -45,12 +51,12 @@ pub record IsSwept (old new : RunSize) : Type 0 where
   pub made : new.made ≤ old.made
 
 -- of two runs beside one another that are alike one is being made
-pub record IsBegun (alike : RunSize → RunSize → Bool) (old new : List RunSize) : Type 0 where
+pub record IsBegun (alike : ℕ → RunSize → RunSize → Bool) (old new : List RunSize) : Type 0 where
   pub earlier : List RunSize
   pub first : RunSize
   pub second : RunSize
   pub later : List RunSize
-  pub are : alike first second ≡ true
+  pub are : alike (last_after 0 earlier) first second ≡ true
   pub was : old ≡ earlier ++ first ∷ second ∷ later
   pub is : new ≡ earlier ++ joined first second ∷ later
 
@@ -59,16 +65,17 @@ abbrev pub one_refusal_more : ℕ → ℕ
 one_refusal_more refused = min (refused + 1) (2 ^ 64 - 1)
 
 -- a merge was begun, or memory for it was refused, which is counted
-abbrev pub IsEnded : (RunSize → RunSize → Bool) → List RunSize → List RunSize → ℕ → ℕ → Type 0
+abbrev pub IsEnded : (ℕ → RunSize → RunSize → Bool) → List RunSize → List RunSize → ℕ → ℕ → Type 0
 IsEnded alike old new was is = (IsBegun alike old new × (is ≡ was)) ⊎ ((new ≡ old) × (is ≡ one_refusal_more was))
 
 -- so it is where that is true
-abbrev pub EndsIf : Bool → (RunSize → RunSize → Bool) → List RunSize → List RunSize → ℕ → ℕ → Type 0
+abbrev pub EndsIf : Bool → (ℕ → RunSize → RunSize → Bool) → List RunSize → List RunSize → ℕ → ℕ → Type 0
 EndsIf b alike old new was is = b ≡ true → IsEnded alike old new was is
 
 -- the same, or no two runs beside one another are alike
-abbrev pub IsTried : (RunSize → RunSize → Bool) → List RunSize → List RunSize → ℕ → ℕ → Type 0
-IsTried alike old new was is = IsEnded alike old new was is ⊎ ((has_alike alike old ≡ false) × (new ≡ old) × (is ≡ was))
+abbrev pub IsTried : (ℕ → RunSize → RunSize → Bool) → List RunSize → List RunSize → ℕ → ℕ → Type 0
+IsTried alike old new was is =
+    IsEnded alike old new was is ⊎ ((has_alike alike 0 old ≡ false) × (new ≡ old) × (is ≡ was))
 
 -- the runs, and one of so many elements with that number, where it has any
 abbrev pub with_run : ℕ → ℕ → List RunSize → List RunSize

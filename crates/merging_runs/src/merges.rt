@@ -1,26 +1,47 @@
 //! Merges two neighbouring runs of a similar size, some elements at a time.
-ghost use Rattle.std.specs.Prelude.{◌≡◌, ◌≤◌, ◌<◌, ◌-◌, ◌++◌, ◌&&◌, ℕ, Bool, [], ◌∷◌, true, false, map, nat_le, take};
+ghost use Rattle.std.specs.Prelude.{◌≡◌, ◌≤◌, ◌<◌, ◌-◌, ◌++◌, ◌&&◌, ℕ, Bool, [], ◌∷◌, true, false, length, map};
+ghost use Rattle.std.specs.Prelude.{nat_le, take};
 ghost use Rattle.std.specs.Prelude.{drop};
 ghost use Rattle.std.specs.Vec.{vec_len};
 ghost use Rattle.merging_runs.specs.MadeRuns.{AreMade, IsMade, MakesOne};
 ghost use Rattle.merging_runs.specs.RunSizes.{AreMerged, EndsIf, IsMerged, IsMoved, IsTried, RestsFrom, has_alike};
+ghost use Rattle.merging_runs.specs.RunSizes.{last_after};
 
 use crate::run::Run;
 
+// The last number of the run before the place, 0 where there is none.
+fn last_before<R: Run>(runs: &[R], place: usize) -> u64
+    requires { place ≤ length runs.now }
+    ensures { result ≡ last_after 0 (take place (map R.sizes runs.now)) }
+{
+    if place == 0 {
+        return 0;
+    }
+    runs[place - 1].last()
+}
+
 // Begins to make one run of that at the place and the one before it, where they are alike. It takes memory; where that is refused, it
 // counts the refusal, and the runs stay. Are they alike?
-fn open_at<R: Run>(runs: &mut Vec<R>, place: usize, oldest: u64, refused: &mut u64) -> bool
+fn open_at<R: Run>(
+    runs: &mut Vec<R>,
+    place: usize,
+    active: &R::Active,
+    oldest: u64,
+    refused: &mut u64,
+) -> bool
     requires some { 0 < place }
     requires within { place < vec_len runs.old }
     ensures agree { (begins : ℕ → Bool) → R.agree begins runs.new.items runs.old.items }
-    ensures alike { EndsIf result (R.alike oldest) (map R.sizes runs.old.items) (map R.sizes runs.new.items) refused.old
-        refused.new }
+    ensures alike { EndsIf result (R.alike active.now oldest) (map R.sizes runs.old.items) (map R.sizes runs.new.items)
+        refused.old refused.new }
     ensures none { result ≡ false
-        → has_alike (R.alike oldest) (take 2 (drop (place - 1) (map R.sizes runs.old.items))) ≡ false }
+        → has_alike (R.alike active.now oldest) (last_after 0 (take (place - 1) (map R.sizes runs.old.items)))
+        (take 2 (drop (place - 1) (map R.sizes runs.old.items))) ≡ false }
     ensures stays { result ≡ false → runs.new ≡ runs.old }
     ensures refused { result ≡ false → refused.new ≡ refused.old }
 {
-    if !runs[place - 1].is_alike(&runs[place], oldest) {
+    let before = last_before(runs, place - 1);
+    if !runs[place - 1].is_alike(&runs[place], active, oldest, before) {
         return false;
     }
     let alloc = *runs.allocator();
@@ -35,14 +56,19 @@ fn open_at<R: Run>(runs: &mut Vec<R>, place: usize, oldest: u64, refused: &mut u
 
 // Begins to make one run of the last two beside one another that are alike. It takes memory; where that is refused, it counts the refusal,
 // and the runs stay.
-pub(crate) fn open_last<R: Run>(runs: &mut Vec<R>, oldest: u64, refused: &mut u64)
+pub(crate) fn open_last<R: Run>(
+    runs: &mut Vec<R>,
+    active: &R::Active,
+    oldest: u64,
+    refused: &mut u64,
+)
     ensures agree { (begins : ℕ → Bool) → R.agree begins runs.new.items runs.old.items }
-    ensures tried { IsTried (R.alike oldest) (map R.sizes runs.old.items) (map R.sizes runs.new.items) refused.old
-        refused.new }
+    ensures tried { IsTried (R.alike active.now oldest) (map R.sizes runs.old.items) (map R.sizes runs.new.items)
+        refused.old refused.new }
 {
     for after in 1..runs.len() {
         let place = runs.len() - after;
-        if open_at(runs, place, oldest, refused) {
+        if open_at(runs, place, active, oldest, refused) {
             return;
         }
     }

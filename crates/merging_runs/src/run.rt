@@ -48,8 +48,9 @@ pub trait Run: Drop {
     /// How much it is at most.
     ghost heaviest: { ℕ };
 
-    /// Whether two runs are of a like size, where nothing is asked of the numbers up to that one.
-    ghost alike: { ℕ → RunSize → RunSize → Bool };
+    /// Whether two runs are to become one: they are of a like size. It may go by who may still ask, the number up to which nothing is
+    /// asked, and the last number before the two.
+    ghost alike: { Self.Active → ℕ → ℕ → RunSize → RunSize → Bool };
 
     /// What a move may make of a run that stands behind others, where those may still ask, and nothing is asked of the numbers up to that
     /// one.
@@ -78,9 +79,9 @@ pub trait Run: Drop {
     fn next_number(&self, found: Option<u64>, n: u64) -> Option<u64>
         ensures { (p : ℕ → Bool) → IsNext p n found → IsNext (λ k. p k || has self.now k) n result };
 
-    /// Are this and a later one of a like size? Takes no memory.
-    fn is_alike(&self, second: &Self, oldest: u64) -> bool
-        ensures alike { result ≡ alike oldest (sizes self.now) (sizes second.now) }
+    /// Are this and a later one to become one, where this is the last number before them? Takes no memory.
+    fn is_alike(&self, second: &Self, active: &Self::Active, oldest: u64, before: u64) -> bool
+        ensures alike { result ≡ alike active.now oldest before (sizes self.now) (sizes second.now) }
         ensures first { result ≡ true → (sizes self.now).left ≡ 0 }
         ensures second { result ≡ true → (sizes second.now).left ≡ 0 };
 

@@ -113,15 +113,17 @@ impl<R: Run> Runs<R> {
         *self.runs.allocator()
     }
 
-    /// Makes room for one more run, and begins to merge the last two runs beside one another that are of a like size, where there are such.
+    /// Makes room for one more run, and begins to merge the last two runs beside one another that are of a like size, where there are such
+    /// that may become one by who is active.
     /// Where memory for the merge is refused, it counts the refusal, and these two stay. `AllocError` where memory for the place of the run
     /// is refused. The runs answer as they did in each case. It takes the places of a run for the merge, and looks at each run.
-    pub fn reserve(&mut self, oldest: u64) -> Result<(), AllocError>
+    pub fn reserve(&mut self, active: &R::Active, oldest: u64) -> Result<(), AllocError>
         ensures agree { (begins : ℕ → Bool) → R.agree begins self.new.runs self.old.runs }
-        ensures tried { IsTried (R.alike oldest) self.old.sizes self.new.sizes self.old.refused self.new.refused }
+        ensures tried { IsTried (R.alike active.now oldest) self.old.sizes self.new.sizes self.old.refused
+            self.new.refused }
         ensures room { OnOk result (0 < self.new.places) }
     {
-        open_last(&mut self.runs, oldest, &mut self.refused);
+        open_last(&mut self.runs, active, oldest, &mut self.refused);
         self.runs.reserve(1)
     }
 

@@ -6,8 +6,8 @@ use Rattle.pivot_check.specs.Kept.{CommittedValue}
 use Rattle.pivot_check.specs.declared.merges.TheConstants.{MERGED_MAX, SEARCHING_WORK}
 
 -- two runs of a like size, not too long for one
-abbrev pub fit_one : ℕ → RunSize → RunSize → Bool
-fit_one o r s = are_alike o r s && nat_le (r.made + s.made) MERGED_MAX
+abbrev pub fit_one : ℕ → ℕ → RunSize → RunSize → Bool
+fit_one o before r s = are_alike o r s && nat_le (r.made + s.made) MERGED_MAX
 
 -- two runs of a like size beside one another are being made one, or memory for that was refused, which is counted, or
 -- there are no such two

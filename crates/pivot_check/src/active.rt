@@ -5,9 +5,7 @@ ghost use Rattle.pivot_check.specs.Active.{reach_of};
 ghost use Rattle.pivot_check.specs.Redundant.{is_undivided};
 
 use arrayvec::ArrayVec;
-
-/// The most begin numbers that are named.
-const BEGINS_MAX: usize = 64;
+use last_readers::BEGINS_MAX;
 
 /// Who may still ask: one who began at one of `begins`, or at `since` or later.
 #[derive(Drop)]

@@ -4,7 +4,7 @@ ghost use Rattle.std.specs.List.{AllByRecursion};
 ghost use Rattle.model.specs.History.{Record};
 ghost use Rattle.merging_runs.specs.Contents.{size_in};
 ghost use Rattle.merging_runs.specs.Next.{IsNext};
-ghost use Rattle.pivot_check.specs.declared.active.TheConstants.{BEGINS_MAX};
+ghost use Rattle.last_readers.specs.declared.runs.TheConstants.{BEGINS_MAX};
 ghost use Rattle.pivot_check.specs.Merged.{AddsWrittenRun, AreMoved, AreMovedWith, IsTriedIn};
 ghost use Rattle.pivot_check.specs.Kept.{Forgets, HasForgotten, HasRoom, IsEmpty, IsStep};
 ghost use Rattle.pivot_check.specs.Kept.{IsInReach, KeepsNoneUpto, KeepsReach, LeavesMergesOf, asked_from, is_kept};
@@ -225,8 +225,9 @@ impl Committed {
         ensures tried { IsTriedIn self.old self.new }
         ensures room { OnOk result (HasRoom self.new.room transaction.now) }
     {
-        self.runs.reserve(self.oldest)?;
-        self.readers.reserve(transaction.marks())?;
+        self.runs.reserve(&self.active, self.oldest)?;
+        let begins = &self.active.begins;
+        self.readers.reserve(transaction.marks(), begins)?;
         self.ready = Some(Ready::for_commit(self.runs.allocator(), transaction)?);
         Ok(())
     }

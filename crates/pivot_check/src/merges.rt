@@ -112,7 +112,7 @@ impl Run for WrittenRun {
 
     ghost heaviest = { SEARCHING_WORK };
 
-    ghost alike = { fit_one };
+    ghost alike = { λ active. fit_one };
 
     // of what a move leaves none is redundant
     ghost makes = { λ earlier active o old new. LeavesNeeded (reach_of active) earlier old new };
@@ -152,7 +152,13 @@ impl Run for WrittenRun {
     }
 
     // Two runs that would be too long for one are not.
-    fn is_alike(&self, second: &WrittenRun, oldest: u64) -> bool {
+    fn is_alike(
+        &self,
+        second: &WrittenRun,
+        _active: &ActiveBegins,
+        oldest: u64,
+        _before: u64,
+    ) -> bool {
         oldest < self.last
             && self.is_at_rest()
             && second.is_at_rest()

@@ -3,6 +3,7 @@ ghost use Rattle.std.specs.Prelude.{◌≤◌};
 ghost use Rattle.last_readers.specs.Readers.{AreUpto};
 
 use crate::helpers::key;
+use arrayvec::ArrayVec;
 use last_readers::LastReaders;
 use marks::{Marks, MarksFault};
 use model::{KeyRef, RangeRef};
@@ -30,7 +31,9 @@ impl Commits {
     fn commit<R: Abort>(&mut self, rt: &R, marks: &Marks) -> u64 {
         assert!(rt; self.last < u64::MAX);
         let number = self.last + 1;
-        self.readers.reserve(marks).expect(rt, "memory");
+        self.readers
+            .reserve(marks, &ArrayVec::new())
+            .expect(rt, "memory");
         self.readers.note(number);
         self.last = number;
         number
