@@ -418,7 +418,7 @@ def spread(some):
 def apart_rounds(count, rounds):
     """So many scattered keys, where a long merge looks into runs among whose keys those of the merge stand far apart, and finds none of them there.
 
-    Keys of a part of the map are written first, a fourth of them for each of the runs, spread over the part. Then come the others: mostly those behind
+    Keys of a part of the map are written first, a part of them for each of the runs, spread over the part. Then come the others: mostly those behind
     the part, and some that lie within it. Later rounds write these again."""
     keys = sorted(map(scattered, range(count)))
     first = min(EARLIER_RUNS * LONG_RUN, count * 3 // 5)

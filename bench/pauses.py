@@ -5,15 +5,15 @@
     bench/pauses.py --table FILE.. | --waits FILE..
 
 One client sends PING each millisecond, from a process of its own, during: a random load; everything written again while an old transaction is open,
-and the end of that one; the COMMIT of one with 256 ranges and 64 writes after everything was written again; the end of the younger of two old
-ones; one key written again and again while many lists of older versions are left; a queue with an old reader; half of the keys deleted, and
-ranges over them; ranges over keys that were deleted at their begin and are set again; 256 ranges over a run of written keys that straddles the
-begin, side by side and each within the next; many COMMITs that have read all that was written before their begin; 60 clients with the largest
-RANGEs, and with such of a quarter of the bytes; 128 connections coming and going; the first long reply after an old transaction, whose versions
-were freed; 16 clients that read and 16 that write, where a sync takes 1 ms; 60 clients that send whole transactions in one piece, all at once. Three
-more are crowds, whose requests all stand ready in one turn: COMMITs of 1 MiB, COMMITs of old transactions, and RANGEs over keys most of which were
-deleted. Two more last: everything written again four times while a transaction stays open, in random order, and where the keys of long merges stand
-far apart in earlier runs. Each has a server of its own over a data file in memory (--folder).
+and the end of that one; the COMMIT of one with 256 ranges and 64 writes after everything was written again; the end of the younger of two old ones;
+the end of the older of two after others have read everything; one key written again and again while many lists of older versions are left; a queue
+with an old reader; half of the keys deleted, and ranges over them; ranges over keys that were deleted at their begin and are set again; 256 ranges
+over a run of written keys that straddles the begin, side by side and each within the next; many COMMITs that have read all that was written before
+their begin; 60 clients with the largest RANGEs, and with such of a quarter of the bytes; 128 connections coming and going; the first long reply after
+an old transaction, whose versions were freed; 16 clients that read and 16 that write, where a sync takes 1 ms; 60 clients that send whole
+transactions in one piece, all at once. Three more are crowds, whose requests all stand ready in one turn: COMMITs of 1 MiB, COMMITs of old
+transactions, and RANGEs over keys most of which were deleted. Two more last: everything written again four times while a transaction stays open, in
+random order, and where the keys of long merges stand far apart in earlier runs. Each has a server of its own over a data file in memory (--folder).
 
 The figures of each: the median of the waits, what all but one in a thousand stay below, the longest; the longest CPU time of the server
 between the return of a poll and the next, and of all together; of the longest what was the system's, and how many pages of memory it provided; the

@@ -36,6 +36,7 @@ QUICK_MS = {
     "the end of that transaction": 28,
     "the COMMIT of one with 256 ranges and 64 writes, after everything was written again": 32,
     "the end of the younger of two old ones": 56,
+    "the end of the older of two, after others have read everything": 4,
     "one key written again and again, while many lists of older versions are left": 2,
     "a queue with an old reader": 16,
     "half of the keys deleted, and ranges over them": 3,
@@ -56,7 +57,7 @@ LONG_MS = {
     "60 COMMITs of ones with 256 ranges and 64 writes, after everything was written again, all in one turn": 12,
     "60 clients with 21 RANGEs of 128 over keys of which one in 384 is left, all in one turn": 12,
     "everything written again four times, in random order, while a transaction stays open": 6,
-    "the same, where the keys of long merges stand far apart in earlier runs": 24,
+    "the same, where the keys of long merges stand far apart in earlier runs": 12,
 }
 # Where they are judged, the most syncs between two polls: those of one COMMIT.
 SYNCS = {
