@@ -348,9 +348,10 @@ def pictures(tally):
 CONSTANTS = (
     ("versions/src/reclaiming.rt", "LISTS_A_STEP", "looks at # (?:of the )?lists|(?:collects|looks at) what # commits"),
     ("merging_runs/src/runs.rt", "FREED_MAX", "frees # written keys|freed, # keys at each end|does # of (?:the|that) work"),
-    ("merging_runs/src/runs.rt", "WORK_EACH", "by # (?:keys |steps )?for each (?:key|step|written key)"),
-    ("merging_runs/src/runs.rt", "WORK_MORE", "for each (?:key that it wrote|written key|step of its marks) and #"),
-    ("pivot_check/src/merges.rt", "MERGED_MAX", "merged, up to # keys|(?:of|has) # keys at most"),
+    ("merging_runs/src/runs.rt", "MOVES_EACH", "(?:by|makes) # (?:keys |steps |moves )?for each (?:key|step|written key)"),
+    ("merging_runs/src/runs.rt", "MOVES_MORE", "for each (?:key that it wrote|written key|step of its marks) and #"),
+    ("merging_runs/src/merges.rt", "SWEPT_MAX", "merged past # elements"),
+    ("merging_runs/src/merges.rt", "RELEASED_MAX", "for # elements of the longer"),
     ("stream_driver/src/driving.rt", "REQUESTS_MAX", "(?:up to|after) # requests|# requests at most"),
     ("stream_driver/src/driving.rt", "READ_MAX", "reads at most # bytes"),
     ("stream_driver/src/buffered_bytes.rt", "BUFFERED_MAX", "stream holds up to # bytes|a stream of #"),

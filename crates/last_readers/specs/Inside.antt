@@ -21,4 +21,9 @@ steps_count r = deque_len r.first + deque_len r.second + deque_len r.made
 
 -- how far a run is merged
 abbrev pub read_run_size : ReadRun → RunSize
-read_run_size r = record { last = r.last; left = deque_len r.first + deque_len r.second; made = deque_len r.made }
+read_run_size r = record {
+  last = r.last;
+  left = deque_len r.first + deque_len r.second;
+  made = deque_len r.made;
+  room = r.room;
+}

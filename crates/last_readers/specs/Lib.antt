@@ -1,5 +1,4 @@
 pub mod Steps
-pub mod Alike
 pub mod Merging
 pub mod Sweeping
 pub mod Readers

@@ -5,7 +5,7 @@ use Rattle.std.specs.Prelude.{Some, None, IsSome, if◌then◌else◌}
 use Rattle.model.specs.Map.{Bytes}
 use Rattle.model.specs.PrivateCopy.{Mark, is_covered}
 use Rattle.merging_runs.specs.Contents.{Contents, garbage_upto}
-use Rattle.merging_runs.specs.RunSizes.{RunSize, IsMoved, with_run, work_for}
+use Rattle.merging_runs.specs.RunSizes.{RunSize, IsMoved, moves_for, with_run}
 use Rattle.last_readers.specs.Steps.{StepValue, RunValue, cut, is_named_in, is_run_from, number_at, number_in}
 
 -- what is kept: numbers by key in several runs, some of which may be being made of two, those up to `oldest` counting
@@ -92,11 +92,12 @@ ready_len None = 0
 ready_len (Some ss) = length ss
 
 -- The steps that were made ready came with number n as a run, and the merges under way were moved on; a move takes one
--- step, or two of one key. No merge was begun, so no memory for one was refused.
+-- step, or two of one key. Of those that had ended memory was released. No merge was begun, so no memory for one was
+-- refused.
 abbrev pub AddsRunAndMerges : ℕ → LastReadersValue → LastReadersValue → Type 0
 AddsRunAndMerges n old new =
     let count = ready_len old.room.ready in
-    IsMoved 2 1 new.readers.oldest (work_for count) (with_run n count old.runs) new.runs × (new.refused ≡ old.refused)
+    IsMoved 2 new.readers.oldest (moves_for count) (with_run n count old.runs) new.runs × (new.refused ≡ old.refused)
 
 -- the steps that were made ready, so many, came with number n as a run; no memory for a merge was refused
 pub record AddsRun (n count : ℕ) (old new : LastReadersValue) : Type 0 where

@@ -7,8 +7,7 @@ ghost use Rattle.merging_runs.specs.Next.{IsNext};
 ghost use Rattle.last_readers.specs.Readers.{AddsRun, AnswerAlike, AddsRunAndMerges, AreUpto, HasReadersRoom};
 ghost use Rattle.last_readers.specs.Readers.{IsForgotten, IsNoted, HasSomeReadersRoom, NameNoneUpto, if_after};
 ghost use Rattle.last_readers.specs.Readers.{garbage_of_readers, is_named_reader, last_reader};
-ghost use Rattle.last_readers.specs.Alike.{become_one};
-ghost use Rattle.merging_runs.specs.RunSizes.{IsTried, LeavesMerges};
+ghost use Rattle.merging_runs.specs.RunSizes.{IsTried, LeavesMerges, become_one};
 
 use crate::gathering::steps_of;
 use crate::run::{ReadRun, Ready};
@@ -27,7 +26,8 @@ use std::marker::Model;
 /// What is kept stands in runs, each the numbers of commits one after another as steps by rising key. A commit adds a run of its own. Two
 /// runs of a like size are merged: where both have read a key, the greater number alone is left. So the runs are few, and what they hold
 /// is bounded by the keys and the ends of ranges that were read. A merge goes on a few steps with each commit, and answers meanwhile as
-/// both runs do, so that no commit is long; it takes the places of both runs until it has ended.
+/// both runs do, so that no commit is long. It takes the places of both runs until it has ended. From then on the memory of the two is
+/// released, for 4,096 steps of the longer one with each commit.
 #[derive(Drop)]
 pub struct LastReaders {
     runs: Runs<ReadRun>,
@@ -107,10 +107,11 @@ impl LastReaders {
     /// Makes all room that noting these marks takes, so that `note` can't fail: copies of the keys in the marks, and the place of a run.
     /// `Memory` where memory for that is refused. It takes the time of sorting the marks, and answers as before in either case.
     ///
-    /// It begins to merge the last two runs beside one another that are of a like size, where there are such: that takes the places of
-    /// both. Where memory for these is refused, it counts the refusal, and the two stay. Where they have more than `SWEPT_MAX` steps
-    /// together, they are merged only where no transaction is active that began between their numbers: then each is freed in steps, and
-    /// neither is ever swept. The active ones began at these numbers, or at the last number or later.
+    /// It begins to merge the last two runs beside one another that are to become one (`become_one`), where there are such: both are of a
+    /// like size, and neither is being made of two, or has memory of such two to release. That takes the places of both. Where memory
+    /// for these is refused, it counts the refusal, and the two stay. Where they have more than 16,384 steps together, they are merged
+    /// only where no transaction is active that began between their numbers: then each is freed in steps, and neither is ever swept. The
+    /// active ones began at these numbers, or at the last number or later.
     pub fn reserve(
         &mut self,
         marks: &Marks,
@@ -153,7 +154,8 @@ impl LastReaders {
     /// It can't fail: `reserve` made room.
     ///
     /// Then the merges that are under way go on by 16 moves for each step of the marks, and 64, until nothing is left to move. A move takes
-    /// one step, or two of one key. It takes no memory.
+    /// one step, or two of one key. Where nothing is left to move of a run, the memory of the two that it was made of is released, for
+    /// 4,096 steps of the longer one. It takes no memory.
     pub fn note(&mut self, n: u64)
         requires later { self.old.readers.oldest < n }
         requires upto { AreUpto n self.old.readers }

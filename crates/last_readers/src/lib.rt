@@ -7,7 +7,6 @@
 
 mod gathering;
 mod last_readers;
-mod laws;
 mod merging;
 mod naming;
 mod run;
@@ -16,5 +15,4 @@ mod step;
 mod sweeping;
 
 pub use last_readers::LastReaders;
-pub use laws::law_swept_max;
 pub use runs::BEGINS_MAX;

@@ -16,7 +16,8 @@ pub(crate) struct Ready {
 }
 
 /// For each key the number of its last reader among commits that came one after another, a number that none is above, and one that none is
-/// below. It is at rest, with all its steps in `made`, or is being made of two runs. Then it has places for what is left of them.
+/// below. It is at rest, with all its steps in `made`, or is being made of two runs. Then it has places for what is left of them. Once it
+/// is made, the memory of the two is released in parts.
 #[derive(Drop)]
 pub(crate) struct ReadRun {
     pub(crate) last: u64,
@@ -27,9 +28,11 @@ pub(crate) struct ReadRun {
     pub(crate) second: VecDeque<Step>,
     // what was made of their ends
     pub(crate) made: VecDeque<Step>,
+    // for how many steps of the longer of the two the memory is still to be released
+    pub(crate) room: usize,
     ghost first_rises: { IsTrue (steps_rise (first.items ++ made.items)) },
     ghost second_rises: { IsTrue (steps_rise (second.items ++ made.items)) },
-    ghost room: { deque_len first + deque_len second ≤ deque_capacity made - deque_len made },
+    ghost places: { deque_len first + deque_len second ≤ deque_capacity made - deque_len made },
     ghost upto: { (k : Bytes) → merged_at first.items second.items made.items k ≤ last },
     ghost numbers: { IsTrue (are_from earliest first.items second.items made.items) },
 }
@@ -51,6 +54,7 @@ impl ReadRun {
         ensures last { result.last ≡ number }
         ensures left { deque_len result.first + deque_len result.second ≡ 0 }
         ensures made { deque_len result.made ≡ deque_len ready.steps }
+        ensures room { result.room ≡ 0 }
     {
         let Ready { steps: mut made } = ready;
         renumber(&mut made, number);
@@ -61,6 +65,7 @@ impl ReadRun {
             first: VecDeque::new(alloc),
             second: VecDeque::new(alloc),
             made,
+            room: 0,
         }
     }
 

@@ -4,7 +4,6 @@ ghost use Rattle.std.specs.VecDeque.{deque_len, deque_capacity};
 ghost use Rattle.last_readers.specs.Readers.{IsWithRun, greatest_at};
 ghost use Rattle.last_readers.specs.Steps.{cut, is_named_in, is_run_from};
 ghost use Rattle.last_readers.specs.Inside.{run_of, runs_in, steps_count, read_run_size};
-ghost use Rattle.last_readers.specs.Alike.{are_outside, become_one};
 ghost use Rattle.last_readers.specs.Merging.{IsMade};
 ghost use Rattle.last_readers.specs.Agreeing.{ReadersAgree, readers_agree_between, run_from_later, no_old_readers};
 ghost use Rattle.std.proofs.Common.{refl, ◌∙◌};
@@ -23,18 +22,6 @@ use std::mem;
 
 /// The most begin numbers that are named.
 pub const BEGINS_MAX: usize = 64;
-
-// The most steps of a run that may hold what is forgotten beside what isn't, since it is swept at once.
-const SWEPT_MAX: usize = 16_384;
-
-// Does none of these numbers part the numbers above `before` from those up to `last`?
-fn are_outside(begins: &[u64], before: u64, last: u64) -> bool
-    ensures { result ≡ are_outside begins.now before last }
-{
-    begins
-        .iter()
-        .all(|begin| *begin <= before || last <= *begin)
-}
 
 // The greatest number that a run has at the key, where it is above `begin`. Runs without such a number are passed over.
 pub(crate) fn greatest_in(runs: &[ReadRun], key: KeyRef<'_>, begin: u64) -> u64
@@ -59,20 +46,6 @@ pub(crate) fn add_run(runs: &mut Runs<ReadRun>, run: ReadRun)
     runs.push(run);
 }
 
-// Frees the room of the two runs that one is made of, once nothing is left of them.
-fn free_room(first: &mut VecDeque<Step>, second: &mut VecDeque<Step>)
-    ensures first { first.new.items ≡ first.old.items }
-    ensures second { second.new.items ≡ second.old.items }
-    ensures lens { deque_len first.new + deque_len second.new ≡ deque_len first.old + deque_len second.old }
-    ensures room { deque_len first.old + deque_len second.old ≡ 0
-        → deque_capacity first.new + deque_capacity second.new ≡ 0 }
-{
-    if are_empty(first, second) {
-        first.shrink_to_fit();
-        second.shrink_to_fit();
-    }
-}
-
 impl Run for ReadRun {
     type Places = VecDeque<Step>;
 
@@ -91,20 +64,16 @@ impl Run for ReadRun {
 
     ghost has = { λ r. is_named_in (run_of r) };
 
-    ghost room = { λ r. deque_capacity r.first + deque_capacity r.second };
+    ghost capacity = { λ r. deque_capacity r.first + deque_capacity r.second };
 
     ghost fit = { λ n places. (deque_len places ≡ 0) × (n ≤ deque_capacity places) };
 
     // one step, or two of one key
     ghost each = { 2 };
 
-    ghost work_of = { λ _. 1 };
+    ghost begin_numbers = { λ begins. begins.items };
 
-    ghost heaviest = { 1 };
-
-    ghost alike = { λ begins. become_one begins.items };
-
-    ghost makes = { λ rs active o old new. IsMade o new.first.items new.second.items old.made.items new.made.items };
+    ghost makes = { λ active o old new. IsMade o new.first.items new.second.items old.made.items new.made.items };
 
     // a merge drops nothing that someone could ask for
     ghost asks = { λ _ _. true };
@@ -133,23 +102,20 @@ impl Run for ReadRun {
         next_named(&self.made, in_second, n)
     }
 
-    fn is_at_rest(&self) -> bool {
-        are_empty(&self.first, &self.second)
+    fn made(&self) -> usize {
+        self.made.len()
     }
 
-    fn is_alike(
-        &self,
-        second: &ReadRun,
-        begins: &ArrayVec<u64, BEGINS_MAX>,
-        oldest: u64,
-        before: u64,
-    ) -> bool {
-        oldest < self.last
-            && self.is_at_rest()
-            && second.is_at_rest()
-            && self.made.len() / 2 <= second.made.len()
-            && (self.made.len().saturating_add(second.made.len()) <= SWEPT_MAX
-                || are_outside(begins.as_slice(), oldest.max(before), second.last))
+    fn room(&self) -> usize {
+        self.room
+    }
+
+    fn begin_numbers(begins: &ArrayVec<u64, BEGINS_MAX>) -> &[u64] {
+        begins.as_slice()
+    }
+
+    fn is_at_rest(&self) -> bool {
+        are_empty(&self.first, &self.second)
     }
 
     fn places_for(alloc: Global, first: &ReadRun, second: &ReadRun) -> Option<VecDeque<Step>> {
@@ -168,18 +134,20 @@ impl Run for ReadRun {
         } = second;
         self.last = self.last.max(last);
         self.earliest = self.earliest.min(earliest);
+        self.room = self.made.len().max(made.len());
         self.second = made;
         self.first = mem::replace(&mut self.made, places);
     }
 
-    fn work(&self) -> usize {
-        1
+    // What a run says of a key is needed whoever is active.
+    fn move_one(&mut self, oldest: u64, _begins: &ArrayVec<u64, BEGINS_MAX>) {
+        move_greatest(&mut self.first, &mut self.second, &mut self.made, oldest);
     }
 
-    // What a run says of a key is needed whatever the earlier ones say.
-    fn move_one(&mut self, _earlier: &[ReadRun], oldest: u64, _begins: &ArrayVec<u64, BEGINS_MAX>) {
-        move_greatest(&mut self.first, &mut self.second, &mut self.made, oldest);
-        free_room(&mut self.first, &mut self.second);
+    fn release(&mut self, most: usize) {
+        self.room = self.room.saturating_sub(most);
+        self.first.shrink_to(self.room);
+        self.second.shrink_to(self.room);
     }
 
     fn sweep(&mut self, oldest: u64) {
@@ -188,7 +156,6 @@ impl Run for ReadRun {
         let in_force = number_in_force(&self.first, &self.second);
         sweep(&mut self.made, oldest, in_force);
         self.earliest = oldest + 1;
-        free_room(&mut self.first, &mut self.second);
     }
 
     fn into_stale(self) -> (VecDeque<Step>, VecDeque<Step>, VecDeque<Step>) {

@@ -1,10 +1,10 @@
 -- How far runs are merged.
 use Rattle.std.proofs.Common.{◌≡◌, ◌+◌, ◌≤◌, ◌<◌, ℕ, zero, suc, Bool, true, false, List, [], ◌∷◌, ◌++◌, length}
 use Rattle.std.proofs.Common.{get_or, take, drop, map, refl, sym, ap, subst, ◌∙◌, arith}
-use Rattle.std.proofs.Math.ListN.{set, length-set}
+use Rattle.std.proofs.Math.ListN.{set}
 use Rattle.std.proofs.Math.Seq.{drop-cons, drop-nil}
 use Rattle.std.proofs.lemmas.Bool.Decides.{nat_tests}
-use Rattle.std.proofs.lemmas.List.{append-nil, append_assoc, at_drop_all, drop_all, take_all, drop-drop, drop-map}
+use Rattle.std.proofs.lemmas.List.{append_assoc, at_drop_all, drop-drop, drop-map}
 use Rattle.std.proofs.lemmas.List.{get_or_at, get_or_read, length-map}
 use Rattle.std.proofs.lemmas.List.{length-take-le, map-append, nil_from_length, set_at, take-append-drop, take_more}
 use Rattle.std.specs.List.{remove}
@@ -184,21 +184,6 @@ left_without size o [] i r lt at old = absurd (omega arith)
 left_without size o (q ∷ rs) zero r lt at old = grind (arith, nat_tests, ap size at)
 left_without size o (q ∷ rs) (suc i) r lt at old = let rest = left_without size o rs i r (omega arith) at old in omega (arith, rest)
 
--- ---- a list in two parts, of which the second has another head
-
-pub set_behind : {R : Type 0} (rs front back : List R) (i n : ℕ) (was is : R) → i < length rs → length rs ≡ n → front ≡ take i rs → back ≡ drop i rs
-    → was ≡ get_or rs i was → take n (front ++ set back 0 is ++ drop (length (front ++ set back 0 is)) rs) ≡ set rs i is
-set_behind {R} rs front back i n was is lt len front_is back_is at =
-    let behind = drop (suc i) rs in
-    let rest : drop i rs ≡ was ∷ behind = drop-cons rs i was lt ∙ ap (λ r. r ∷ behind) (sym at) in
-    let all : rs ≡ take i rs ++ (was ∷ behind) = sym (take-append-drop i rs) ∙ ap (λ l. take i rs ++ l) rest in
-    let now : front ++ set back 0 is ≡ set rs i is =
-    (λ k. front_is k ++ set ((back_is ∙ rest) k) 0 is)
-    ∙ sym (ap (λ (l : List R). set l i is) all ∙ set_at (take i rs) was behind is i (length-take-le i rs (omega arith))) in
-    ap (λ (l : List R). take n (l ++ drop (length l) rs)) now
-    ∙ ap (λ (l : List R). take n (set rs i is ++ l)) (drop_all (length (set rs i is)) rs (omega (arith, length-set rs i is)))
-    ∙ ap (take n) (append-nil (set rs i is)) ∙ take_all n (set rs i is) (omega (arith, length-set rs i is))
-
 -- ---- what runs answer
 
 module _ {R : Type 0} (agree : List R → List R → Type 0) (between : (front xs ys behind : List R) → agree xs ys
@@ -221,16 +206,6 @@ module _ {R : Type 0} (agree : List R → List R → Type 0) (between : (front x
       let all = whole rs i was lt at in
       placed (take i rs) (is ∷ []) (was ∷ []) (drop (suc i) rs) rs (set rs i is) all
       (ap (λ (l : List R). set l i is) all ∙ set_at (take i rs) was (drop (suc i) rs) is i (length-take-le i rs (omega arith)))
-
-  -- so it is where those before it answer with it
-  pub behind_agrees : (rs : List R) (i : ℕ) (was is : R) → i < length rs → was ≡ get_or rs i was → agree (take i rs ++ is ∷ []) (take i rs ++ was ∷ [])
-      → agree (set rs i is) rs
-  behind_agrees rs i was is lt at =
-      let all = whole rs i was lt at in
-      let behind = drop (suc i) rs in
-      placed [] (take i rs ++ is ∷ []) (take i rs ++ was ∷ []) behind rs (set rs i is) (all ∙ sym (append_assoc (take i rs) (was ∷ []) behind))
-      (ap (λ (l : List R). set l i is) all ∙ set_at (take i rs) was behind is i (length-take-le i rs (omega arith))
-      ∙ sym (append_assoc (take i rs) (is ∷ []) behind))
 
   -- a run is taken out
   pub rest_agrees : (rs : List R) (i : ℕ) (r : R) → i < length rs → r ≡ get_or rs i r → agree [] (r ∷ []) → agree (remove rs i) rs

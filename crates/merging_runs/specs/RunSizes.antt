@@ -1,14 +1,16 @@
 -- How runs are merged, some elements at a time.
-use Rattle.std.specs.List.{AllZip}
-use Rattle.std.specs.Prelude.{◌≡◌, ◌≤◌, ◌+◌, ◌*◌, ◌-◌, ◌/◌, ◌^◌, ◌++◌, ◌⊎◌, ◌&&◌, ◌||◌, ◌==◌, ℕ, Bool, true, false}
+use Rattle.std.specs.List.{AllZip, list_all}
+use Rattle.std.specs.Prelude.{◌≡◌, ◌≤◌, ◌+◌, ◌*◌, ◌-◌, ◌^◌, ◌++◌, ◌⊎◌, ◌&&◌, ◌||◌, ◌==◌, ℕ, Bool, true, false}
 use Rattle.std.specs.Prelude.{nat_lt, nat_le, max, min, map, drop, List, [], ◌∷◌, if◌then◌else◌}
+use Rattle.merging_runs.specs.declared.merges.TheConstants.{RELEASED_MAX, SWEPT_MAX}
 
--- a run: a number that none of its numbers is above, how many elements are still to be moved of the two runs that it is
--- being made of, and how many were made
+-- a run: a number that none of its numbers is above; how many elements are still to be moved of the two runs that it is
+-- being made of; how many were made; and for how many the memory of the longer of the two is still to be released
 pub record RunSize : Type 0 where
   pub last : ℕ
   pub left : ℕ
   pub made : ℕ
+  pub room : ℕ
 
 -- how many elements are still to be moved in the runs that have numbers above that one
 abbrev pub left_above : ℕ → List RunSize → ℕ
@@ -20,10 +22,28 @@ pub record LeavesMerges (o : ℕ) (old new : List RunSize) (was is : ℕ) : Type
   pub left : left_above o new ≤ left_above o old
   pub refused : is ≡ was
 
--- nothing is left to move in either run, the first has numbers above that one, and it has at most twice as many
--- elements as the second, and one
+-- the same run, with so much room
+abbrev pub with_room : ℕ → RunSize → RunSize
+with_room room r = record r { room = room }
+
+-- nothing is left to move, and no memory to release
+abbrev pub is_finished : RunSize → Bool
+is_finished r = r.left == 0 && r.room == 0
+
+-- both runs are finished, the first has numbers above that one, and it has at most twice as many elements as the
+-- second, and one
 abbrev pub are_alike : ℕ → RunSize → RunSize → Bool
-are_alike o r s = nat_lt o r.last && (r.left == 0 && (s.left == 0 && nat_le r.made (2 * s.made + 1)))
+are_alike o r s = nat_lt o r.last && (is_finished r && (is_finished s && nat_le r.made (2 * s.made + 1)))
+
+-- whether none of these numbers parts the numbers above `before` from those up to `last`
+abbrev pub are_outside : List ℕ → ℕ → ℕ → Bool
+are_outside begins before last = list_all (λ b. nat_le b before || nat_le last b) begins
+
+-- Whether two runs are made one: they are of a like size, and short together, or nobody who may still ask began between
+-- their numbers, which are above `before`. So no long run holds what is forgotten beside what isn't.
+abbrev pub become_one : List ℕ → ℕ → ℕ → RunSize → RunSize → Bool
+become_one begins oldest before r s = are_alike oldest r s
+    && (nat_le (r.made + s.made) SWEPT_MAX || are_outside begins (max oldest before) s.last)
 
 -- the last number of the last of the runs, and that one where there is none
 abbrev pub last_after : ℕ → List RunSize → ℕ
@@ -42,13 +62,19 @@ has_alike alike before (r ∷ rs) = starts_alike alike before r rs || has_alike 
 
 -- the run that is to be made of both
 abbrev pub joined : RunSize → RunSize → RunSize
-joined r s = record { last = max r.last s.last; left = r.made + s.made; made = 0 }
+joined r s = record {
+  last = max r.last s.last;
+  left = r.made + s.made;
+  made = 0;
+  room = max r.made s.made;
+}
 
 -- some of its elements have been dropped
 pub record IsSwept (old new : RunSize) : Type 0 where
   pub last : new.last ≡ old.last
   pub left : new.left ≤ old.left
   pub made : new.made ≤ old.made
+  pub room : new.room ≤ old.room
 
 -- of two runs beside one another that are alike one is being made
 pub record IsBegun (alike : ℕ → RunSize → RunSize → Bool) (old new : List RunSize) : Type 0 where
@@ -79,11 +105,11 @@ IsTried alike old new was is =
 
 -- the runs, and one of so many elements with that number, where it has any
 abbrev pub with_run : ℕ → ℕ → List RunSize → List RunSize
-with_run n count rs = if nat_lt 0 count then rs ++ record { last = n; left = 0; made = count } ∷ [] else rs
+with_run n count rs = if nat_lt 0 count then rs ++ record { last = n; left = 0; made = count; room = 0 } ∷ [] else rs
 
--- how much work there is to do for so many elements that are noted
-abbrev pub work_for : ℕ → ℕ
-work_for count = min (16 * count + 64) (2 ^ 64 - 1)
+-- how many moves there are for so many elements that are noted
+abbrev pub moves_for : ℕ → ℕ
+moves_for count = min (16 * count + 64) (2 ^ 64 - 1)
 
 abbrev pub lasts_of : List RunSize → List ℕ
 lasts_of rs = map (λ r. r.last) rs
@@ -96,33 +122,43 @@ whole_of r = r.left + r.made
 abbrev pub AreNoLonger : List RunSize → List RunSize → Type 0
 AreNoLonger new old = AllZip (λ r s. whole_of r ≤ whole_of s) new old
 
--- so much work moved so many elements for each at most
+-- so many moves of so many elements at most
 abbrev pub AtMostMoved : ℕ → ℕ → ℕ → List RunSize → List RunSize → Type 0
-AtMostMoved each o work old new = left_above o old ≤ left_above o new + each * work
+AtMostMoved each o n old new = left_above o old ≤ left_above o new + each * n
 
--- Of a run, elements were moved by so much work: one at least for so much as the heaviest move is, and so many at most
--- for each. It may have fewer elements than before.
-pub record IsMerged (each heaviest work : ℕ) (old new : RunSize) : Type 0 where
+-- Of a run, so many moves of so many elements at most were made. It may have fewer elements than before.
+pub record IsMerged (each moves : ℕ) (old new : RunSize) : Type 0 where
   pub last : new.last ≡ old.last
   pub whole : whole_of new ≤ whole_of old
-  pub moved : heaviest * new.left + work ≤ heaviest * old.left
-  pub slowly : old.left ≤ new.left + each * work
+  pub room : new.room ≤ old.room
+  pub moved : new.left + moves ≤ old.left
+  pub slowly : old.left ≤ new.left + each * moves
+
+-- for how many elements memory is released of a run, where it has numbers above that one and nothing is left to move
+abbrev pub released_of : ℕ → RunSize → ℕ
+released_of o r = if nat_lt o r.last && r.left == 0 then RELEASED_MAX else 0
+
+-- of each run so much memory was released, or all
+abbrev pub AreReleased : ℕ → List RunSize → List RunSize → Type 0
+AreReleased o new old = AllZip (λ r s. r.room ≤ s.room - released_of o s) new old
 
 -- so it is of these runs, which have numbers above that one where something was moved
-pub record AreMerged (each heaviest o work : ℕ) (old new : List RunSize) : Type 0 where
+pub record AreMerged (each o moves : ℕ) (old new : List RunSize) : Type 0 where
   pub lasts : lasts_of new ≡ lasts_of old
   pub wholes : AreNoLonger new old
-  pub moved : heaviest * left_above o new + work ≤ heaviest * left_above o old
-  pub slowly : AtMostMoved each o work old new
+  pub moved : left_above o new + moves ≤ left_above o old
+  pub slowly : AtMostMoved each o moves old new
 
 -- where nothing was left to move behind the place, nothing is left from it on
 abbrev pub RestsFrom : ℕ → ℕ → List RunSize → List RunSize → Type 0
 RestsFrom o place old new = left_above o (drop (place + 1) old) ≡ 0 → left_above o (drop place new) ≡ 0
 
--- What is to be moved was moved as often as the heaviest move goes into so much work, unless nothing is left to move;
--- for each of it so many elements at most were moved. No run has more elements than before.
-pub record IsMoved (each heaviest o most : ℕ) (old new : List RunSize) : Type 0 where
+-- What is to be moved was moved so many times, unless nothing is left to move; a move takes so many elements at most.
+-- Where nothing was left of the two that a run was made of, memory of these was released. No run has more elements
+-- than before.
+pub record IsMoved (each o most : ℕ) (old new : List RunSize) : Type 0 where
   pub lasts : lasts_of new ≡ lasts_of old
   pub wholes : AreNoLonger new old
-  pub moved : left_above o new + min (most / heaviest) (left_above o old) ≤ left_above o old
+  pub moved : left_above o new + min most (left_above o old) ≤ left_above o old
   pub slowly : AtMostMoved each o most old new
+  pub released : AreReleased o new old

@@ -20,9 +20,11 @@ pub trait FreePart: Drop {
 impl<T: Drop> FreePart for Vec<T> {
     ghost left = { vec_len };
 
+    // The memory is released with the elements: that of many at once would take the system long.
     fn free_part(&mut self, most: usize) -> usize {
         let count = self.len().min(most);
         self.truncate(self.len() - count);
+        self.shrink_to_fit();
         most - count
     }
 }

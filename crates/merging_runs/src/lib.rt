@@ -6,6 +6,7 @@
 #![tactic(auto)]
 
 mod free_part;
+mod laws;
 mod merges;
 mod next;
 mod old;
@@ -14,6 +15,7 @@ mod runs;
 mod sweeps;
 
 pub use free_part::FreePart;
+pub use laws::law_merge_limits;
 pub use next::next_of;
 pub use run::Run;
 pub use runs::Runs;

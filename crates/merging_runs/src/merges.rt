@@ -1,13 +1,46 @@
 //! Merges two neighbouring runs of a similar size, some elements at a time.
-ghost use Rattle.std.specs.Prelude.{◌≡◌, ◌≤◌, ◌<◌, ◌-◌, ◌++◌, ◌&&◌, ℕ, Bool, [], ◌∷◌, true, false, length, map};
-ghost use Rattle.std.specs.Prelude.{nat_le, take};
-ghost use Rattle.std.specs.Prelude.{drop};
+ghost use Rattle.std.specs.Prelude.{◌≡◌, ◌≤◌, ◌<◌, ◌-◌, ◌&&◌, ℕ, Bool, [], ◌∷◌, true, false, length, map, nat_le};
+ghost use Rattle.std.specs.Prelude.{take, drop};
 ghost use Rattle.std.specs.Vec.{vec_len};
-ghost use Rattle.merging_runs.specs.MadeRuns.{AreMade, IsMade, MakesOne};
-ghost use Rattle.merging_runs.specs.RunSizes.{AreMerged, EndsIf, IsMerged, IsMoved, IsTried, RestsFrom, has_alike};
-ghost use Rattle.merging_runs.specs.RunSizes.{last_after};
+ghost use Rattle.merging_runs.specs.MadeRuns.{AreMade, ChangesOne, IsMade, IsMovedOn};
+ghost use Rattle.merging_runs.specs.RunSizes.{AreMerged, EndsIf, IsMerged, IsMoved, IsTried, RestsFrom, are_outside};
+ghost use Rattle.merging_runs.specs.RunSizes.{become_one, released_of, has_alike, is_finished, last_after};
 
 use crate::run::Run;
+
+/// The most elements of a run that may hold what is forgotten beside what isn't, since it is swept at once.
+const SWEPT_MAX: usize = 16_384;
+
+/// For how many elements of a run memory is released at once, at most.
+const RELEASED_MAX: usize = 4_096;
+
+// Is nothing left to move, and no memory to release?
+fn is_finished<R: Run>(run: &R) -> bool
+    ensures { result ≡ is_finished (R.sizes run.now) }
+{
+    run.is_at_rest() && run.room() == 0
+}
+
+// Does none of these numbers part the numbers above `before` from those up to `last`?
+fn are_outside(begins: &[u64], before: u64, last: u64) -> bool
+    ensures { result ≡ are_outside begins.now before last }
+{
+    begins
+        .iter()
+        .all(|begin| *begin <= before || last <= *begin)
+}
+
+// Are two runs to become one, where these are the numbers at which those began who may still ask, and the last number before the two?
+fn are_alike<R: Run>(first: &R, second: &R, begins: &[u64], oldest: u64, before: u64) -> bool
+    ensures { result ≡ become_one begins.now oldest before (R.sizes first.now) (R.sizes second.now) }
+{
+    oldest < first.last()
+        && is_finished(first)
+        && is_finished(second)
+        && first.made() / 2 <= second.made()
+        && (first.made().saturating_add(second.made()) <= SWEPT_MAX
+            || are_outside(begins, oldest.max(before), second.last()))
+}
 
 // The last number of the run before the place, 0 where there is none.
 fn last_before<R: Run>(runs: &[R], place: usize) -> u64
@@ -32,16 +65,22 @@ fn open_at<R: Run>(
     requires some { 0 < place }
     requires within { place < vec_len runs.old }
     ensures agree { (begins : ℕ → Bool) → R.agree begins runs.new.items runs.old.items }
-    ensures alike { EndsIf result (R.alike active.now oldest) (map R.sizes runs.old.items) (map R.sizes runs.new.items)
-        refused.old refused.new }
-    ensures none { result ≡ false
-        → has_alike (R.alike active.now oldest) (last_after 0 (take (place - 1) (map R.sizes runs.old.items)))
+    ensures alike { EndsIf result (become_one (R.begin_numbers active.now) oldest) (map R.sizes runs.old.items)
+        (map R.sizes runs.new.items) refused.old refused.new }
+    ensures none { result ≡ false → has_alike (become_one (R.begin_numbers active.now) oldest)
+        (last_after 0 (take (place - 1) (map R.sizes runs.old.items)))
         (take 2 (drop (place - 1) (map R.sizes runs.old.items))) ≡ false }
     ensures stays { result ≡ false → runs.new ≡ runs.old }
     ensures refused { result ≡ false → refused.new ≡ refused.old }
 {
     let before = last_before(runs, place - 1);
-    if !runs[place - 1].is_alike(&runs[place], active, oldest, before) {
+    if !are_alike(
+        &runs[place - 1],
+        &runs[place],
+        R::begin_numbers(active),
+        oldest,
+        before,
+    ) {
         return false;
     }
     let alloc = *runs.allocator();
@@ -63,8 +102,8 @@ pub(crate) fn open_last<R: Run>(
     refused: &mut u64,
 )
     ensures agree { (begins : ℕ → Bool) → R.agree begins runs.new.items runs.old.items }
-    ensures tried { IsTried (R.alike active.now oldest) (map R.sizes runs.old.items) (map R.sizes runs.new.items)
-        refused.old refused.new }
+    ensures tried { IsTried (become_one (R.begin_numbers active.now) oldest) (map R.sizes runs.old.items)
+        (map R.sizes runs.new.items) refused.old refused.new }
 {
     for after in 1..runs.len() {
         let place = runs.len() - after;
@@ -74,33 +113,28 @@ pub(crate) fn open_last<R: Run>(
     }
 }
 
-// Moves elements of a run, which stands behind others, by so much work at most: how much is left of it, which isn't enough for a move
-// while there is something to move.
-fn move_on<R: Run>(
-    run: &mut R,
-    earlier: &[R],
-    oldest: u64,
-    active: &R::Active,
-    most: usize,
-) -> usize
+// Moves elements of a run so many times at most, and releases memory once nothing is left to move: how many moves are left, which are
+// none while there is something to move.
+fn move_on<R: Run>(run: &mut R, oldest: u64, active: &R::Active, most: usize) -> usize
     requires { oldest < (R.sizes run.old).last }
-    ensures agree { R.agree (λ b. nat_le oldest b && R.asks active.now b) (earlier.now ++ run.new ∷ [])
-        (earlier.now ++ run.old ∷ []) }
-    ensures made { IsMade (R.makes earlier.now active.now oldest) run.old run.new }
+    ensures agree { R.agree (λ b. nat_le oldest b && R.asks active.now b) (run.new ∷ []) (run.old ∷ []) }
+    ensures moved { IsMovedOn (R.makes active.now oldest) R.sizes oldest run.old run.new }
     ensures most { result ≤ most }
-    ensures merged { IsMerged R.each R.heaviest (most - result) (R.sizes run.old) (R.sizes run.new) }
-    ensures ended { R.heaviest ≤ result → (R.sizes run.new).left ≡ 0 }
+    ensures merged { IsMerged R.each (most - result) (R.sizes run.old) (R.sizes run.new) }
+    ensures ended { 0 < result → (R.sizes run.new).left ≡ 0 }
 {
-    let work = run.work();
     let mut rest = most;
-    'moves: while work <= rest && !run.is_at_rest() {
-        run.move_one(earlier, oldest, active);
-        rest -= work;
+    'moves: while 0 < rest && !run.is_at_rest() {
+        run.move_one(oldest, active);
+        rest -= 1;
+    }
+    if run.is_at_rest() {
+        run.release(RELEASED_MAX);
     }
     rest
 }
 
-// Moves elements by so much work at most in the run at the place, where there is one with numbers above `oldest`: how much is left of it.
+// Moves elements so many times at most in the run at the place, where there is one with numbers above `oldest`: how many moves are left.
 fn move_at<R: Run>(
     runs: &mut Vec<R>,
     place: usize,
@@ -109,13 +143,12 @@ fn move_at<R: Run>(
     most: usize,
 ) -> usize
     ensures agree { R.agree (λ b. nat_le oldest b && R.asks active.now b) runs.new.items runs.old.items }
-    ensures made { MakesOne (λ earlier. R.makes earlier active.now oldest) runs.old.items place runs.new.items }
+    ensures moved { ChangesOne (IsMovedOn (R.makes active.now oldest) R.sizes oldest) runs.old.items place
+        runs.new.items }
     ensures most { result ≤ most }
     ensures len { vec_len runs.new ≡ vec_len runs.old }
-    ensures merged { AreMerged R.each R.heaviest oldest (most - result) (map R.sizes runs.old.items)
-        (map R.sizes runs.new.items) }
-    ensures ended { R.heaviest ≤ result
-        → RestsFrom oldest place (map R.sizes runs.old.items) (map R.sizes runs.new.items) }
+    ensures merged { AreMerged R.each oldest (most - result) (map R.sizes runs.old.items) (map R.sizes runs.new.items) }
+    ensures ended { 0 < result → RestsFrom oldest place (map R.sizes runs.old.items) (map R.sizes runs.new.items) }
 {
     if place >= runs.len() {
         return most;
@@ -123,15 +156,14 @@ fn move_at<R: Run>(
     if runs[place].last() <= oldest {
         return most;
     }
-    let (earlier, rest) = runs.split_at_mut(place);
-    move_on(&mut rest[0], earlier, oldest, active, most)
+    move_on(&mut runs[place], oldest, active, most)
 }
 
-// Moves elements by so much work at most in the runs that are being made of two, in the last runs first: these are the shortest.
+// Moves elements so many times at most in the runs that are being made of two, in the last runs first: these are the shortest.
 pub(crate) fn move_runs<R: Run>(runs: &mut Vec<R>, oldest: u64, active: &R::Active, most: usize)
     ensures agree { R.agree (λ b. nat_le oldest b && R.asks active.now b) runs.new.items runs.old.items }
-    ensures made { AreMade (λ earlier. R.makes earlier active.now oldest) runs.old.items runs.new.items }
-    ensures moved { IsMoved R.each R.heaviest oldest most (map R.sizes runs.old.items) (map R.sizes runs.new.items) }
+    ensures made { AreMade (R.makes active.now oldest) runs.old.items runs.new.items }
+    ensures moved { IsMoved R.each oldest most (map R.sizes runs.old.items) (map R.sizes runs.new.items) }
 {
     let mut rest = most;
     for after in 0..runs.len() {

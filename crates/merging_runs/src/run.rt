@@ -2,7 +2,7 @@
 ghost use Rattle.std.specs.Prelude.{◌≡◌, ◌≤◌, ◌<◌, ◌+◌, ◌-◌, ◌^◌, ◌++◌, ◌&&◌, ◌||◌, ℕ, Bool, true, false, List, []};
 ghost use Rattle.std.specs.Prelude.{◌∷◌, min, nat_le, IfSome, ⊤};
 ghost use Rattle.merging_runs.specs.Next.{IsNext};
-ghost use Rattle.merging_runs.specs.RunSizes.{IsMerged, IsSwept, RunSize, joined};
+ghost use Rattle.merging_runs.specs.RunSizes.{IsMerged, IsSwept, RunSize, joined, with_room};
 
 use crate::free_part::FreePart;
 use std::alloc::Global;
@@ -34,7 +34,7 @@ pub trait Run: Drop {
     ghost has: { Self → ℕ → Bool };
 
     /// For how many elements the two that it is made of have room.
-    ghost room: { Self → ℕ };
+    ghost capacity: { Self → ℕ };
 
     /// There are places for so many elements.
     ghost fit: { ℕ → Self.Places → Type 0 };
@@ -42,19 +42,11 @@ pub trait Run: Drop {
     /// How many elements a move takes at most.
     ghost each: { ℕ };
 
-    /// How much work a move of the run counts as.
-    ghost work_of: { Self → ℕ };
+    /// The numbers at which those began who may still ask.
+    ghost begin_numbers: { Self.Active → List ℕ };
 
-    /// How much it is at most.
-    ghost heaviest: { ℕ };
-
-    /// Whether two runs are to become one: they are of a like size. It may go by who may still ask, the number up to which nothing is
-    /// asked, and the last number before the two.
-    ghost alike: { Self.Active → ℕ → ℕ → RunSize → RunSize → Bool };
-
-    /// What a move may make of a run that stands behind others, where those may still ask, and nothing is asked of the numbers up to that
-    /// one.
-    ghost makes: { List Self → Self.Active → ℕ → Self → Self → Type 0 } = { λ _ _ _ _ _. ⊤ };
+    /// What a move may make of a run, where those may still ask, and nothing is asked of the numbers up to that one.
+    ghost makes: { Self.Active → ℕ → Self → Self → Type 0 } = { λ _ _ _ _. ⊤ };
 
     /// Whether one who began at that number may still ask.
     ghost asks: { Self.Active → ℕ → Bool };
@@ -79,11 +71,17 @@ pub trait Run: Drop {
     fn next_number(&self, found: Option<u64>, n: u64) -> Option<u64>
         ensures { (p : ℕ → Bool) → IsNext p n found → IsNext (λ k. p k || has self.now k) n result };
 
-    /// Are this and a later one to become one, where this is the last number before them? Takes no memory.
-    fn is_alike(&self, second: &Self, active: &Self::Active, oldest: u64, before: u64) -> bool
-        ensures alike { result ≡ alike active.now oldest before (sizes self.now) (sizes second.now) }
-        ensures first { result ≡ true → (sizes self.now).left ≡ 0 }
-        ensures second { result ≡ true → (sizes second.now).left ≡ 0 };
+    /// How many elements were made. Takes no memory.
+    fn made(&self) -> usize
+        ensures { result ≡ (sizes self.now).made };
+
+    /// For how many elements the memory of the longer of the two that it was made of is still to be released. Takes no memory.
+    fn room(&self) -> usize
+        ensures { result ≡ (sizes self.now).room };
+
+    /// The numbers at which those began who may still ask. Takes no memory.
+    fn begin_numbers(active: &Self::Active) -> &[u64]
+        ensures { result.now ≡ begin_numbers active.now };
 
     /// Places for the elements of both, `None` where memory is refused.
     fn places_for(alloc: Global, first: &Self, second: &Self) -> Option<Self::Places>
@@ -102,22 +100,23 @@ pub trait Run: Drop {
         ensures rest { result ≡ true → (sizes self.now).left ≡ 0 }
         ensures under_way { result ≡ false → 0 < (sizes self.now).left };
 
-    /// How much work a move counts as: more where it takes longer than others. Takes no memory.
-    fn work(&self) -> usize
-        ensures value { result ≡ work_of self.now }
-        ensures some { 1 ≤ result }
-        ensures most { result ≤ heaviest };
-
-    /// Moves an element of the two, or more of one key, and frees their room once nothing is left of them. It may drop what none who may
-    /// still ask is answered by, and what the earlier runs answer in its place. Takes no memory.
-    fn move_one(&mut self, earlier: &[Self], oldest: u64, active: &Self::Active)
+    /// Moves an element of the two, or more of one key. It may drop what none who may still ask is answered by. Takes no memory.
+    fn move_one(&mut self, oldest: u64, active: &Self::Active)
         requires late { oldest < (sizes self.old).last }
         requires some { 0 < (sizes self.old).left }
-        ensures makes { makes earlier.now active.now oldest self.old self.new }
-        ensures agree { agree (λ b. nat_le oldest b && asks active.now b) (earlier.now ++ self.new ∷ [])
-            (earlier.now ++ self.old ∷ []) }
-        ensures merged { IsMerged each 1 1 (sizes self.old) (sizes self.new) }
-        ensures room { (sizes self.new).left ≡ 0 → room self.new ≡ 0 };
+        ensures makes { makes active.now oldest self.old self.new }
+        ensures agree { agree (λ b. nat_le oldest b && asks active.now b) (self.new ∷ []) (self.old ∷ []) }
+        ensures merged { IsMerged each 1 (sizes self.old) (sizes self.new) };
+
+    /// Releases memory of the two, for so many elements of the longer one, once nothing is left to move. So no call returns all of it to
+    /// the system, which would take long. It changes nothing else.
+    fn release(&mut self, most: usize)
+        requires rest { (sizes self.old).left ≡ 0 }
+        ensures sizes { sizes self.new ≡ with_room ((sizes self.old).room - most) (sizes self.old) }
+        ensures agree { (begins : ℕ → Bool) → agree begins (self.new ∷ []) (self.old ∷ []) }
+        ensures makes { (active : Self.Active) (oldest : ℕ) → makes active oldest self.old self.new }
+        ensures released { (sizes self.new).room ≡ 0 → capacity self.new ≡ 0 }
+        ensures kept { min (sizes self.new).room (capacity self.old) ≤ capacity self.new };
 
     /// Drops what has a number up to `oldest`. It looks at each element that it holds, and takes no memory.
     fn sweep(&mut self, oldest: u64)
@@ -125,8 +124,7 @@ pub trait Run: Drop {
         ensures from { oldest < from self.new }
         ensures agree { agree (nat_le oldest) (self.new ∷ []) (self.old ∷ []) }
         ensures swept { IsSwept (sizes self.old) (sizes self.new) }
-        ensures fewer { elements self.new ≤ elements self.old }
-        ensures room { (sizes self.new).left ≡ 0 → room self.new ≡ 0 };
+        ensures fewer { elements self.new ≤ elements self.old };
 
     /// What there is to free of it. Takes no memory.
     fn into_stale(self) -> Self::Stale

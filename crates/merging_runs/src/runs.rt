@@ -5,7 +5,7 @@ ghost use Rattle.std.specs.List.{list_any};
 ghost use Rattle.merging_runs.specs.Contents.{HasSamePartial, garbage_upto, freed_a_forget, size_in, whole_upto};
 ghost use Rattle.merging_runs.specs.MadeRuns.{AreMade};
 ghost use Rattle.merging_runs.specs.Next.{IsNext};
-ghost use Rattle.merging_runs.specs.RunSizes.{IsMoved, IsTried, LeavesMerges, left_above, work_for};
+ghost use Rattle.merging_runs.specs.RunSizes.{IsMoved, IsTried, LeavesMerges, become_one, left_above, moves_for};
 ghost use Rattle.merging_runs.specs.Value.{OnlyFrees, size_of};
 
 use crate::free_part::FreePart;
@@ -17,11 +17,11 @@ use crate::sweeps::{sweep_all, sweep_for};
 use std::alloc::{AllocError, Global};
 use std::marker::Model;
 
-/// How much work the merges do for each element that is noted: more than there are lengths of runs that are merged into one another.
-const WORK_EACH: usize = 16;
+/// How many moves the merges get for each element that is noted: more than there are lengths of runs that are merged into one another.
+const MOVES_EACH: usize = 16;
 
-/// How much more they do for a commit.
-const WORK_MORE: usize = 64;
+/// How many more they get for a commit.
+const MOVES_MORE: usize = 64;
 
 /// How much work a step does: each element that is freed counts as one, and each run as one more.
 const FREED_MAX: usize = 1_024;
@@ -113,14 +113,14 @@ impl<R: Run> Runs<R> {
         *self.runs.allocator()
     }
 
-    /// Makes room for one more run, and begins to merge the last two runs beside one another that are of a like size, where there are such
-    /// that may become one by who is active.
-    /// Where memory for the merge is refused, it counts the refusal, and these two stay. `AllocError` where memory for the place of the run
-    /// is refused. The runs answer as they did in each case. It takes the places of a run for the merge, and looks at each run.
+    /// Makes room for one more run, and begins to merge the last two runs beside one another that are to become one, where there are such:
+    /// they are of a like size, and short together, or nobody who may still ask began between their numbers (`become_one`). Where memory
+    /// for the merge is refused, it counts the refusal, and these two stay. `AllocError` where memory for the place of the run is refused.
+    /// The runs answer as they did in each case. It takes the places of a run for the merge, and looks at each run.
     pub fn reserve(&mut self, active: &R::Active, oldest: u64) -> Result<(), AllocError>
         ensures agree { (begins : ℕ → Bool) → R.agree begins self.new.runs self.old.runs }
-        ensures tried { IsTried (R.alike active.now oldest) self.old.sizes self.new.sizes self.old.refused
-            self.new.refused }
+        ensures tried { IsTried (become_one (R.begin_numbers active.now) oldest) self.old.sizes self.new.sizes
+            self.old.refused self.new.refused }
         ensures room { OnOk result (0 < self.new.places) }
     {
         open_last(&mut self.runs, active, oldest, &mut self.refused);
@@ -140,16 +140,16 @@ impl<R: Run> Runs<R> {
         }
     }
 
-    /// Moves on the merges that are under way, by work of 16 for each of so many elements, and 64, until nothing is left to move. A move
-    /// sees the runs before its own, and takes as long as it searches them; `Run::work` says what it counts as. The runs answer as they
+    /// Moves on the merges that are under way, by 16 moves for each of so many elements, and 64, until nothing is left to move. The memory
+    /// of the two that a run was made of is released then, for 4,096 elements of the longer one in each call. The runs answer as they
     /// did, whoever asks that may still and didn't begin before `oldest`. Takes no memory.
     pub fn move_on(&mut self, oldest: u64, active: &R::Active, count: usize)
         ensures agree { R.agree (λ b. nat_le oldest b && R.asks active.now b) self.new.runs self.old.runs }
-        ensures made { AreMade (λ earlier. R.makes earlier active.now oldest) self.old.runs self.new.runs }
-        ensures moved { IsMoved R.each R.heaviest oldest (work_for count) self.old.sizes self.new.sizes }
+        ensures made { AreMade (R.makes active.now oldest) self.old.runs self.new.runs }
+        ensures moved { IsMoved R.each oldest (moves_for count) self.old.sizes self.new.sizes }
         ensures refused { self.new.refused ≡ self.old.refused }
     {
-        let most = count.saturating_mul(WORK_EACH).saturating_add(WORK_MORE);
+        let most = count.saturating_mul(MOVES_EACH).saturating_add(MOVES_MORE);
         move_runs(&mut self.runs, oldest, active, most);
     }
 

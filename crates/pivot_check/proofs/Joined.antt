@@ -1,15 +1,14 @@
 -- Two lists of postings made into one, from their heads, and what runs answer.
-use Rattle.std.proofs.Common.{◌≡◌, ◌≤◌, ◌+◌, ℕ, Bool, true, false, List, [], ◌∷◌, ◌++◌, Option, None, take, drop}
-use Rattle.std.proofs.Common.{refl, sym, ap, ◌∙◌, arith}
+use Rattle.std.proofs.Common.{◌≡◌, ◌≤◌, ◌+◌, ℕ, Bool, true, List, [], ◌∷◌, ◌++◌, None, refl, sym, ap, ◌∙◌, arith}
 use Rattle.std.proofs.lemmas.Bool.Decides.{nat_tests}
-use Rattle.std.proofs.lemmas.List.{append_assoc, drop_all, take-append-drop}
+use Rattle.std.proofs.lemmas.List.{append_assoc, drop_all}
 use Rattle.std.proofs.lemmas.List.Folds.{list_all-append}
 use Rattle.std.specs.List.{AllByRecursion}
 use Rattle.std.specs.Ordering.{is_le}
-use Rattle.std.specs.Prelude.{max, nat_lt, is_some, not, if◌then◌else◌}
+use Rattle.std.specs.Prelude.{max, nat_lt, is_some, not}
 use Rattle.model.specs.Map.{Bytes, key_cmp}
 use Rattle.pivot_check.proofs.Walks.{le_trans, rise_between}
-use Rattle.pivot_check.specs.Agreeing.{lesser_assoc, lesser_none, least-append, least-runs}
+use Rattle.pivot_check.specs.Agreeing.{lesser_none, least-append, least-runs}
 use Rattle.pivot_check.specs.Inside.{in_run, postings_in}
 use Rattle.pivot_check.specs.Merging.{are_keys_from, BeginsBelow}
 use Rattle.pivot_check.specs.Parts.{remaining, left, remaining_in}
@@ -111,24 +110,3 @@ both_agree c first second ps same =
 pub pushed : (c : Posting → Bool) (rs : List WrittenRun) (r : WrittenRun)
     → least c (postings_in (rs ++ r ∷ [])) ≡ lesser (least c (postings_in rs)) (least c (in_run r))
 pushed c rs r = least-runs c rs (r ∷ []) ∙ ap (lesser (least c (postings_in rs))) (one_agrees c r)
-
--- what is so behind some is so behind more
-lesser_more : (found more o p : Option ℕ) → lesser found o ≡ lesser found p → lesser (lesser found more) o ≡ lesser (lesser found more) p
-lesser_more found more o p same = swap o ∙ ap (lesser more) same ∙ sym (swap p)
-  where
-    turned : (o p : Option ℕ) → lesser o p ≡ lesser p o
-    turned o p = grind arith
-
-    swap : (x : Option ℕ) → lesser (lesser found more) x ≡ lesser more (lesser found x)
-    swap x = ap (λ y. lesser y x) (turned found more) ∙ lesser_assoc more found x
-
--- a run behind others, of which the first are searched
-pub behind_searched : (c : Posting → Bool) (long : Bool) (n : ℕ) (es : List WrittenRun) (ps qs : List Posting)
-    → least c (postings_in (if long then take n es else []) ++ ps) ≡ least c (postings_in (if long then take n es else []) ++ qs)
-    → lesser (least c (postings_in es)) (least c ps) ≡ lesser (least c (postings_in es)) (least c qs)
-behind_searched c true n es ps qs same =
-    let all : least c (postings_in es) ≡ lesser (least c (postings_in (take n es))) (least c (postings_in (drop n es))) =
-    ap (λ rs. least c (postings_in rs)) (sym (take-append-drop n es)) ∙ least-runs c (take n es) (drop n es) in
-    rw all (lesser_more (least c (postings_in (take n es))) (least c (postings_in (drop n es))) (least c ps) (least c qs)
-    (sym (least-append c (postings_in (take n es)) ps) ∙ same ∙ least-append c (postings_in (take n es)) qs))
-behind_searched c false n es ps qs same = ap (lesser (least c (postings_in es))) same

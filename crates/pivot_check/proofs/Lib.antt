@@ -1,6 +1,5 @@
 pub mod Lists
 pub mod Intervals
-pub mod CountBelow
 pub mod Ends
 pub mod Histories
 pub mod LastSources
@@ -14,5 +13,4 @@ pub mod SameHistories
 pub mod Joined
 pub mod Sweeps
 pub mod Redundancy
-pub mod EarlierPostings
 pub mod FewPostings

@@ -16,8 +16,8 @@ use Rattle.model.specs.Map.{Bytes, is_same_key, key_cmp}
 use Rattle.pivot_check.specs.Agreeing.{lesser_assoc, lesser_none, least-append}
 use Rattle.pivot_check.specs.Kept.{Reach, may_ask}
 use Rattle.pivot_check.specs.Postings.{AnswerForAll, Posting, asked_in, keys_rise, least, lesser}
-use Rattle.pivot_check.specs.Redundant.{IsWithin, MakesFor, are_needed, are_spaced, is_redundant, is_redundant_behind}
-use Rattle.pivot_check.specs.Redundant.{is_redundant_by, is_undivided}
+use Rattle.pivot_check.specs.Redundant.{IsWithin, MakesFor, are_spaced, is_redundant, is_redundant_behind}
+use Rattle.pivot_check.specs.Redundant.{is_undivided}
 
 -- ---- who may ask
 
@@ -74,63 +74,20 @@ last_decides reach (o ∷ []) p q (suc n) e h = absurd (omega arith)
 last_decides reach (o ∷ r ∷ ps) p q zero e h = absurd (omega arith)
 last_decides reach (o ∷ r ∷ ps) p q (suc n) e h = last_decides reach (r ∷ ps) p q n (omega arith) h
 
--- ---- so does one of the earlier postings
-
-first_absorbs : (o p q : Option ℕ) → lesser o q ≡ o → lesser (lesser o p) q ≡ lesser o p
-first_absorbs o p q h = grind arith
-
-rest_absorbs : (o p q : Option ℕ) → lesser p q ≡ p → lesser (lesser o p) q ≡ lesser o p
-rest_absorbs o p q h = lesser_assoc o p q ∙ ap (lesser o) h
-
-earlier_least : (reach : Reach) (es : List Posting) (q : Posting) → is_redundant_by reach es q ≡ true → (b : ℕ) → may_ask reach b ≡ true
-    → (keys : Bytes → Bool) (flagged : Bool)
-    → lesser (least (asked_in keys b flagged) es) (if asked_in keys b flagged q then Some q.number else None) ≡ least (asked_in keys b flagged) es
-earlier_least reach [] q h b asks keys flagged = cc
-earlier_least reach (p ∷ ps) q h b asks keys flagged = either (is_redundant reach p q) (is_redundant_by reach ps q) h
-    (λ here. first_absorbs (if asked_in keys b flagged p then Some p.number else None) (least (asked_in keys b flagged) ps)
-    (if asked_in keys b flagged q then Some q.number else None) (answered reach p q here b asks keys flagged))
-    (λ later. rest_absorbs (if asked_in keys b flagged p then Some p.number else None) (least (asked_in keys b flagged) ps)
-    (if asked_in keys b flagged q then Some q.number else None) (earlier_least reach ps q later b asks keys flagged))
-  where
-    either : {X : Type 0} (x y : Bool) → (x || y) ≡ true → (x ≡ true → X) → (y ≡ true → X) → X
-    either true y h first second = first refl
-    either false y h first second = second h
-
--- the earlier postings and those that were made answer as they do with the redundant one
-both_least : (reach : Reach) (es ms : List Posting) (q : Posting) → (is_redundant_behind reach ms q || is_redundant_by reach es q) ≡ true → (b : ℕ)
-    → may_ask reach b ≡ true → (keys : Bytes → Bool) (flagged : Bool)
-    → lesser (least (asked_in keys b flagged) (es ++ ms)) (if asked_in keys b flagged q then Some q.number else None)
-    ≡ least (asked_in keys b flagged) (es ++ ms)
-both_least reach es ms q h b asks keys flagged =
-    let c = asked_in keys b flagged in
-    let number = if c q then Some q.number else None in
-    let both = least-append c es ms in
-    ap (λ o. lesser o number) both
-    ∙ by (is_redundant_behind reach ms q) (is_redundant_by reach es q) h
-    (λ behind. rest_absorbs (least c es) (least c ms) number (redundant_least reach ms q behind b asks keys flagged))
-    (λ earlier. first_absorbs (least c es) (least c ms) number (earlier_least reach es q earlier b asks keys flagged))
-    ∙ sym both
-  where
-    by : {X : Type 0} (x y : Bool) → (x || y) ≡ true → (x ≡ true → X) → (y ≡ true → X) → X
-    by true y h first second = first refl
-    by false y h first second = second h
-
 -- ---- the first of xs is dropped
 
 none_of_three : (o p q : Option ℕ) → lesser o (lesser p q) ≡ None → lesser o q ≡ None
 none_of_three o p q h = grind arith
 
-dropped_answers : (reach : Reach) (es ms xs xs' : List Posting) (q : Posting) → xs ≡ q ∷ xs'
-    → (is_redundant_behind reach ms q || is_redundant_by reach es q) ≡ true → AnswerForAll (may_ask reach) es (ms ++ xs') (ms ++ xs)
-dropped_answers reach es ms xs xs' q is h = record {
+dropped_answers : (reach : Reach) (ms xs xs' : List Posting) (q : Posting) → xs ≡ q ∷ xs' → is_redundant_behind reach ms q ≡ true
+    → AnswerForAll (may_ask reach) (ms ++ xs') (ms ++ xs)
+dropped_answers reach ms xs xs' q is h = record {
   same = λ b asks keys flagged.
       let c = asked_in keys b flagged in
-      let number = if c q then Some q.number else None in
-      ap (least c) (sym (append_assoc es ms xs'))
-      ∙ least-append c (es ++ ms) xs'
-      ∙ ap (λ o. lesser o (least c xs')) (sym (both_least reach es ms q h b asks keys flagged))
-      ∙ lesser_assoc (least c (es ++ ms)) number (least c xs')
-      ∙ sym (ap (λ l. least c (es ++ (ms ++ l))) is ∙ ap (least c) (sym (append_assoc es ms (q ∷ xs'))) ∙ least-append c (es ++ ms) (q ∷ xs'));
+      least-append c ms xs'
+      ∙ ap (λ o. lesser o (least c xs')) (sym (redundant_least reach ms q h b asks keys flagged))
+      ∙ lesser_assoc (least c ms) (if c q then Some q.number else None) (least c xs')
+      ∙ sym (ap (λ l. least c (ms ++ l)) is ∙ least-append c ms (q ∷ xs'));
   none = λ c none.
       least-append c ms xs'
       ∙ none_of_three (least c ms) (if c q then Some q.number else None) (least c xs')
@@ -152,11 +109,11 @@ rises_without ms xs xs' q is h = by ms (ap (λ l. keys_rise (ms ++ l)) (sym is) 
 
 -- ---- the first of xs is moved
 
-moved_answers : (begins : ℕ → Bool) (es ms ms' xs xs' : List Posting) (q : Posting) → xs ≡ q ∷ xs' → ms' ≡ ms ++ q ∷ []
-    → AnswerForAll begins es (ms' ++ xs') (ms ++ xs)
-moved_answers begins es ms ms' xs xs' q is added =
+moved_answers : (begins : ℕ → Bool) (ms ms' xs xs' : List Posting) (q : Posting) → xs ≡ q ∷ xs' → ms' ≡ ms ++ q ∷ []
+    → AnswerForAll begins (ms' ++ xs') (ms ++ xs)
+moved_answers begins ms ms' xs xs' q is added =
     let same = ap (λ l. l ++ xs') added ∙ append_assoc ms (q ∷ []) xs' ∙ ap (λ l. ms ++ l) (sym is) in
-    record { same = λ b asks keys flagged. ap (λ l. least (asked_in keys b flagged) (es ++ l)) same; none = λ c none. ap (least c) same ∙ none }
+    record { same = λ b asks keys flagged. ap (least (asked_in keys b flagged)) same; none = λ c none. ap (least c) same ∙ none }
 
 -- ---- none of what was made is redundant
 
@@ -180,38 +137,16 @@ pushed_spaced once reach [] q within h spaced = refl
 pushed_spaced once reach (p ∷ []) q within h spaced = grind (arith, still_redundant once reach p q within h)
 pushed_spaced once reach (p ∷ o ∷ ps) q within h spaced = grind (arith, pushed_spaced once reach (o ∷ ps) q within h)
 
--- nor is one that the earlier postings don't make so
-still_needed : (once reach : Reach) (es : List Posting) (q : Posting) → IsWithin once reach → is_redundant_by reach es q ≡ false
-    → is_redundant_by once es q ≡ false
-still_needed once reach [] q within h = refl
-still_needed once reach (p ∷ ps) q within h = grind (arith, still_redundant once reach p q within, still_needed once reach ps q within)
-
-pushed_needed : (once reach : Reach) (es ms : List Posting) (q : Posting) → IsWithin once reach → is_redundant_by reach es q ≡ false
-    → are_needed once es ms ≡ true → are_needed once es (ms ++ q ∷ []) ≡ true
-pushed_needed once reach es ms q within h needed =
-    let own = still_needed once reach es q within h in
-    grind (arith, list_all-append (λ p. not (is_redundant_by once es p)) ms (q ∷ []))
-
-pub moved_makes : (reach : Reach) (es ms ms' xs xs' : List Posting) (q : Posting) → xs ≡ q ∷ xs' → ms' ≡ ms ++ q ∷ []
-    → (is_redundant_behind reach ms q || is_redundant_by reach es q) ≡ false → MakesFor reach es ms ms' (ms' ++ xs') (ms ++ xs)
-moved_makes reach es ms ms' xs xs' q is added h =
-    let parts = neither (is_redundant_behind reach ms q) (is_redundant_by reach es q) h in
-    record {
-      answers = moved_answers (may_ask reach) es ms ms' xs xs' q is added;
-      spaced = λ once within spaced. ap (are_spaced once) added ∙ pushed_spaced once reach ms q within parts.0 spaced;
-      needed = λ once within needed. ap (are_needed once es) added ∙ pushed_needed once reach es ms q within parts.1 needed;
-    }
-  where
-    neither : (x y : Bool) → (x || y) ≡ false → (x ≡ false) × (y ≡ false)
-    neither x y h = grind arith
-
-pub dropped_makes : (reach : Reach) (es ms xs xs' : List Posting) (q : Posting) → xs ≡ q ∷ xs'
-    → (is_redundant_behind reach ms q || is_redundant_by reach es q) ≡ true → MakesFor reach es ms ms (ms ++ xs') (ms ++ xs)
-dropped_makes reach es ms xs xs' q is h = record {
-  answers = dropped_answers reach es ms xs xs' q is h;
-  spaced = λ once within spaced. spaced;
-  needed = λ once within needed. needed;
+pub moved_makes : (reach : Reach) (ms ms' xs xs' : List Posting) (q : Posting) → xs ≡ q ∷ xs' → ms' ≡ ms ++ q ∷ []
+    → is_redundant_behind reach ms q ≡ false → MakesFor reach ms ms' (ms' ++ xs') (ms ++ xs)
+moved_makes reach ms ms' xs xs' q is added h = record {
+  answers = moved_answers (may_ask reach) ms ms' xs xs' q is added;
+  spaced = λ once within spaced. ap (are_spaced once) added ∙ pushed_spaced once reach ms q within h spaced;
 }
+
+pub dropped_makes : (reach : Reach) (ms xs xs' : List Posting) (q : Posting) → xs ≡ q ∷ xs' → is_redundant_behind reach ms q ≡ true
+    → MakesFor reach ms ms (ms ++ xs') (ms ++ xs)
+dropped_makes reach ms xs xs' q is h = record { answers = dropped_answers reach ms xs xs' q is h; spaced = λ once within spaced. spaced }
 
 -- ---- beside others
 
@@ -219,29 +154,27 @@ either_none : (o p : Option ℕ) → lesser o p ≡ None → (o ≡ None) × (p 
 either_none o p h = grind arith
 
 -- the first part was moved
-pub first_answers : (begins : ℕ → Bool) (es ms ms' xs xs' ys : List Posting) → AnswerForAll begins es (ms' ++ xs') (ms ++ xs)
-    → AnswerForAll begins es (ms' ++ (xs' ++ ys)) (ms ++ (xs ++ ys))
-first_answers begins es ms ms' xs xs' ys are = record {
+pub first_answers : (begins : ℕ → Bool) (ms ms' xs xs' ys : List Posting) → AnswerForAll begins (ms' ++ xs') (ms ++ xs)
+    → AnswerForAll begins (ms' ++ (xs' ++ ys)) (ms ++ (xs ++ ys))
+first_answers begins ms ms' xs xs' ys are = record {
   same = λ b asks keys flagged.
       let c = asked_in keys b flagged in
-      three es c ms' xs' ∙ ap (λ o. lesser o (least c ys)) (are.same b asks keys flagged) ∙ sym (three es c ms xs);
+      three c ms' xs' ∙ ap (λ o. lesser o (least c ys)) (are.same b asks keys flagged) ∙ sym (three c ms xs);
   none = λ c none.
-      let parts = either_none (least c (ms ++ xs)) (least c ys) (sym (three [] c ms xs) ∙ none) in
-      three [] c ms' xs' ∙ (λ i. lesser (are.none c parts.0 i) (parts.1 i));
+      let parts = either_none (least c (ms ++ xs)) (least c ys) (sym (three c ms xs) ∙ none) in
+      three c ms' xs' ∙ (λ i. lesser (are.none c parts.0 i) (parts.1 i));
 }
   where
-    three : (es : List Posting) (c : Posting → Bool) (ms xs : List Posting)
-        → least c (es ++ (ms ++ (xs ++ ys))) ≡ lesser (least c (es ++ (ms ++ xs))) (least c ys)
-    three es c ms xs =
-        ap (λ l. least c (es ++ l)) (sym (append_assoc ms xs ys)) ∙ ap (least c) (sym (append_assoc es (ms ++ xs) ys)) ∙ least-append c (es ++ (ms ++ xs)) ys
+    three : (c : Posting → Bool) (ms xs : List Posting) → least c (ms ++ (xs ++ ys)) ≡ lesser (least c (ms ++ xs)) (least c ys)
+    three c ms xs = ap (least c) (sym (append_assoc ms xs ys)) ∙ least-append c (ms ++ xs) ys
 
 -- the second was
-pub second_answers : (begins : ℕ → Bool) (es ms ms' xs ys ys' : List Posting) → AnswerForAll begins es (ms' ++ ys') (ms ++ ys)
-    → AnswerForAll begins es (ms' ++ (xs ++ ys')) (ms ++ (xs ++ ys))
-second_answers begins es ms ms' xs ys ys' are = record {
+pub second_answers : (begins : ℕ → Bool) (ms ms' xs ys ys' : List Posting) → AnswerForAll begins (ms' ++ ys') (ms ++ ys)
+    → AnswerForAll begins (ms' ++ (xs ++ ys')) (ms ++ (xs ++ ys))
+second_answers begins ms ms' xs ys ys' are = record {
   same = λ b asks keys flagged.
       let c = asked_in keys b flagged in
-      behind c ms' ys' ∙ ap (λ o. lesser o (least c xs)) (are.same b asks keys flagged) ∙ sym (behind c ms ys);
+      turned c ms' ys' ∙ ap (λ o. lesser o (least c xs)) (are.same b asks keys flagged) ∙ sym (turned c ms ys);
   none = λ c none.
       let parts = either_none (least c (ms ++ ys)) (least c xs) (sym (turned c ms ys) ∙ none) in
       turned c ms' ys' ∙ (λ i. lesser (are.none c parts.0 i) (parts.1 i));
@@ -254,9 +187,3 @@ second_answers begins es ms ms' xs ys ys' are = record {
     turned c ms ys =
         least-append c ms (xs ++ ys) ∙ ap (lesser (least c ms)) (least-append c xs ys) ∙ turn (least c ms) (least c xs) (least c ys)
         ∙ ap (λ o. lesser o (least c xs)) (sym (least-append c ms ys))
-
-    behind : (c : Posting → Bool) (ms ys : List Posting)
-        → least c (es ++ (ms ++ (xs ++ ys))) ≡ lesser (least c (es ++ (ms ++ ys))) (least c xs)
-    behind c ms ys =
-        least-append c es (ms ++ (xs ++ ys)) ∙ ap (lesser (least c es)) (turned c ms ys) ∙ sym (lesser_assoc (least c es) (least c (ms ++ ys)) (least c xs))
-        ∙ ap (λ o. lesser o (least c xs)) (sym (least-append c es (ms ++ ys)))

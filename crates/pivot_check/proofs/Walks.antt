@@ -29,7 +29,7 @@ le_from_not a b h = grind (arith, common_steps, turned a b)
 pub le_trans : (a b k : Bytes) → is_le (key_cmp a b) ≡ true → is_le (key_cmp b k) ≡ true → is_le (key_cmp a k) ≡ true
 le_trans a b k h g = grind (arith, common_steps, less_trans a b k, same_keys a b, same_keys b k)
 
-pub from_le : (a b low : Bytes) → is_le (key_cmp a b) ≡ true → is_lt (key_cmp b low) ≡ true → is_lt (key_cmp a low) ≡ true
+from_le : (a b low : Bytes) → is_le (key_cmp a b) ≡ true → is_lt (key_cmp b low) ≡ true → is_lt (key_cmp a low) ≡ true
 from_le a b low le lt = grind (arith, common_steps, less_trans a b low, same_keys a b)
 
 -- of two postings the later has no lower key
@@ -48,7 +48,7 @@ rest_rises (p ∷ ps) (suc i) h = rest_rises ps i (and_parts _ _ h).1
 
 -- ---- what a test finds, and where it parts a list
 
-pub pass-all : (t : Posting → Bool) (ps : List Posting) → AllByRecursion (λ p. t p ≡ true) ps → list_all t ps ≡ true
+pass-all : (t : Posting → Bool) (ps : List Posting) → AllByRecursion (λ p. t p ≡ true) ps → list_all t ps ≡ true
 pass-all t [] h = refl
 pass-all t (p ∷ ps) h = and_from _ _ h.0 (pass-all t ps h.1)
 

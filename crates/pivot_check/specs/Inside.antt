@@ -33,6 +33,11 @@ abbrev pub is_run_later : ℕ → WrittenRun → Bool
 is_run_later o r = are_later o r.made.written.items
     && (are_later o r.first.written.items && are_later o r.second.written.items)
 
--- how far a run is merged
+-- how far a run is merged, and how much memory it is still to release
 abbrev pub written_run_size : WrittenRun → RunSize
-written_run_size r = record { last = r.last; left = left r.first + left r.second; made = left r.made }
+written_run_size r = record {
+  last = r.last;
+  left = left r.first + left r.second;
+  made = left r.made;
+  room = r.room;
+}

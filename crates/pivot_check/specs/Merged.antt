@@ -1,25 +1,21 @@
 -- How runs of written keys are merged, some postings at a time.
-use Rattle.std.specs.Prelude.{◌≡◌, ℕ, ◌+◌, ◌&&◌, Bool, List, nat_le, length}
-use Rattle.merging_runs.specs.RunSizes.{RunSize, IsMoved, IsTried, are_alike, with_run, work_for}
+use Rattle.std.specs.Prelude.{◌≡◌, ℕ, List, length}
+use Rattle.merging_runs.specs.RunSizes.{RunSize, IsMoved, IsTried, become_one, moves_for, with_run}
 use Rattle.snapshot.specs.View.{View}
 use Rattle.pivot_check.specs.Kept.{CommittedValue}
-use Rattle.pivot_check.specs.declared.merges.TheConstants.{MERGED_MAX, SEARCHING_WORK}
 
--- two runs of a like size, not too long for one
-abbrev pub fit_one : ℕ → ℕ → RunSize → RunSize → Bool
-fit_one o before r s = are_alike o r s && nat_le (r.made + s.made) MERGED_MAX
-
--- two runs of a like size beside one another are being made one, or memory for that was refused, which is counted, or
--- there are no such two
+-- two runs beside one another that are to become one are being made one, or memory for that was refused, which is
+-- counted, or there are no such two
 abbrev pub IsTriedIn : CommittedValue → CommittedValue → Type 0
-IsTriedIn old new = IsTried (fit_one old.facts.oldest) old.contents.sizes new.contents.sizes old.contents.refused
-    new.contents.refused
+IsTriedIn old new =
+    IsTried (become_one old.facts.reach.begins old.facts.oldest) old.contents.sizes new.contents.sizes
+    old.contents.refused new.contents.refused
 
--- The merges that are under way in runs of these sizes were moved on, for so many written keys, one posting a move. No
--- move counts as more work than one that searches. No merge was begun, so no memory for one was refused.
+-- The merges that are under way in runs of these sizes were moved on, for so many written keys, one posting a move, and
+-- memory was released where nothing was left to move. No merge was begun, so no memory for one was refused.
 abbrev pub AreMoved : ℕ → List RunSize → CommittedValue → CommittedValue → Type 0
 AreMoved count sizes old new =
-    IsMoved 1 SEARCHING_WORK new.facts.oldest (work_for count) sizes new.contents.sizes
+    IsMoved 1 new.facts.oldest (moves_for count) sizes new.contents.sizes
     × (new.contents.refused ≡ old.contents.refused)
 
 -- so it is once the written keys of the transaction have come with number n as a run

@@ -1,7 +1,7 @@
 -- Written keys of committed transactions, and the least number among them.
 use Rattle.std.specs.List.{AllByRecursion, filter, list_all}
 use Rattle.std.specs.Ordering.{is_le, is_lt}
-use Rattle.std.specs.Prelude.{◌≡◌, ◌≤◌, ℕ, ◌-◌, length, min, Bool, true, not, ◌&&◌, ◌||◌, List, [], ◌∷◌, ◌++◌, Option}
+use Rattle.std.specs.Prelude.{◌≡◌, ◌≤◌, ℕ, ◌-◌, length, min, Bool, true, not, ◌&&◌, ◌||◌, List, [], ◌∷◌, Option}
 use Rattle.std.specs.Prelude.{Some, None, is_some, if◌then◌else◌, nat_lt, take, drop}
 use Rattle.model.specs.Map.{Bytes, key_cmp}
 use Rattle.model.specs.PrivateCopy.{Mark, covers, is_covered}
@@ -41,9 +41,9 @@ abbrev pub AnswerAs : (ℕ → Bool) → List Posting → List Posting → Type 
 AnswerAs begins ps qs = (b : ℕ) → begins b ≡ true → (keys : Bytes → Bool) (flagged : Bool)
     → least (asked_in keys b flagged) ps ≡ least (asked_in keys b flagged) qs
 
--- So some of these postings answer behind earlier ones as all do, and none of them passes what none of all passes.
-pub record AnswerForAll (begins : ℕ → Bool) (earlier some all : List Posting) : Type 0 where
-  pub same : AnswerAs begins (earlier ++ some) (earlier ++ all)
+-- So some of these postings answer as all do, and none of them passes what none of all passes.
+pub record AnswerForAll (begins : ℕ → Bool) (some all : List Posting) : Type 0 where
+  pub same : AnswerAs begins some all
   pub none : (c : Posting → Bool) → least c all ≡ None → least c some ≡ None
 
 -- the number of a posting of which that holds

@@ -1,5 +1,5 @@
 -- Postings that none who may ask is answered by.
-use Rattle.std.specs.List.{AllByRecursion, list_all, list_any}
+use Rattle.std.specs.List.{AllByRecursion, list_all}
 use Rattle.std.specs.Prelude.{◌≡◌, ◌≤◌, ◌+◌, ◌*◌, ℕ, Bool, true, false, not, ◌&&◌, ◌||◌, nat_le, nat_lt}
 use Rattle.std.specs.Prelude.{List, [], ◌∷◌, length}
 use Rattle.model.specs.Map.{is_same_key}
@@ -15,10 +15,6 @@ abbrev pub is_redundant : Reach → Posting → Posting → Bool
 is_redundant reach p q = is_same_key p.key q.key
     && (nat_le p.number q.number
     && ((p.has_earlier_target || not q.has_earlier_target) && is_undivided reach p.number q.number))
-
--- whether one of the postings does so
-abbrev pub is_redundant_by : Reach → List Posting → Posting → Bool
-is_redundant_by reach ps q = list_any (λ p. is_redundant reach p q) ps
 
 -- whoever may ask in the new reach might in the old one
 pub record IsWithin (old new : Reach) : Type 0 where
@@ -36,22 +32,11 @@ abbrev pub StaySpaced : Reach → List Posting → List Posting → Type 0
 StaySpaced reach old new = (once : Reach) → IsWithin once reach → are_spaced once old ≡ true
     → are_spaced once new ≡ true
 
--- whether none of the postings is made redundant by one of those that came earlier
-abbrev pub are_needed : Reach → List Posting → List Posting → Bool
-are_needed reach earlier ps = list_all (λ q. not (is_redundant_by reach earlier q)) ps
-
--- Where none was made so for those who might ask once, among whom are all who may now, none is among the new ones.
-abbrev pub StayNeeded : Reach → List Posting → List Posting → List Posting → Type 0
-StayNeeded reach earlier old new = (once : Reach) → IsWithin once reach → are_needed once earlier old ≡ true
-    → are_needed once earlier new ≡ true
-
--- Behind those that came earlier, whoever may ask is answered by some of the postings as by all, and none of them
--- passes what none of all does. Of those that were made none is redundant, neither by the one before it nor by the
--- earlier.
-pub record MakesFor (reach : Reach) (earlier was made some all : List Posting) : Type 0 where
-  pub answers : AnswerForAll (may_ask reach) earlier some all
+-- Whoever may ask is answered by some of the postings as by all; none of them passes what none of all does; and of
+-- those that were made none is redundant.
+pub record MakesFor (reach : Reach) (was made some all : List Posting) : Type 0 where
+  pub answers : AnswerForAll (may_ask reach) some all
   pub spaced : StaySpaced reach was made
-  pub needed : StayNeeded reach earlier was made
 
 -- whether the last of the postings does so
 abbrev pub is_redundant_behind : Reach → List Posting → Posting → Bool

@@ -33,10 +33,12 @@ use std::marker::Model;
 /// those who may ask are those of the definition, which looks at the whole history.
 ///
 /// Kept are the last reader of each key, and the keys that they wrote, each with the number and the flag of its transaction. The keys stand
-/// in runs, each sorted by key, of transactions that committed one after another; runs of a like size are merged, so that few are left. A
-/// merge goes on some keys with each commit, so that no commit is long; it takes the places of both runs until it has ended. It drops what
-/// none who may ask is answered by, so that a key that is written again and again is kept a few times, and not once for each commit. Two
-/// long runs aren't merged; but a long one, as it is made, drops also what the earlier runs answer in its place.
+/// in runs, each sorted by key, of transactions that committed one after another. Two runs of a like size beside one another are merged
+/// where they have 16,384 keys at most together, or where nobody who may still ask began between their numbers: so few are left, and no
+/// long run holds what is forgotten beside what isn't. A merge goes on some keys with each commit, so that no commit is long. It takes the
+/// places of both runs; once it has ended, the memory of the two is released in steps, for 4,096 keys of the longer one with each commit.
+/// It drops what none who may ask is answered by, so that a key that is written again and again is kept a few times, and not once for each
+/// commit.
 #[derive(Drop)]
 pub struct Committed {
     readers: LastReaders,
@@ -150,7 +152,7 @@ impl Committed {
     }
 
     /// How many written keys the runs hold, and one more for each run; 2^64 - 1 where there were more. What a merge has moved counts twice
-    /// until it ends. Looks at each run, and takes no memory.
+    /// until the memory that it had before is released. Looks at each run, and takes no memory.
     pub fn postings(&self) -> usize
         ensures { result ≡ size_in self.now.contents.written.runs }
     {
@@ -217,9 +219,10 @@ impl Committed {
     /// written keys, the place of each of these keys, and the places of two runs; `Memory` where that is refused. What is kept stands for
     /// the same histories in either case.
     ///
-    /// It begins to merge two runs beside one another that are of a like size and have `MERGED_MAX` keys at most together, where there
-    /// are such: that takes the places of both. Where memory for these is refused, it counts the refusal, and the two stay. So it does
-    /// with the last readers, by a count of their own.
+    /// It begins to merge the last two runs beside one another that are to become one, where there are such: that takes the places of both.
+    /// They are of a like size, and have 16,384 keys at most together, or nobody who may still ask began between their numbers
+    /// (`become_one`). Where memory for these is refused, it counts the refusal, and the two stay. So it does with the last readers, by a
+    /// count of their own.
     pub fn reserve(&mut self, transaction: &Transaction) -> Result<(), Memory>
         ensures same { StandForSame self.old.facts self.new.facts }
         ensures tried { IsTriedIn self.old self.new }
@@ -264,15 +267,10 @@ impl Committed {
 
     /// Keeps what the check needs of the transaction, which commits as number `n`, the next one, and was cleared for it by `verdict`. From
     /// each history that is stood for it leads to that history with the new record. It can't fail and takes no memory: `reserve` made room.
-    /// Then the merges that are under way go on by work of 16 for each written key, and 64, until nothing is left to move; a posting that
-    /// is moved counts as 1. What none who may ask is answered by is dropped as it is moved: of two postings of one key the later, where
-    /// none who may ask began between their numbers and the flag of the earlier tells as much. The last readers are merged in the same way,
-    /// by a count of their own.
-    ///
-    /// Where the two runs that are merged have `SEARCHED_MIN` postings or more, the earlier of the two may also stand in one of the first
-    /// `SEARCHED_MAX` runs, and a posting that is moved counts as `SEARCHING_WORK`. The merge remembers where it looked last in each of
-    /// these, so that posting costs there a look at the next few, and at those of its key; a binary search where its key isn't near, and
-    /// two more while that run is being made of two.
+    /// Then the merges that are under way go on by 16 moves for each written key, and 64 more, until nothing is left to move. A move takes
+    /// one written key. What none who may ask is answered by is dropped then: of two postings of one key the later, where none who may ask
+    /// began between their numbers and the flag of the earlier tells as much. Once a merge has ended, the memory of the two runs is
+    /// released, for 4,096 keys of the longer one with each call. The last readers are merged in the same way, by a count of their own.
     pub fn note(&mut self, transaction: &Transaction, n: u64, cleared: Cleared)
         requires next { n ≡ self.old.facts.last + 1 }
         requires cleared { IsCleared self.old.facts transaction.now cleared }

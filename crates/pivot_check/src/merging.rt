@@ -1,19 +1,14 @@
 //! One step of a merge: the least key of two parts of a run goes to the end of a third, where someone who may ask is answered by it.
-ghost use Rattle.std.specs.Prelude.{◌≡◌, ◌<◌, ◌+◌, ◌++◌, ◌||◌, IsTrue, true, false, length};
+ghost use Rattle.std.specs.Prelude.{◌≡◌, ◌<◌, ◌+◌, ◌++◌, IsTrue, true, false, length};
 ghost use Rattle.std.specs.Vec.{vec_capacity};
 ghost use Rattle.pivot_check.specs.Active.{reach_of};
-ghost use Rattle.pivot_check.specs.Inside.{postings_in};
 ghost use Rattle.pivot_check.specs.Postings.{keys_rise};
-ghost use Rattle.pivot_check.specs.Redundant.{MakesFor, is_redundant_behind, is_redundant_by};
+ghost use Rattle.pivot_check.specs.Redundant.{MakesFor};
 ghost use Rattle.pivot_check.specs.Parts.{remaining, left, remaining_in};
 ghost use Rattle.pivot_check.specs.Merging.{BeginsBelow, RiseBehind, StaysRising, TakesPosting};
 
 use crate::active::ActiveBegins;
-use crate::earlier::have_one_for;
 use crate::part::Part;
-use crate::run::WrittenRun;
-use crate::seeking::LastPlaces;
-use crate::written::Written;
 
 // Does a least key stand first in the first part?
 fn is_in_first(first: &Part, second: &Part) -> bool
@@ -31,67 +26,40 @@ fn is_in_first(first: &Part, second: &Part) -> bool
     x.key().order(y.key()).is_le()
 }
 
-// Does the last posting of a part answer whoever may ask wherever this one would, or does one of the earlier runs?
-fn is_redundant(
-    to: &Part,
-    earlier: &[WrittenRun],
-    places: &mut LastPlaces,
-    written: &Written,
-    active: &ActiveBegins,
-) -> bool
-    ensures { result ≡ (is_redundant_behind (reach_of active.now) (remaining to.now) written.now
-        || is_redundant_by (reach_of active.now) (postings_in earlier.now) written.now) }
-{
-    to.makes_redundant(written, active) || have_one_for(earlier, written, places, active)
-}
-
 // Moves the first of what is left of a part, below which no key of another stands, behind a third, in the room that it has. Where the last
-// posting of that answers whoever may ask in its place, or one of the earlier runs does, it is dropped.
-fn move_first(
-    from: &mut Part,
-    to: &mut Part,
-    earlier: &[WrittenRun],
-    places: &mut LastPlaces,
-    active: &ActiveBegins,
-)
+// posting of that answers whoever may ask in its place, it is dropped.
+fn move_first(from: &mut Part, to: &mut Part, active: &ActiveBegins)
     requires some { 0 < left from.old }
     requires rising { IsTrue (keys_rise (remaining to.old ++ remaining from.old)) }
     requires room { length to.old.written.items < vec_capacity to.old.written }
-    ensures made { MakesFor (reach_of active.now) (postings_in earlier.now) (remaining to.old) (remaining to.new)
-        (remaining to.new ++ remaining from.new) (remaining to.old ++ remaining from.old) }
+    ensures made { MakesFor (reach_of active.now) (remaining to.old) (remaining to.new) (remaining to.new
+        ++ remaining from.new)
+        (remaining to.old ++ remaining from.old) }
     ensures rising { IsTrue (keys_rise (remaining to.new ++ remaining from.new)) }
     ensures other { StaysRising (remaining from.old) (remaining to.old) (remaining to.new) }
     ensures moved { TakesPosting (left from.old) (left from.new) to.old to.new }
 {
     let written = from.take_first();
-    if !is_redundant(to, earlier, places, &written, active) {
+    if !to.makes_redundant(&written, active) {
         to.push(written);
     }
 }
 
-// Moves the posting of a least key of two parts behind a third, in the room that it has, or drops it. Whoever may ask is answered by the
-// earlier runs and all three as before. Of two postings of one key beside one another in the third the first doesn't answer in the place of
-// the second, nor does one of the earlier runs in the place of one in the third.
-pub(crate) fn move_least(
-    first: &mut Part,
-    second: &mut Part,
-    to: &mut Part,
-    earlier: &[WrittenRun],
-    places: &mut LastPlaces,
-    active: &ActiveBegins,
-)
+// Moves the posting of a least key of two parts behind a third, in the room that it has, or drops it. Whoever may ask is answered by all
+// three as before, and of two postings of one key beside one another in the third the first doesn't answer in the place of the second.
+pub(crate) fn move_least(first: &mut Part, second: &mut Part, to: &mut Part, active: &ActiveBegins)
     requires rising { RiseBehind to.old first.old second.old }
     requires some { 0 < left first.old + left second.old }
     requires room { length to.old.written.items < vec_capacity to.old.written }
-    ensures made { MakesFor (reach_of active.now) (postings_in earlier.now) (remaining to.old) (remaining to.new)
+    ensures made { MakesFor (reach_of active.now) (remaining to.old) (remaining to.new)
         (remaining_in to.new first.new second.new)
         (remaining_in to.old first.old second.old) }
     ensures rising { RiseBehind to.new first.new second.new }
     ensures moved { TakesPosting (left first.old + left second.old) (left first.new + left second.new) to.old to.new }
 {
     if is_in_first(first, second) {
-        move_first(first, to, earlier, places, active);
+        move_first(first, to, active);
     } else {
-        move_first(second, to, earlier, places, active);
+        move_first(second, to, active);
     }
 }

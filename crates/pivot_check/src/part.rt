@@ -148,6 +148,22 @@ impl Part {
         }
     }
 
+    // Releases its memory but for so many of those that were taken. Nothing is left of it.
+    pub(crate) fn shrink_to(&mut self, most: usize)
+        requires none { self.old.start ≡ length self.old.written.items }
+        ensures none { self.new.start ≡ length self.new.written.items }
+        ensures bound { self.new.bound ≡ self.old.bound }
+        ensures fewer { length self.new.written.items ≤ length self.old.written.items }
+        ensures freed { most ≡ 0 → vec_capacity self.new.written ≡ 0 }
+        ensures kept { min most (vec_capacity self.old.written) ≤ vec_capacity self.new.written }
+    {
+        self.bounds.clear();
+        self.bounds.shrink_to(0);
+        self.written.truncate(most);
+        self.written.shrink_to(most);
+        self.start = self.written.len();
+    }
+
     // Drops those with numbers up to `oldest`, also of those that were taken. It looks at each of them.
     pub(crate) fn sweep(&mut self, oldest: u64)
         requires { oldest < 2 ^ 64 - 1 }

@@ -6,7 +6,6 @@ ghost use Rattle.pivot_check.specs.Parts.{remaining, left, remaining_in};
 
 use crate::bound::Bound;
 use crate::part::Part;
-use crate::seeking::LastPlaces;
 use crate::written::Written;
 use std::alloc::Global;
 
@@ -21,16 +20,16 @@ pub(crate) struct WrittenRun {
     pub(crate) second: Part,
     // what was made of their least keys
     pub(crate) made: Part,
-    // where each of the earlier runs was read last
-    pub(crate) places: LastPlaces,
+    // for how many postings of the longer of the two the memory is still to be released
+    pub(crate) room: usize,
     ghost first_rises: { IsTrue (keys_rise (remaining made ++ remaining first)) },
     ghost second_rises: { IsTrue (keys_rise (remaining made ++ remaining second)) },
-    ghost room: { left first + left second ≤ vec_capacity made.written - length made.written.items },
+    ghost places: { left first + left second ≤ vec_capacity made.written - length made.written.items },
     ghost upto: { IsTrue (are_upto last (remaining_in made first second)) },
 }
 
 // No postings.
-pub(crate) fn nothing(alloc: Global) -> Part
+fn nothing(alloc: Global) -> Part
     ensures none { length result.written.items ≡ 0 }
     ensures places { vec_capacity result.written ≡ 0 }
     ensures number { result.bound.number ≡ 2 ^ 64 - 1 }
@@ -53,6 +52,7 @@ impl WrittenRun {
         ensures last { result.last ≡ last }
         ensures left { left result.first + left result.second ≡ 0 }
         ensures made { left result.made ≡ length written.items }
+        ensures room { result.room ≡ 0 }
     {
         let alloc = *written.allocator();
         WrittenRun {
@@ -60,7 +60,7 @@ impl WrittenRun {
             first: nothing(alloc),
             second: nothing(alloc),
             made: Part::of(written, Vec::new(alloc)),
-            places: LastPlaces::new(),
+            room: 0,
         }
     }
 }

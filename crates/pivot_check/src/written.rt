@@ -4,7 +4,6 @@ ghost use Rattle.std.specs.Prelude.{Bool, IsTrue, None, Some, count_by, length, 
 ghost use Rattle.std.specs.List.{insert, list_any};
 ghost use Rattle.merging_runs.specs.Next.{IsNext};
 ghost use Rattle.std.specs.Vec.{vec_len, vec_capacity};
-ghost use Rattle.model.specs.Map.{is_same_key};
 ghost use Rattle.marks.specs.Lent.{lent_mark};
 ghost use Rattle.marks.specs.Marked.{start_of};
 ghost use Rattle.pivot_check.specs.Bounds.{in_span};
@@ -56,17 +55,11 @@ impl Written {
         self.key.lend()
     }
 
-    pub(crate) fn has_key_of(&self, other: &Written) -> bool
-        ensures { result ≡ is_same_key self.now.key other.now.key }
-    {
-        self.key().order(other.key()).is_eq()
-    }
-
     // Does it answer whoever may ask wherever another of the same key would?
     pub(crate) fn makes_redundant(&self, other: &Written, active: &ActiveBegins) -> bool
         ensures { result ≡ is_redundant (reach_of active.now) self.now other.now }
     {
-        self.has_key_of(other)
+        self.key().order(other.key()).is_eq()
             && self.number <= other.number
             && (self.has_earlier_target || !other.has_earlier_target)
             && active.is_undivided(self.number, other.number)
@@ -180,7 +173,7 @@ fn count_covered(postings: &[Written], mark: MarkRef<'_>) -> usize
 }
 
 // How many of the postings have keys below this one. A binary search.
-pub(crate) fn count_below(postings: &[Written], key: KeyRef<'_>) -> usize
+fn count_below(postings: &[Written], key: KeyRef<'_>) -> usize
     requires { IsTrue (keys_rise postings.now) }
     ensures { IsCountBelow key.entry.bytes.now postings.now result }
 {

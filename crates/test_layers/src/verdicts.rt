@@ -397,8 +397,7 @@ fn writer_of_many<R: Abort + AllocGlobal>(rt: &R, begin: u64, first: u32) -> Tra
     tx
 }
 
-/// So it is with 192,000 keys, which are too many for one run: what is in the earlier runs isn't there once more in each round. What a
-/// merge has moved counts twice, so the most is nearly twice as many.
+/// So it is with 192,000 keys that are written again and again. Two runs that are being made one count whole until their merge has ended.
 #[test]
 fn many_keys_are_kept_a_few_times(rt: HostRuntime) {
     let mut committed = Committed::new(rt.alloc());
@@ -406,7 +405,7 @@ fn many_keys_are_kept_a_few_times(rt: HostRuntime) {
         let tx = writer_of_many(&rt, committed.last(), n % 3_000 * 64);
         assert!(rt; commit(&rt, &mut committed, &tx) == Answer::Clear);
         committed.keep_active(&[0]);
-        assert!(rt; committed.postings() <= 420_000, "after commit {n}");
+        assert!(rt; committed.postings() <= 768_000, "after commit {n}");
     }
     let old = writer_of_many(&rt, 0, 48_000);
     assert!(rt; commit(&rt, &mut committed, &old) == Answer::Overwritten(0));

@@ -13,7 +13,7 @@ invariant_of-result c =
     record {
       first_rises = ap (λ l. steps_rise (l ++ made)) c.new.ensures.items ∙ rises;
       second_rises = ap (λ l. steps_rise (l ++ made)) c.new-2.ensures.items ∙ rises;
-      room = omega (arith, c.new.ensures.len, c.new-2.ensures.len);
+      places = omega (arith, c.new.ensures.len, c.new-2.ensures.len);
       upto = λ k.
           let is = renumbered_run n c.new.result.items c.new-2.result.items made was k c.new.ensures.items c.new-2.ensures.items c.renumber.ensures in
           omega (arith, is, in_place_low n (number_at was k));

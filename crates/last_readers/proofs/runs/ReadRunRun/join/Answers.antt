@@ -17,7 +17,7 @@ invariant_of-self c =
       first_rises = rises_with c.replace.result.items made none ((λ i. steps_rise (value i).items)
           ∙ rises_right was.first.items was.made.items was.first_rises);
       second_rises = rises_with more.made.items made none (rises_right more.first.items more.made.items more.first_rises);
-      room = omega (arith, ap deque_len value, ap deque_len after, ap deque_capacity after, c.requires.room.0, c.requires.room.1);
+      places = omega (arith, ap deque_len value, ap deque_len after, ap deque_capacity after, c.requires.room.0, c.requires.room.1);
       upto = λ k.
           let both = joined_runs was more c.replace.result.items made k c.requires.first c.requires.second (λ i. (value i).items) none in
           omega (arith, both, was.upto k, more.upto k, c.max-self.ensures);

@@ -1,13 +1,10 @@
 use Rattle.last_readers.proofs.runs.ReadRunRun.move_one.Goals as goal
-use Rattle.std.proofs.Common.{◌∷◌, [], true}
+use Rattle.std.proofs.Common.{true}
 use Rattle.std.proofs.lemmas.Bool.{and_parts, leb-true}
-use Rattle.std.specs.Prelude.{◌&&◌, nat_le}
 use Rattle.last_readers.proofs.Cuts.{cut_either, cut_later_same}
-use Rattle.last_readers.specs.Agreeing.{readers_agree_between}
 
 pub returns-clause-agree : goal.returns-clause-agree
 returns-clause-agree c =
-    readers_agree_between (λ b. nat_le c.args.oldest b && true) c.args._earlier.now (_ ∷ []) (c.args.self.now ∷ []) [] (λ b asks k.
+    λ b asks k.
     let low = leb-true c.args.oldest b (and_parts _ true asks).0 in
-    rw (c.free_room.ensures.first, c.free_room.ensures.second)
-    (cut_either b _ _ 0 (cut_later_same c.args.oldest b _ _ low (c.move_greatest.ensures.moved.same k))))
+    cut_either b _ _ 0 (cut_later_same c.args.oldest b _ _ low (c.move_greatest.ensures.moved.same k))

@@ -11,22 +11,20 @@ invariant_of-self c =
     let o = c.args.oldest in
     let was = c.args.self.now in
     let in_force = c.number_in_force-in_force.result in
-    let first = c.free_room.ensures.first ∙ c.sweep.ensures.swept in
-    let second = c.free_room.ensures.second ∙ c.sweep-2.ensures.swept in
+    let first = c.sweep.ensures.swept in
+    let second = c.sweep-2.ensures.swept in
     let made = c.sweep-3.ensures.swept in
     let merged : (k : Bytes)
-    → merged_at c.free_room.new.first.items c.free_room.new.second.items c.sweep-3.new.steps.items k
+    → merged_at c.sweep.new.steps.items c.sweep-2.new.steps.items c.sweep-3.new.steps.items k
     ≡ cut o (merged_at was.first.items was.second.items was.made.items k)
-    = λ k. (λ i. merged_at (c.free_room.ensures.first i) (c.free_room.ensures.second i) c.sweep-3.new.steps.items k)
-    ∙ merged_swept o in_force was.first.items was.second.items was.made.items c.sweep.new.steps.items c.sweep-2.new.steps.items c.sweep-3.new.steps.items k
+    = λ k. merged_swept o in_force was.first.items was.second.items was.made.items c.sweep.new.steps.items c.sweep-2.new.steps.items c.sweep-3.new.steps.items k
     was.first_rises was.second_rises c.sweep.ensures.swept c.sweep-2.ensures.swept made c.number_in_force-in_force.ensures in
     record {
       first_rises = (λ i. steps_rise (first i ++ made i)) ∙ rises_swept o (Some 0) in_force was.first.items was.made.items was.first_rises;
       second_rises = (λ i. steps_rise (second i ++ made i)) ∙ rises_swept o (Some 0) in_force was.second.items was.made.items was.second_rises;
-      room = omega (
+      places = omega (
         arith,
-        was.room,
-        c.free_room.ensures.lens,
+        was.places,
         c.sweep.ensures.len,
         c.sweep-2.ensures.len,
         c.sweep-3.ensures.len,
@@ -44,8 +42,7 @@ returns-clause-agree c = λ b asks k.
     let was = c.args.self.now in
     cut_either b _ _ 0 (cut_later_same o b _ _ low (
     ap (cut o)
-    ((λ i. merged_at (c.free_room.ensures.first i) (c.free_room.ensures.second i) c.sweep-3.new.steps.items k)
-    ∙ merged_swept o c.number_in_force-in_force.result was.first.items was.second.items was.made.items c.sweep.new.steps.items c.sweep-2.new.steps.items
+    (merged_swept o c.number_in_force-in_force.result was.first.items was.second.items was.made.items c.sweep.new.steps.items c.sweep-2.new.steps.items
     c.sweep-3.new.steps.items k was.first_rises was.second_rises c.sweep.ensures.swept c.sweep-2.ensures.swept c.sweep-3.ensures.swept
     c.number_in_force-in_force.ensures)
     ∙ cut_again o (merged_at was.first.items was.second.items was.made.items k)))

@@ -21,7 +21,7 @@ invariant_of-self c =
     record {
       first_rises = (λ i. keys_rise (nothing i ++ remaining (value i))) ∙ was.made.rising;
       second_rises = (λ i. keys_rise (nothing i ++ remaining more.made)) ∙ more.made.rising;
-      room = omega (arith, empty, ap left value, ap (λ (p : Part). vec_capacity p.written) after, c.requires.room.1);
+      places = omega (arith, empty, ap left value, ap (λ (p : Part). vec_capacity p.written) after, c.requires.room.1);
       upto = subst (λ (n : ℕ). are_upto n (remaining_in made first more.made) ≡ true) (sym c.max-self.ensures)
           (both_upto was.last more.last (in_run was) (in_run more) (remaining_in made first more.made) was.upto more.upto
           (λ t. joined t was more made first c.requires.first c.requires.second none value));

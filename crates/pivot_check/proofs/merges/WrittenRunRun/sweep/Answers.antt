@@ -1,7 +1,6 @@
 use Rattle.pivot_check.proofs.merges.WrittenRunRun.sweep.Goals as goal
-use Rattle.std.proofs.Common.{◌++◌, [], List, ap, sym, ◌∙◌, arith}
+use Rattle.std.proofs.Common.{◌++◌, [], List, refl, ap, sym, ◌∙◌, arith}
 use Rattle.std.proofs.lemmas.Bool.{leb-true}
-use Rattle.merging_runs.specs.RunSizes.{RunSize}
 use Rattle.pivot_check.proofs.Writers.{asked_above}
 use Rattle.pivot_check.proofs.Sweeps.{all_parts, both_rise, fewer_in, fewer_left, upto_later}
 use Rattle.pivot_check.specs.Agreeing.{least-append, lesser_none}
@@ -19,9 +18,9 @@ invariant_of-self c =
     record {
       first_rises = (λ i. keys_rise (made i ++ first i)) ∙ both_rise o (remaining was.made) (remaining was.first) was.first_rises;
       second_rises = (λ i. keys_rise (made i ++ second i)) ∙ both_rise o (remaining was.made) (remaining was.second) was.second_rises;
-      room = omega (
+      places = omega (
         arith,
-        was.room,
+        was.places,
         fewer_left o was.first c.sweep.new.self first,
         fewer_left o was.second c.sweep-2.new.self second,
         fewer_in o was.made c.sweep-3.new.self c.sweep-3.ensures.written,
@@ -34,8 +33,7 @@ invariant_of-self c =
     }
 
 pub returns-clause-from : goal.returns-clause-from
-returns-clause-from c = c.free_room.ensures.from c.args.oldest (omega arith)
-    (omega (arith, c.sweep.ensures.number, c.sweep-2.ensures.number, c.sweep-3.ensures.number))
+returns-clause-from c = omega (arith, c.sweep.ensures.number, c.sweep-2.ensures.number, c.sweep-3.ensures.number)
 
 pub returns-clause-agree : goal.returns-clause-agree
 returns-clause-agree c = λ b asks keys flagged.
@@ -43,7 +41,7 @@ returns-clause-agree c = λ b asks keys flagged.
     let o = c.args.oldest in
     let above = asked_in keys b flagged in
     let one = λ (ps : List Posting). least-append above ps [] ∙ lesser_none (least above ps) in
-    one (in_run c.free_room.new.run) ∙ c.free_room.ensures.same above
+    one (remaining c.sweep-3.new.self ++ (remaining c.sweep.new.self ++ remaining c.sweep-2.new.self))
     ∙ ap (least above) (all_parts o (remaining was.made) (remaining was.first) (remaining was.second) (remaining c.sweep-3.new.self)
     (remaining c.sweep.new.self)
     (remaining c.sweep-2.new.self) c.sweep-3.ensures.left c.sweep.ensures.left c.sweep-2.ensures.left)
@@ -53,16 +51,15 @@ pub returns-clause-swept : goal.returns-clause-swept
 returns-clause-swept c =
     let was = c.args.self.now in
     let o = c.args.oldest in
-    let sizes = c.free_room.ensures.sizes in
     record {
-      last = ap (λ (s : RunSize). s.last) sizes;
+      last = refl;
       left = omega (
         arith,
-        ap (λ (s : RunSize). s.left) sizes,
         fewer_left o was.first c.sweep.new.self c.sweep.ensures.left,
         fewer_left o was.second c.sweep-2.new.self c.sweep-2.ensures.left,
       );
-      made = omega (arith, ap (λ (s : RunSize). s.made) sizes, fewer_left o was.made c.sweep-3.new.self c.sweep-3.ensures.left);
+      made = omega (arith, fewer_left o was.made c.sweep-3.new.self c.sweep-3.ensures.left);
+      room = omega arith;
     }
 
 pub returns-clause-fewer : goal.returns-clause-fewer
@@ -71,7 +68,6 @@ returns-clause-fewer c =
     let o = c.args.oldest in
     omega (
       arith,
-      c.free_room.ensures.fewer,
       fewer_in o was.first c.sweep.new.self c.sweep.ensures.written,
       fewer_in o was.second c.sweep-2.new.self c.sweep-2.ensures.written,
       fewer_in o was.made c.sweep-3.new.self c.sweep-3.ensures.written,
