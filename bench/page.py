@@ -219,11 +219,8 @@ def pauses_table():
                       "p99.9", "longest", "the client itself was late by"], lines)
 
 
-# Of the scenes that last, what is written in each round, and of each round its figures.
-AGAIN = (
-    ("everything written again four times, in random order, while a transaction stays open", "random order"),
-    ("the same, where the keys of long merges stand far apart in earlier runs", "keys far apart"),
-)
+# Of the scene that lasts, each round's figures.
+AGAIN = "everything written again four times, in random order, while a transaction stays open"
 ROUNDS = 4
 ROUND_FIGURES = (
     ("round_longest_ms", "longest turn with a COMMIT, ms of CPU time"), ("round_most_ms", "p99.9 of these turns"), ("round_p99_ms", "p99"),
@@ -232,12 +229,8 @@ ROUND_FIGURES = (
 
 def rounds_table():
     """A place stays empty until it is measured."""
-    found, lines = pauses(), []
-    for what, order in AGAIN:
-        figures = found.get(what, {}).get(1_000_000, {})
-        for name, head in ROUND_FIGURES:
-            of = figures.get(name, ROUNDS * [None])
-            lines.append([f"{order}: {head}", *(shown(value) for value in of)])
+    figures = pauses().get(AGAIN, {}).get(1_000_000, {})
+    lines = [[head, *(shown(value) for value in figures.get(name, ROUNDS * [None]))] for name, head in ROUND_FIGURES]
     yield from table(["1,000,000 keys", *(f"Round {number + 1}" for number in range(ROUNDS))], lines)
 
 

@@ -35,9 +35,8 @@ READERS, WRITERS, SYNC_MS = 16, 16, 1
 LONG_REPLY_PAIRS = 100
 # So many clients write transactions of the most bytes. One key in so many is left where most were deleted.
 LARGE_WRITERS, LEFT_ONE_IN = 24, 384
-# How often everything is written again while a transaction stays open. A long merge of written keys looks into the first so many runs, each of so many
-# keys at most. Of those that are then written far apart, one in so many lies among the keys of these runs.
-ROUNDS, EARLIER_RUNS, LONG_RUN, APART_ONE_IN = 4, 6, 131_072, 16
+# How often everything is written again while a transaction stays open.
+ROUNDS = 4
 # Of a round, what these shares of its COMMITs stay below.
 SHARES = {"round_longest_ms": 1, "round_most_ms": 0.999, "round_p99_ms": 0.99, "round_median_ms": 0.5}
 
@@ -409,50 +408,16 @@ def random_rounds(count, rounds):
         yield [scattered(number) for number in numbers]
 
 
-def spread(some):
-    """The same in an order in which any that follow one another are spread over all of them: by the bits of their places, the last bit first."""
-    bits = max(1, (len(some) - 1).bit_length())
-    return [some[place] for place in sorted(range(len(some)), key=lambda it: f"{it:0{bits}b}"[::-1])]
-
-
-def apart_rounds(count, rounds):
-    """So many scattered keys, where a long merge looks into runs among whose keys those of the merge stand far apart, and finds none of them there.
-
-    Keys of a part of the map are written first, a part of them for each of the runs, spread over the part. Then come the others: mostly those behind
-    the part, and some that lie within it. Later rounds write these again."""
-    keys = sorted(map(scattered, range(count)))
-    first = min(EARLIER_RUNS * LONG_RUN, count * 3 // 5)
-    within = (count - first) // APART_ONE_IN
-    part, behind = keys[:first + within], spread(keys[first + within:])
-    later = {part[number * len(part) // within] for number in range(within)}
-    written = [key for key in part if key not in later]
-    earlier = [key for run in range(EARLIER_RUNS) for key in spread(written[run::EARLIER_RUNS])]
-    each = APART_ONE_IN - 1
-    mixed = [key for number, one in enumerate(spread(sorted(later))) for key in (one, *behind[each * number:each * (number + 1)])]
-    mixed += behind[each * within:]
-    yield earlier + mixed
-    for _ in range(rounds - 1):
-        yield mixed
-
-
-def stays_open(options, rounds, what):
+def random_again(options):
     """A transaction that has read stays open while all is written again and again."""
     with Scene(options, options.keys, ROUNDS * (options.keys // COMMIT_WRITES + 1) + 8) as scene:
         old, client = scene.client(), scene.client()
         opened(old)
-        with scene.part(what) as more:
-            found = [round_figures(scene, commits_ms(scene, client, keys)) for keys in rounds(options.keys, ROUNDS)]
+        with scene.part("everything written again four times, in random order, while a transaction stays open") as more:
+            found = [round_figures(scene, commits_ms(scene, client, keys)) for keys in random_rounds(options.keys, ROUNDS)]
             more.update({name: [it[name] for it in found] for name in found[0]})
         old.ask(COMMIT)
     return scene
-
-
-def random_again(options):
-    return stays_open(options, random_rounds, "everything written again four times, in random order, while a transaction stays open")
-
-
-def apart_again(options):
-    return stays_open(options, apart_rounds, "the same, where the keys of long merges stand far apart in earlier runs")
 
 
 def queue_key(number):
@@ -780,8 +745,8 @@ SCENES = {
     "first_long_reply": first_long_reply, "beside_writers": beside_writers, "whole_transactions": whole_transactions,
 }
 CROWDS = {"large_commits": large_commits, "old_commits": old_commits, "sparse_ranges": sparse_ranges}
-# Those that last.
-AGAIN = {"random_again": random_again, "apart_again": apart_again}
+# One that lasts.
+AGAIN = {"random_again": random_again}
 
 
 def measured(options, name):

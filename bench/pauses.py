@@ -12,12 +12,12 @@ over a run of written keys that straddles the begin, side by side and each withi
 their begin; 60 clients with the largest RANGEs, and with such of a quarter of the bytes; 128 connections coming and going; the first long reply after
 an old transaction, whose versions were freed; 16 clients that read and 16 that write, where a sync takes 1 ms; 60 clients that send whole
 transactions in one piece, all at once. Three more are crowds, whose requests all stand ready in one turn: COMMITs of 1 MiB, COMMITs of old
-transactions, and RANGEs over keys most of which were deleted. Two more last: everything written again four times while a transaction stays open, in
-random order, and where the keys of long merges stand far apart in earlier runs. Each has a server of its own over a data file in memory (--folder).
+transactions, and RANGEs over keys most of which were deleted. One more lasts: everything written again four times, in random order, while a transaction
+stays open. Each has a server of its own over a data file in memory (--folder).
 
 The figures of each: the median of the waits, what all but one in a thousand stay below, the longest; the longest CPU time of the server
 between the return of a poll and the next, and of all together; of the longest what was the system's, and how many pages of memory it provided; the
-most syncs between two polls; with writers also the waits of those that read. Of those that last, of each round the longest turn with a COMMIT, what all
+most syncs between two polls; with writers also the waits of those that read. Of the one that lasts, of each round the longest turn with a COMMIT, what all
 but one in a thousand and one in a hundred stay below, the median, and the memory of the server behind it.
 The waits are wall-clock, so other work of the machine is in them, and so is by how much the client itself was late, which is printed too. The CPU time
 has nothing of that, but what a hypervisor takes from a processor can count as CPU time of the thread that ran there. It is measured by a library
@@ -77,7 +77,7 @@ def print_clock_table(rows):
 
 
 def print_rounds_table(rows):
-    """What each round of the scenes that last took."""
+    """What each round of the scene that lasts took."""
     print_table(["Beside", "Keys", "Round", *(head for _, head in ROUNDS)], (
         [what, f"{size:,}", str(number), *map(shown, of)]
         for what, found in by_scene(rows).items() for size, figures in sorted(found.items())

@@ -24,8 +24,6 @@ import pause_scenes     # noqa: E402
 
 LIBRARY = os.path.join(OUT, "polls.so")
 KEYS, LONG_KEYS, SECONDS, BEHIND_SECONDS = 10_000, 100_000, 0.2, 0.02
-# Of one scene of `long`, so that several long runs of written keys stand before those that are merged.
-KEYS_OF = {"apart_again": 1_000_000}
 TRIES = 3
 
 # Of each part of a scene, in milliseconds of the processor.
@@ -57,7 +55,6 @@ LONG_MS = {
     "60 COMMITs of ones with 256 ranges and 64 writes, after everything was written again, all in one turn": 12,
     "60 clients with 21 RANGEs of 128 over keys of which one in 384 is left, all in one turn": 12,
     "everything written again four times, in random order, while a transaction stays open": 6,
-    "the same, where the keys of long merges stand far apart in earlier runs": 12,
 }
 # Where they are judged, the most syncs between two polls: those of one COMMIT.
 SYNCS = {
@@ -70,8 +67,8 @@ def scenes_and_bounds():
     return (pause_scenes.CROWDS | pause_scenes.AGAIN, LONG_MS) if is_long() else (pause_scenes.SCENES, QUICK_MS)
 
 
-def options(scene, wasted_ms=0):
-    place, keys = "/dev/shm" if os.path.isdir("/dev/shm") else None, KEYS_OF.get(scene, LONG_KEYS) if is_long() else KEYS
+def options(wasted_ms=0):
+    place, keys = "/dev/shm" if os.path.isdir("/dev/shm") else None, LONG_KEYS if is_long() else KEYS
     return argparse.Namespace(
         program=PROGRAM, library=LIBRARY, folder=place, keys=keys, seconds=SECONDS, behind=BEHIND_SECONDS, wasted_ms=wasted_ms)
 
@@ -91,7 +88,7 @@ def judged_ms(figures):
 def parts(scene, wasted_ms=0):
     """What the scene is made of, each with the CPU time that is judged and the most syncs between two polls."""
     try:
-        return [(what, (judged_ms(it), it["most_syncs"])) for what, it in pause_scenes.measured(options(scene, wasted_ms), scene)]
+        return [(what, (judged_ms(it), it["most_syncs"])) for what, it in pause_scenes.measured(options(wasted_ms), scene)]
     except pause_scenes.Failure as failure:
         raise Deviation(f"{scene}: {failure}") from None
 
