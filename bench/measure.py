@@ -3,7 +3,7 @@
 
     bench/measure.py [--program PROGRAM] [--quick] [--only PART..]
 
-Takes up to 28 minutes on a machine that does nothing else. Each part leaves a file of its own name, and head.json says what was measured, and where:
+Takes up to 32 minutes on a machine that does nothing else. Each part leaves a file of its own name, and head.json says what was measured, and where:
 
     throughput            transactions that read (BEGIN, 4 GET, COMMIT) and that write (BEGIN, SET, COMMIT) over 1 to 128 connections: ssikvd;
                           PostgreSQL, SERIALIZABLE; Redis with `appendfsync always`; etcd by its HTTP/JSON gateway. One request at a time, and pipelined
@@ -286,7 +286,7 @@ def read_options():
     parser.add_argument("--postgres", help="the folder of PostgreSQL's programs (else found)")
     parser.add_argument("--results", default=RESULTS, help="the folder for the figures (%(default)s)")
     parser.add_argument("--only", nargs="+", choices=PARTS, default=list(PARTS), help="parts of the run (all); head.json stays as it is")
-    parser.add_argument("--minutes", type=float, default=27, help="after which no further scene of the pauses begins (%(default)s)")
+    parser.add_argument("--minutes", type=float, default=31, help="after which no further scene of the pauses begins (%(default)s)")
     parser.add_argument("--quick", action="store_true", help="very short slices, few connections and small stores")
     parser.add_argument("--rounds", type=int, help="slices of throughput, readers_and_writers and rows (3, quick 1)")
     parser.add_argument("--seconds", type=float, help="of each of these (1, 0.7 and 0.5, quick 0.2, 0.2 and 0.1)")
