@@ -10,10 +10,13 @@ use Rattle.std.proofs.lemmas.List.{length-take-le, map-append, nil_from_length, 
 use Rattle.std.specs.List.{remove}
 use Rattle.std.specs.Prelude.{◌||◌}
 use Rattle.merging_runs.specs.RunSizes.{AreNoLonger, RunSize, left_above, has_alike, joined, last_after, IsBegun}
-use Rattle.merging_runs.specs.RunSizes.{lasts_of}
-use Rattle.merging_runs.specs.RunSizes.{whole_of}
+use Rattle.merging_runs.specs.RunSizes.{is_finished, lasts_of, whole_of}
 
 -- ---- two runs beside one another
+
+-- of a finished run nothing is left to move
+pub finished_left : (r : RunSize) → is_finished r ≡ true → r.left ≡ 0
+finished_left r is = grind (arith, nat_tests)
 
 -- two looks at one place
 pub same_run : {R : Type 0} (rs : List R) (i : ℕ) (a b : R) → i < length rs → a ≡ get_or rs i a → b ≡ get_or rs i b → a ≡ b

@@ -41,6 +41,11 @@ whole_upto oldest h = h.taken + size_upto oldest h.runs
 abbrev pub garbage_upto : ℕ → Contents → ℕ
 garbage_upto oldest h = whole_upto oldest h + (partial_upto oldest h.runs - h.credit)
 
+-- no work was done that forgets, and none is lost that earlier steps have left over
+pub record ForgetsNone (old new : Contents) : Type 0 where
+  pub taken : new.taken ≡ old.taken
+  pub credit : new.credit ≡ old.credit
+
 -- nothing has changed but how much there is still to free of the one that was taken out
 pub record IsSameBut (old new : Contents) : Type 0 where
   pub runs : new.runs ≡ old.runs

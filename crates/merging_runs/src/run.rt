@@ -2,7 +2,7 @@
 ghost use Rattle.std.specs.Prelude.{◌≡◌, ◌≤◌, ◌<◌, ◌+◌, ◌-◌, ◌^◌, ◌++◌, ◌&&◌, ◌||◌, ℕ, Bool, true, false, List, []};
 ghost use Rattle.std.specs.Prelude.{◌∷◌, min, nat_le, IfSome, ⊤};
 ghost use Rattle.merging_runs.specs.Next.{IsNext};
-ghost use Rattle.merging_runs.specs.RunSizes.{IsMerged, IsSwept, RunSize, joined, with_room};
+ghost use Rattle.merging_runs.specs.RunSizes.{IsMerged, IsSwept, RunSize, is_finished, joined, with_room};
 
 use crate::free_part::FreePart;
 use std::alloc::Global;
@@ -87,11 +87,12 @@ pub trait Run: Drop {
     fn places_for(alloc: Global, first: &Self, second: &Self) -> Option<Self::Places>
         ensures { IfSome result (fit ((sizes first.now).made + (sizes second.now).made)) };
 
-    /// Begins to make one run of this and a later one, both at rest, in the places that were made for it. Takes no memory.
+    /// Begins to make one run of this and a later one, in the places that were made for it. Both are finished: nothing is left to move, and
+    /// no memory is still to be released. Takes no memory.
     fn join(&mut self, second: Self, places: Self::Places)
-        requires first { (sizes self.old).left ≡ 0 }
-        requires second { (sizes second).left ≡ 0 }
-        requires room { fit ((sizes self.old).made + (sizes second).made) places }
+        requires first { is_finished (sizes self.old) ≡ true }
+        requires second { is_finished (sizes second) ≡ true }
+        requires places { fit ((sizes self.old).made + (sizes second).made) places }
         ensures sizes { sizes self.new ≡ joined (sizes self.old) (sizes second) }
         ensures agree { (begins : ℕ → Bool) → agree begins (self.new ∷ []) (self.old ∷ second ∷ []) };
 

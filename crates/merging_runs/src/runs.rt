@@ -2,7 +2,8 @@
 ghost use Rattle.std.specs.Prelude.{◌≡◌, ◌≤◌, ◌<◌, ◌+◌, ◌-◌, ◌++◌, ◌&&◌, ◌||◌, ℕ, Bool, [], ◌∷◌, length, nat_le};
 ghost use Rattle.std.specs.Prelude.{nat_lt, All, OnOk, None, false};
 ghost use Rattle.std.specs.List.{list_any};
-ghost use Rattle.merging_runs.specs.Contents.{HasSamePartial, garbage_upto, freed_a_forget, size_in, whole_upto};
+ghost use Rattle.merging_runs.specs.Contents.{ForgetsNone, HasSamePartial, garbage_upto, freed_a_forget, size_in};
+ghost use Rattle.merging_runs.specs.Contents.{whole_upto};
 ghost use Rattle.merging_runs.specs.MadeRuns.{AreMade};
 ghost use Rattle.merging_runs.specs.Next.{IsNext};
 ghost use Rattle.merging_runs.specs.RunSizes.{IsMoved, IsTried, LeavesMerges, become_one, left_above, moves_for};
@@ -66,6 +67,8 @@ impl<R: Run> Runs<R> {
     pub fn new(alloc: Global) -> Runs<R>
         ensures runs { result.runs ≡ [] }
         ensures sizes { result.sizes ≡ [] }
+        ensures contents { result.contents ≡ record { runs = []; taken = 0; credit = 0 } }
+        ensures refused { result.refused ≡ 0 }
     {
         Runs {
             runs: Vec::new(alloc),
@@ -122,6 +125,7 @@ impl<R: Run> Runs<R> {
         ensures tried { IsTried (become_one (R.begin_numbers active.now) oldest) self.old.sizes self.new.sizes
             self.old.refused self.new.refused }
         ensures room { OnOk result (0 < self.new.places) }
+        ensures forgets { ForgetsNone self.old.contents self.new.contents }
     {
         open_last(&mut self.runs, active, oldest, &mut self.refused);
         self.runs.reserve(1)
@@ -133,6 +137,7 @@ impl<R: Run> Runs<R> {
         ensures runs { self.new.runs ≡ self.old.runs ++ run ∷ [] }
         ensures sizes { self.new.sizes ≡ self.old.sizes ++ R.sizes run ∷ [] }
         ensures refused { self.new.refused ≡ self.old.refused }
+        ensures forgets { ForgetsNone self.old.contents self.new.contents }
     {
         match self.runs.push(run) {
             Ok(()) => {}
@@ -148,6 +153,7 @@ impl<R: Run> Runs<R> {
         ensures made { AreMade (R.makes active.now oldest) self.old.runs self.new.runs }
         ensures moved { IsMoved R.each oldest (moves_for count) self.old.sizes self.new.sizes }
         ensures refused { self.new.refused ≡ self.old.refused }
+        ensures forgets { ForgetsNone self.old.contents self.new.contents }
     {
         let most = count.saturating_mul(MOVES_EACH).saturating_add(MOVES_MORE);
         move_runs(&mut self.runs, oldest, active, most);

@@ -41,12 +41,12 @@ impl ActiveBegins {
     pub(crate) fn is_undivided(&self, first: u64, second: u64) -> bool
         ensures { result ≡ is_undivided (reach_of self.now) first second }
     {
-        second <= self.since && are_outside(self.begins.as_slice(), first, second)
+        second <= self.since && none_is_between(self.begins.as_slice(), first, second)
     }
 }
 
 // Is none of the numbers from `first` to below `second`?
-fn are_outside(numbers: &[u64], first: u64, second: u64) -> bool
+fn none_is_between(numbers: &[u64], first: u64, second: u64) -> bool
     ensures { result ≡ list_all (λ b. nat_lt b first || nat_le second b) numbers.now }
 {
     numbers
