@@ -5,7 +5,7 @@ use Rattle.std.proofs.Common.{Some, None, refl, sym, ap, subst, ◌∙◌, lengt
 use Rattle.std.proofs.lemmas.Bool.{lt-ltb, le-ltb, eq-eqb, ne_eqb, or_left, or_right, both_ways}
 use Rattle.std.proofs.lemmas.Grind.{common_steps}
 use Rattle.std.proofs.lemmas.Option.{get_or_from_slice_get}
-use Rattle.std.specs.Prelude.{slice_index_or, Err}
+use Rattle.std.specs.Prelude.{◌&&◌, slice_index_or, Err}
 use Rattle.model.proofs.Lookups.{some_same}
 use Rattle.model.proofs.Machines.{map_at-append}
 use Rattle.model.specs.History.{Record}
@@ -27,6 +27,7 @@ use Rattle.commit_log.specs.LogState.{is_log_stopped, used_sectors, sector_count
 use Rattle.commit_log.specs.LogState.{sync_count}
 use Rattle.commit_log.specs.declared.log.Log.{Log}
 use Rattle.versions.specs.StandsFor.{StandsFor as VersionsStandFor}
+use Rattle.versions.specs.Meaning.{is_among}
 use Rattle.snapshot.specs.Made.{HasMade, is_refused}
 use Rattle.snapshot.specs.View.{View}
 use Rattle.pivot_check.proofs.SameHistories.{in_reach_still, stand_back, still_cleared}
@@ -36,6 +37,7 @@ use Rattle.pivot_check.specs.StandsFor.{StandsFor as CommittedStandsFor}
 use Rattle.pivot_check.specs.declared.verdict.Cleared.{Cleared}
 use Rattle.engine.proofs.Calls.{Active, found_open, leave_call}
 use Rattle.engine.proofs.Sessions.{IsFound, beside_weaker}
+use Rattle.engine.proofs.Reclaims.{begins_of, running_among}
 use Rattle.engine.proofs.Steps.{step_is, reached_by, store_full, store_fault, store_joined, map_at_next}
 use Rattle.engine.specs.Changes.{entry_of, EndsTransaction, WritesSomething, HasLogRoom, IsLogged, IsLogStopped}
 use Rattle.engine.specs.Changes.{sectors_taken, AddsOneAtMost}
@@ -296,7 +298,7 @@ module _ {D : Type 0} {g : Ghosts D} where
       → EndsTransaction (record e { log = log; history = history }) e' s
       → Some u ≡ entry_of s e → new.committed.facts.last ≡ e'.history.committed.facts.last + 1
       → KeepsReach e'.history.committed.facts new.committed.facts
-      → Joins e'.history new u
+      → (length e'.running.entries ≤ 64 → Joins (begins_of e'.running.entries) e'.history new u)
       → (WritesSomething t.writes → failed ≡ false) → n ≡ e'.history.committed.facts.last + 1
       → Leads e (record e' { history = new }) s Commit failed (Some (Number n))
   joined e e' log history new s t u failed n j logged stored same leaves taken last' reach' joins quiet number m h =
@@ -315,19 +317,22 @@ module _ {D : Type 0} {g : Ghosts D} where
       let l = left.history.committed.last in let used = h.used in let taken' = logged.used in let log' = leaves.store.log in
       let long : length (m.history ++ r ∷ []) ≡ length m.history + 1 = length-append m.history (r ∷ []) in
       let counted : suc (length m.history) ≡ n = omega arith in
-      let later : (v : View) (x : Running) → IsRunning e'.history.committed.facts left.active m.base m.history v x
-      → IsRunning new.committed.facts left.active m.base (m.history ++ r ∷ []) v x =
+      let active : ℕ → Bool = λ k. left.active k && is_among (begins_of e'.running.entries) k in
+      let later : (v : View) (x : Running) → IsRunning e'.history.committed.facts active m.base m.history v x
+      → IsRunning new.committed.facts active m.base (m.history ++ r ∷ []) v x =
       λ v x k.
       let oldest' = reach'.oldest in
       let asks = ap (λ reach. may_ask reach v.begin) reach'.reach ∙ k.in_reach.asks in
       grind (arith, common_steps, map_at-append m.base m.history r x.begin) in
       let oldest' = reach'.oldest in
-      let running' = beside_weaker (Active (record e' { log = e.log }) (leave m s) left)
-      (λ v x. IsRunning new.committed.facts left.active m.base (m.history ++ r ∷ []) v x) later e'.running.entries (leave m s).running left.running in
+      let among = running_among e'.history.committed.facts left.active m.base m.history (begins_of e'.running.entries) e'.running.entries (leave m s).running
+      (λ k t. t) left.running in
+      let running' = beside_weaker (λ v x. IsRunning e'.history.committed.facts active m.base m.history v x)
+      (λ v x. IsRunning new.committed.facts active m.base (m.history ++ r ∷ []) v x) later e'.running.entries (leave m s).running among in
       let reached' = reached_by m s Commit failed join is h.reached in
       let stored' = λ (keeps : g.keeps_model). subst (IsStored log) (sym (map_joined e s t j m h at))
       (stored keeps (committed_map m) (h.stored keeps j.asked.running)) in
-      let history' = joins left.active m.base m.history r left.history own.0 own.1 in
+      let history' = joins left.few_open left.active m.base m.history r left.history own.0 own.1 in
       let numbers = j.asked.numbers in let runs = j.asked.running in
       (join.0, grind (arith, common_steps, both_ways), is ∙ ap (λ k. (join.0, Number k)) counted)
 

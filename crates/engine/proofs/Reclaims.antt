@@ -9,12 +9,13 @@ use Rattle.std.proofs.lemmas.List.Elements.{All-from_recursion, recursion_from_A
 use Rattle.std.specs.BTreeMap.{values}
 use Rattle.std.specs.List.{AllByRecursion}
 use Rattle.std.specs.Map.{values_of}
-use Rattle.std.specs.Prelude.{max, nat_le, ◌==◌}
+use Rattle.std.specs.Prelude.{max, nat_le, ◌==◌, IsTrue}
 use Rattle.model.specs.History.{Record}
 use Rattle.model.specs.Machine.{State, Running}
 use Rattle.model.specs.Map.{KeyMap}
 use Rattle.sector.specs.declared.device.Sectors.{Ghosts}
-use Rattle.versions.specs.Meaning.{is_among}
+use Rattle.versions.specs.Chains.{ChainsValue}
+use Rattle.versions.specs.Meaning.{is_among, is_known}
 use Rattle.snapshot.specs.View.{View}
 use Rattle.pivot_check.specs.Kept.{Facts, HasForgotten, may_ask}
 use Rattle.engine.specs.HistoryValue.{HistoryValue, KeepsActive}
@@ -40,6 +41,17 @@ module _ (facts : Facts) (active : ℕ → Bool) (base : KeyMap) (history : List
       grind (arith, common_steps, and_from)
   still_running facts' bs oldest l o a es rs low among h = absurd h
 
+  -- they are still active where they are among those that are
+  pub running_among : (bs : List ℕ) (es : List (ℕ × View)) (rs : List (ℕ × Running))
+      → ((n : ℕ) → is_among (begins_of es) n ≡ true → is_among bs n ≡ true) → AreRunning facts active base history es rs
+      → AreRunning facts (λ n. active n && is_among bs n) base history es rs
+  running_among bs [] [] among h = tt
+  running_among bs (e ∷ es) (r ∷ rs) among h =
+      let own = among e.1.begin (or_left (e.1.begin == e.1.begin) (is_among (begins_of es) e.1.begin) (eq-eqb e.1.begin e.1.begin refl)) in
+      let rest = running_among bs es rs (λ n t. among n (or_right (e.1.begin == n) (is_among (begins_of es) n) t)) h.1 in
+      grind (arith, common_steps, and_from)
+  running_among bs es rs among h = absurd h
+
   -- each may ask
   begins_ask : (es : List (ℕ × View)) (rs : List (ℕ × Running)) → AreRunning facts active base history es rs
       → AllByRecursion (λ b. may_ask facts.reach b ≡ true) (begins_of es)
@@ -58,6 +70,13 @@ module _ (facts : Facts) (active : ℕ → Bool) (base : KeyMap) (history : List
   begins_active [] rs h n t = cc
   begins_active (e ∷ es) [] h n t = absurd h
   begins_active (e ∷ es) (r ∷ rs) h n t = grind (arith, common_steps, nat_tests, begins_active es rs h.1 n)
+
+  -- what each of them sees is known, where so it is of all that are active
+  pub begins_known : (v : ChainsValue) → ((n : ℕ) → IsTrue (active n) → IsTrue (is_known n v)) → (es : List (ℕ × View)) (rs : List (ℕ × Running))
+      → AreRunning facts active base history es rs → AllByRecursion (λ b. is_known b v ≡ true) (map (λ r. r.1.begin) rs)
+  begins_known v known es [] h = tt
+  begins_known v known [] (r ∷ rs) h = absurd h
+  begins_known v known (e ∷ es) (r ∷ rs) h = (known r.1.begin h.0.1.is_active, begins_known v known es rs h.1)
 
   begins_low : (n : ℕ) (es : List (ℕ × View)) (rs : List (ℕ × Running)) → AreRunning facts active base history es rs → AllByRecursion (λ r. n ≤ r.1.begin) rs
       → AllByRecursion (λ t. n ≤ t.begin) (values_of es)

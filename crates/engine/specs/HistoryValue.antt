@@ -21,12 +21,17 @@ pub record HistoryStandsFor (h : HistoryValue) (active : ℕ → Bool) (base : K
     pub versions : VersionsStandFor h.versions active base history
     pub committed : CommittedStandsFor h.committed.facts history
 
--- what the transaction's commit makes of the history
-abbrev pub Joins : HistoryValue → HistoryValue → View → Type 0
-Joins old new t = (active : ℕ → Bool) (base : KeyMap) (history : List Record) (r : Record)
+-- what the transaction's commit makes of the history, where of the active numbers only these stay so
+abbrev pub Joins : List ℕ → HistoryValue → HistoryValue → View → Type 0
+Joins bs old new t = (active : ℕ → Bool) (base : KeyMap) (history : List Record) (r : Record)
     → HistoryStandsFor old active base history
     → IsInReach old.committed.facts t → IsRecordOf t (old.committed.facts.last + 1) r
-    → HistoryStandsFor new active base (history ++ r ∷ [])
+    → HistoryStandsFor new (λ n. active n && is_among bs n) base (history ++ r ∷ [])
+
+-- n is the number of the next commit, and now that of the last
+pub record IsNumbered (n : ℕ) (old new : HistoryValue) : Type 0 where
+  pub number : n ≡ old.committed.facts.last + 1
+  pub last : new.committed.facts.last ≡ old.committed.facts.last + 1
 
 -- what the history stands for stays, with those of the active numbers that are among these, where one who began at one
 -- of these may ask

@@ -66,7 +66,7 @@ impl<D: Sectors> Engine<D> {
             Err(AppendFault::Device) => return Err(self.refuse(s, Refusal::StoreFault)),
         }
         let ended = self.end(s);
-        Ok(self.history.join(ended, cleared))
+        Ok(self.history.join(ended, cleared, &self.running))
     }
 
     // Ends the session's transaction.

@@ -31,14 +31,14 @@ pub struct Engine<D: Sectors> {
 }
 
 impl<D: Sectors> Engine<D> {
-    ghost use Rattle.std.specs.Prelude.{◌≡◌, ◌≢◌, ◌↔◌, ◌≤◌, ◌<◌, ◌-◌, false, Some, None, Err, length};
+    ghost use Rattle.std.specs.Prelude.{◌≡◌, ◌≢◌, ◌↔◌, ◌≤◌, ◌<◌, ◌-◌, true, false, Some, None, Err, length};
     ghost use Rattle.model.specs.declared.refusals.Refusal.{Refusal as Reason};
     ghost use Rattle.model.specs.Operations.Operation.{Begin, Set, Del, Abort, Ping, Faulty};
     ghost use Rattle.model.specs.Operations.Response.{Done, Pong, Refused};
     ghost use Rattle.model.specs.Machine.{State, IsReached, leave};
     ghost use Rattle.model.specs.Laws.{IsIsolated, IsOrderedByPlace, IsSerializable};
     ghost use Rattle.versions.specs.Listings.{IsClassified};
-    ghost use Rattle.versions.specs.Meaning.{versions_kept, IsReclaimed, IsReclaimedInPart};
+    ghost use Rattle.versions.specs.Meaning.{versions_kept, IsReclaimed, IsReclaimedInPart, is_known};
     ghost use Rattle.std.specs.List.{AllByRecursion};
     ghost use Rattle.pivot_check.specs.Kept.{FreesRuns, KeepsNoneUpto, kept_count};
     ghost use Rattle.engine.specs.HistoryValue.{is_garbage};
@@ -143,6 +143,13 @@ impl<D: Sectors> Engine<D> {
     pub fn law_is_stored(&self)
         ensures { D.keeps_model → (m : State) → StandsFor self.now m
             → LeavesCommitted m (D.may_leave (device_of self.now)) }
+    {}
+
+    /// Does nothing: what each open transaction sees of the pages of the versions is known. So a RANGE looks at those of which it sees a
+    /// pair, and besides them at the first and the last of its range, as `Versions::range` says.
+    pub fn law_ranges_are_known(&self)
+        ensures { (m : State) → StandsFor self.now m
+            → AllByRecursion (λ b. is_known b (versions_of self.now) ≡ true) (open_begins m) }
     {}
 
     /// A step of what `reclaim` does, which is short however much garbage there is. Answers whether it has to be called again until all is

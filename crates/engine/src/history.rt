@@ -1,19 +1,24 @@
 //! What has committed: the versions of each key, and what later commits are checked against.
-ghost use Rattle.std.specs.Prelude.{◌≡◌, ◌+◌, ◌<◌, ◌≤◌, false, true, [], length, IfOk, OnOk};
+ghost use Rattle.std.specs.Prelude.{◌≡◌, ◌+◌, ◌<◌, ◌≤◌, false, true, [], length, map, IfOk, OnOk};
+ghost use Rattle.std.specs.BTreeMap.{values};
 ghost use Rattle.model.specs.Map.{IsInBounds};
 ghost use Rattle.versions.specs.Meaning.{IsReclaimed, IsReclaimedInPart};
 ghost use Rattle.pivot_check.specs.Kept.{IsEmpty, FreesRuns, KeepsNoneUpto, KeepsReach};
 ghost use Rattle.pivot_check.specs.StandsFor.{IsCleared};
 ghost use Rattle.engine.specs.declared.engine.TheConstants.{OPEN_MAX};
 ghost use Rattle.engine.specs.declared.validating.TheConstants.{LAST_MAX};
-ghost use Rattle.engine.specs.HistoryValue.{HistoryStandsFor, IsSameHistory, IsReady, Joins, Reclaims, is_garbage};
+ghost use Rattle.engine.specs.HistoryValue.{HistoryStandsFor, IsNumbered, IsSameHistory, IsReady, Joins, Reclaims};
+ghost use Rattle.engine.specs.HistoryValue.{is_garbage};
 
+use crate::engine::OPEN_MAX;
+use crate::reclaiming::{Gathered, gather_begins};
 use model::{Map, Memory};
 use pivot_check::{Cleared, Committed};
 use snapshot::Transaction;
 use std::alloc::Global;
+use std::collections::BTreeMap;
 use std::marker::Model;
-use versions::{Versions, law_read_only_record_follows};
+use versions::{Versions, law_numbers_change, law_read_only_record_follows};
 
 /// What has committed: the versions of its writes, and what is kept to check later commits.
 #[derive(Drop)]
@@ -67,22 +72,31 @@ impl History {
         self.committed.reserve(transaction)
     }
 
-    /// Takes the transaction, which was cleared, in as the next commit, in the memory that was made for it, and answers its number. Takes
-    /// no memory.
-    pub(crate) fn join(&mut self, transaction: Transaction, cleared: Cleared) -> u64
+    /// Takes the transaction, which was cleared, in as the next commit, in the memory that was made for it, and answers its number. The
+    /// others are open. Takes no memory.
+    pub(crate) fn join(
+        &mut self,
+        transaction: Transaction,
+        cleared: Cleared,
+        others: &BTreeMap<u64, Transaction>,
+    ) -> u64
         requires ready { IsReady self.old transaction }
         requires cleared { IsCleared self.old.committed.facts transaction cleared }
-        requires few { self.old.committed.facts.last < LAST_MAX }
-        ensures number { result ≡ self.old.committed.facts.last + 1 }
-        ensures last { self.new.committed.facts.last ≡ self.old.committed.facts.last + 1 }
+        requires last { self.old.committed.facts.last < LAST_MAX }
+        ensures numbered { IsNumbered result self.old self.new }
         ensures reach { KeepsReach self.old.committed.facts self.new.committed.facts }
-        ensures stands { Joins self.old self.new transaction }
+        ensures stands { length others.now.entries ≤ OPEN_MAX
+            → Joins (map (λ t. t.begin) (values others.now)) self.old self.new transaction }
     {
         let number = self.committed.last() + 1;
         self.committed.note(&transaction, number, cleared);
         let writes = transaction.into_writes();
+        law_numbers_change();
         law_read_only_record_follows();
         if !writes.is_empty() {
+            let mut numbers = [0; OPEN_MAX];
+            let Gathered { count, oldest: _ } = gather_begins(others, number, &mut numbers);
+            self.versions.keep_active(&numbers[..count]);
             self.versions.install(number, writes);
         }
         number

@@ -17,7 +17,7 @@ use Rattle.sorted_pages.proofs.Keys.{below_trans}
 use Rattle.sorted_pages.proofs.Placings.{entries-append, entries_at, page_is}
 use Rattle.sorted_pages.proofs.Seen.{all-shown, below-shown, shown-append}
 use Rattle.sorted_pages.proofs.Tails.{In, from_above, none_above}
-use Rattle.sorted_pages.specs.Blanks.{shown}
+use Rattle.sorted_pages.specs.Ranges.{shown}
 use Rattle.sorted_pages.specs.Pages.{AreBelow, HasEntry, IsInOrder, IsPlace, Page, RestHaveEntries, entries}
 use Rattle.sorted_pages.specs.Ranges.{AreFrom, IsCutAlike, IsLeastFrom, first_key}
 

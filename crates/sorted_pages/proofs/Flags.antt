@@ -1,119 +1,130 @@
 -- What flags say of the entries of a page, and what a range passes over by them.
-use Rattle.std.proofs.Common.{◌≡◌, ℕ, zero, suc, ◌<◌, ◌≤◌, Bool, true, false, not, ◌||◌, cond, List, [], ◌∷◌, ◌++◌}
-use Rattle.std.proofs.Common.{length, take, drop, get_or, set, Option, Some, None, refl, sym, ap, subst, ◌∙◌, arith}
-use Rattle.std.proofs.lemmas.Bool.{both_ways, not-false}
-use Rattle.std.specs.List.{insert}
-use Rattle.std.specs.Prelude.{remove}
+use Rattle.std.proofs.Common.{◌≡◌, ℕ, zero, suc, ◌+◌, ◌<◌, ◌≤◌, Bool, true, false, not, cond, List, [], ◌∷◌, ◌++◌}
+use Rattle.std.proofs.Common.{length, take, drop, get_or, set, map, refl, sym, ap, ◌∙◌, arith}
+use Rattle.std.proofs.Math.Seq.{map-set_same}
+use Rattle.std.proofs.lemmas.Grind.{common_steps}
+use Rattle.std.proofs.lemmas.List.{drop-map, get_or-map, map-append, map-set, take-map}
+use Rattle.std.proofs.lemmas.List.Sums.{get_or-le-sum_by, sum_by-cons, sum_by-insert, sum_by-set, sum_by_push}
+use Rattle.std.specs.List.{insert, list_any}
+use Rattle.std.specs.Prelude.{count_by, nat_lt}
 use Rattle.model.specs.Map.{Bytes}
-use Rattle.sorted_pages.specs.Blanks.{shown}
-use Rattle.sorted_pages.specs.Flags.{AreFlagged, IsFlagged}
-use Rattle.sorted_pages.specs.Summaries.{AreOver, all_but}
+use Rattle.sorted_pages.specs.Ranges.{shown}
+use Rattle.sorted_pages.specs.Summaries.{AreOver}
+
+-- ---- how many values show
+
+module _ {X : Type 0} (p : X → Bool) where
+  -- flags count as the values do
+  pub count-flags : (xs : List X) → count_by (λ f. f) (map p xs) ≡ count_by p xs
+  count-flags [] = refl
+  count-flags (x ∷ xs) =
+      sum_by-cons (λ f. cond f 1 0) (p x) (map p xs) ∙ ap (λ n. cond (p x) 1 0 + n) (count-flags xs) ∙ sym (sum_by-cons (λ y. cond (p y) 1 0) x xs)
+
+  -- one of them passes where the count isn't 0
+  pub any-count : (xs : List X) → nat_lt 0 (count_by p xs) ≡ list_any p xs
+  any-count [] = refl
+  any-count (x ∷ xs) = grind (arith, common_steps, any-count xs, sum_by-cons (λ y. cond (p y) 1 0) x xs)
+
+  -- what is counted once another stands in a place
+  pub count-set : (xs : List X) (i : ℕ) (y d : X) (n m : ℕ) (did : Bool) → i < length xs → d ≡ get_or xs i d → did ≡ p d
+      → count_by p xs ≡ n → m + cond did 1 0 ≡ n + cond (p y) 1 0 → count_by p (set xs i y) ≡ m
+  count-set xs i y d n m did lt is flag old new =
+      let one : Bool → ℕ = λ b. cond b 1 0 in
+      let was = ap (λ (x : X). one (p x)) (sym is) ∙ ap one (sym flag) in
+      omega (arith, sum_by-set (λ x. cond (p x) 1 0) xs i y d lt, was)
+
+  -- and once one came
+  pub count-insert : (xs : List X) (i : ℕ) (y : X) (n m : ℕ) → count_by p xs ≡ n → m + 0 ≡ n + cond (p y) 1 0 → count_by p (insert xs i y) ≡ m
+  count-insert xs i y n m old new = omega (arith, sum_by-insert (λ x. cond (p x) 1 0) xs i y)
+
+  -- at the end too
+  pub count-push : (xs : List X) (y : X) (n m : ℕ) → count_by p xs ≡ n → m + 0 ≡ n + cond (p y) 1 0 → count_by p (xs ++ y ∷ []) ≡ m
+  count-push xs y n m old new = omega (arith, sum_by_push (λ x. cond (p x) 1 0) xs y)
+
+  -- it isn't 0 where one passes
+  pub count-some : (xs : List X) (i : ℕ) (d : X) (n : ℕ) → i < length xs → d ≡ get_or xs i d → p d ≡ true → count_by p xs ≡ n → 0 < n
+  count-some xs i d n lt is t all =
+      let one : Bool → ℕ = λ b. cond b 1 0 in
+      let here = ap (λ (x : X). one (p x)) (sym is) ∙ ap one t in
+      omega (arith, get_or-le-sum_by (λ x. cond (p x) 1 0) xs i d lt, here)
+
+-- ---- flags of values that change or come
+
+-- f of each, where one more came
+map-insert : {X Y : Type 0} (f : X → Y) (xs : List X) (i : ℕ) (y : X) → i ≤ length xs → map f (insert xs i y) ≡ insert (map f xs) i (f y)
+map-insert f xs zero y le = refl
+map-insert f [] (suc i) y le = absurd (omega arith)
+map-insert f (x ∷ xs) (suc i) y le = ap (λ l. f x ∷ l) (map-insert f xs i y (omega arith))
 
 module _ {X : Type 0} (shows : X → Bool) where
-  -- a value in another's place, with a flag of its own
-  pub flagged-set : (es : List (Bytes × X)) (fs : List Bool) (i : ℕ) (e : Bytes × X) (f : Bool) → (f ≡ false → shows e.1 ≡ false) → AreFlagged shows es fs
-      → AreFlagged shows (set es i e) (set fs i f)
-  flagged-set [] fs i e f h a = tt
-  flagged-set (d ∷ es) [] zero e f h a = tt
-  flagged-set (d ∷ es) [] (suc i) e f h a = tt
-  flagged-set (d ∷ es) (g ∷ fs) zero e f h a = (h, a.1)
-  flagged-set (d ∷ es) (g ∷ fs) (suc i) e f h a = (a.0, flagged-set es fs i e f h a.1)
+  -- whether an entry's value shows
+  abbrev shows_at : Bytes × X → Bool
+  shows_at e = shows e.1
 
-  -- another flag of a value
-  pub flagged-renewed : (es : List (Bytes × X)) (fs : List Bool) (i : ℕ) (e : Bytes × X) (f : Bool) → e ≡ get_or es i e → (f ≡ false → shows e.1 ≡ false)
-      → AreFlagged shows es fs → AreFlagged shows es (set fs i f)
-  flagged-renewed [] fs i e f is h a = tt
-  flagged-renewed (d ∷ es) [] zero e f is h a = tt
-  flagged-renewed (d ∷ es) [] (suc i) e f is h a = tt
-  flagged-renewed (d ∷ es) (g ∷ fs) zero e f is h a = (subst (λ (c : Bytes × X). f ≡ false → shows c.1 ≡ false) is h, a.1)
-  flagged-renewed (d ∷ es) (g ∷ fs) (suc i) e f is h a = (a.0, flagged-renewed es fs i e f is h a.1)
+  abbrev flags_of : List (Bytes × X) → List Bool
+  flags_of es = map shows_at es
+
+  -- a value in another's place, with a flag of its own
+  pub flags-set : (es : List (Bytes × X)) (fs : List Bool) (i : ℕ) (e : Bytes × X) (f : Bool) → fs ≡ flags_of es → f ≡ shows e.1
+      → set fs i f ≡ flags_of (set es i e)
+  flags-set es fs i e f are is = let m = map-set shows_at es i e in cc
 
   -- a value more, with its flag
-  pub flagged-insert : (es : List (Bytes × X)) (fs : List Bool) (i : ℕ) (e : Bytes × X) (f : Bool) → length fs ≡ length es → i ≤ length es
-      → (f ≡ false → shows e.1 ≡ false) → AreFlagged shows es fs → AreFlagged shows (insert es i e) (insert fs i f)
-  flagged-insert es fs zero e f n le h a = (h, a)
-  flagged-insert [] fs (suc i) e f n le h a = absurd (omega arith)
-  flagged-insert (d ∷ es) [] (suc i) e f n le h a = absurd (omega arith)
-  flagged-insert (d ∷ es) (g ∷ fs) (suc i) e f n le h a = (a.0, flagged-insert es fs i e f (omega arith) (omega arith) h a.1)
+  pub flags-insert : (es : List (Bytes × X)) (fs : List Bool) (i : ℕ) (e : Bytes × X) (f : Bool) → i ≤ length es
+      → fs ≡ flags_of es → f ≡ shows e.1 → insert fs i f ≡ flags_of (insert es i e)
+  flags-insert es fs i e f le are is = let m = map-insert shows_at es i e le in cc
 
-  pub flagged-push : (es : List (Bytes × X)) (fs : List Bool) (e : Bytes × X) (f : Bool) → length fs ≡ length es → (f ≡ false → shows e.1 ≡ false)
-      → AreFlagged shows es fs → AreFlagged shows (es ++ e ∷ []) (fs ++ f ∷ [])
-  flagged-push [] [] e f n h a = (h, tt)
-  flagged-push [] (g ∷ fs) e f n h a = absurd (omega arith)
-  flagged-push (d ∷ es) [] e f n h a = absurd (omega arith)
-  flagged-push (d ∷ es) (g ∷ fs) e f n h a = (a.0, flagged-push es fs e f (omega arith) h a.1)
+  -- the same at the end
+  pub flags-push : (es : List (Bytes × X)) (fs : List Bool) (e : Bytes × X) (f : Bool) → fs ≡ flags_of es → f ≡ shows e.1
+      → fs ++ f ∷ [] ≡ flags_of (es ++ e ∷ [])
+  flags-push es fs e f are is = let m = map-append shows_at es (e ∷ []) in cc
+
+  -- a value's flag says whether it shows
+  pub flag_at : (es : List (Bytes × X)) (fs : List Bool) (i : ℕ) (d : Bytes × X) (f : Bool) → i < length es → fs ≡ flags_of es
+      → d ≡ get_or es i d → f ≡ get_or fs i f → f ≡ shows d.1
+  flag_at es fs i d f lt are is at =
+      at
+      ∙ ap (λ (gs : List Bool). get_or gs i f) are
+      ∙ get_or-map shows_at es i d f lt
+      ∙ ap shows_at (sym is)
+
+  -- a value in another's place that shows where that one did
+  pub flags-alike : (es : List (Bytes × X)) (i : ℕ) (e d : Bytes × X) → d ≡ get_or es i d → shows e.1 ≡ shows d.1
+      → flags_of (set es i e) ≡ flags_of es
+  flags-alike es i e d is same = map-set_same shows_at es i e d (same ∙ ap shows_at is)
+
+  -- and so as many show
+  pub count-alike : (es : List (Bytes × X)) (i : ℕ) (e d : Bytes × X) → d ≡ get_or es i d → shows e.1 ≡ shows d.1
+      → count_by shows_at (set es i e) ≡ count_by shows_at es
+  count-alike es i e d is same =
+      sym (count-flags shows_at (set es i e)) ∙ ap (count_by (λ f. f)) (flags-alike es i e d is same) ∙ count-flags shows_at es
 
   -- values that are dealt to two, with their flags
-  pub flagged-take : (es : List (Bytes × X)) (fs : List Bool) (i : ℕ) → AreFlagged shows es fs → AreFlagged shows (take i es) (take i fs)
-  flagged-take [] fs zero a = tt
-  flagged-take [] fs (suc i) a = tt
-  flagged-take (d ∷ es) [] zero a = tt
-  flagged-take (d ∷ es) [] (suc i) a = tt
-  flagged-take (d ∷ es) (g ∷ fs) zero a = tt
-  flagged-take (d ∷ es) (g ∷ fs) (suc i) a = (a.0, flagged-take es fs i a.1)
+  pub flags-take : (i : ℕ) (es : List (Bytes × X)) (fs : List Bool) → fs ≡ flags_of es → take i fs ≡ flags_of (take i es)
+  flags-take i es fs are = ap (take i) are ∙ take-map shows_at i es
 
-  no_flags : (es : List (Bytes × X)) → AreFlagged shows es []
-  no_flags [] = tt
-  no_flags (e ∷ es) = tt
+  -- the upper ones of them
+  pub flags-drop : (i : ℕ) (es : List (Bytes × X)) (fs : List Bool) → fs ≡ flags_of es → drop i fs ≡ flags_of (drop i es)
+  flags-drop i es fs are = ap (drop i) are ∙ drop-map shows_at i es
 
-  pub flagged-drop : (es : List (Bytes × X)) (fs : List Bool) (i : ℕ) → AreFlagged shows es fs → AreFlagged shows (drop i es) (drop i fs)
-  flagged-drop es fs zero a = a
-  flagged-drop [] fs (suc i) a = tt
-  flagged-drop (d ∷ es) [] (suc i) a = no_flags (drop i es)
-  flagged-drop (d ∷ es) (g ∷ fs) (suc i) a = flagged-drop es fs i a.1
-
--- ---- the flag of the entry that is left out
-
-flag_set : (fs : List Bool) (i : ℕ) → get_or (set fs i true) i true ≡ true
-flag_set [] zero = refl
-flag_set [] (suc i) = refl
-flag_set (f ∷ fs) zero = refl
-flag_set (f ∷ fs) (suc i) = flag_set fs i
-
-pub lent_flagged : (o : Option ℕ) (fs : List Bool) (i : ℕ) → o ≡ Some i → IsFlagged o (set fs i true)
-lent_flagged o fs i e = subst (λ (p : Option ℕ). IsFlagged p (set fs i true)) (sym e) (flag_set fs i)
-
-pub none_left_out : (o : Option ℕ) (fs : List Bool) → o ≡ None → IsFlagged o fs
-none_left_out o fs e = subst (λ (p : Option ℕ). IsFlagged p fs) (sym e) tt
+  -- what the flags count is how many show
+  pub count_from : (es : List (Bytes × X)) (fs : List Bool) (n : ℕ) → fs ≡ flags_of es → n ≡ count_by (λ f. f) fs
+      → count_by shows_at es ≡ n
+  count_from es fs n are is = sym (is ∙ ap (count_by (λ f. f)) are ∙ count-flags shows_at es)
 
 -- ---- what a range passes over
 
-module _ {X : Type 0} (hides : X → Bool) (shows : X → Bool) where
-  over_clear : (v : X) (f : Bool) → (f ≡ false → shows v ≡ false) → (shows v || hides v) ≡ true → f ≡ false → hides v ≡ true
-  over_clear v f h o e = ap (λ b. b || hides v) (sym (h e)) ∙ o
-
-  -- a value whose flag is false is hidden
-  abbrev AreHiddenBy : List (Bytes × X) → List Bool → Type 0
-  AreHiddenBy es fs = AreFlagged (λ v. not (hides v)) es fs
-
-  all_over : (es : List (Bytes × X)) (fs : List Bool) → AreFlagged shows es fs → AreOver hides shows es → AreHiddenBy es fs
-  all_over [] fs a o = tt
-  all_over (e ∷ es) [] a o = tt
-  all_over (e ∷ es) (f ∷ fs) a o = (λ c. ap not (over_clear e.1 f a.0 o.0 c), all_over es fs a.1 o.1)
-
-  -- the flag of the one that is left out is true
-  all_over_but : (es : List (Bytes × X)) (fs : List Bool) (i : ℕ) → get_or fs i true ≡ true → AreFlagged shows es fs → AreOver hides shows (remove es i)
-      → AreHiddenBy es fs
-  all_over_but [] fs i t a o = tt
-  all_over_but (e ∷ es) [] i t a o = tt
-  all_over_but (e ∷ es) (f ∷ fs) zero t a o = (λ c. absurd (both_ways f c t), all_over es fs a.1 o)
-  all_over_but (e ∷ es) (f ∷ fs) (suc i) t a o = (λ c. ap not (over_clear e.1 f a.0 o.0 c), all_over_but es fs i t a.1 o.1)
-
-  pub hidden_by : (es : List (Bytes × X)) (fs : List Bool) (o : Option ℕ) → IsFlagged o fs → AreFlagged shows es fs → AreOver hides shows (all_but o es)
-      → AreHiddenBy es fs
-  hidden_by es fs None t a h = all_over es fs a h
-  hidden_by es fs (Some i) t a h = all_over_but es fs i t a h
-
+module _ {X : Type 0} (hides : ℕ → X → Bool) (shows : X → Bool) (last : X → ℕ) (m n : ℕ) where
   -- from a place on to another, all of whose flags between them are false
-  pub passed_over : (es : List (Bytes × X)) (fs : List Bool) (from to : ℕ) → length fs ≡ length es → AreHiddenBy es fs → from ≤ to
-      → ((i : ℕ) → from ≤ i → i < to → get_or fs i true ≡ false) → shown hides (drop to es) ≡ shown hides (drop from es)
-  passed_over es fs zero zero n a le p = refl
-  passed_over es fs (suc from) zero n a le p = absurd (omega arith)
-  passed_over [] fs zero (suc to) n a le p = refl
-  passed_over [] fs (suc from) (suc to) n a le p = refl
-  passed_over (e ∷ es) [] from (suc to) n a le p = absurd (omega arith)
-  passed_over (e ∷ es) (f ∷ fs) zero (suc to) n a le p =
-      passed_over es fs zero to (omega arith) a.1 (omega arith) (λ i l h. p (suc i) (omega arith) (omega arith))
-      ∙ sym (ap (λ b. cond b (shown hides es) (e ∷ shown hides es)) (not-false (hides e.1) (a.0 (p zero (omega arith) (omega arith)))))
-  passed_over (e ∷ es) (f ∷ fs) (suc from) (suc to) n a le p =
-      passed_over es fs from to (omega arith) a.1 (omega arith) (λ i l h. p (suc i) (omega arith) (omega arith))
+  pub passed_over : (es : List (Bytes × X)) (from to : ℕ) → AreOver hides shows last n es → n ≤ m → from ≤ to
+      → ((i : ℕ) → from ≤ i → i < to → get_or (map (λ (e : Bytes × X). shows e.1) es) i true ≡ false)
+      → shown (hides m) (drop to es) ≡ shown (hides m) (drop from es)
+  passed_over es zero zero o late le p = refl
+  passed_over es (suc from) zero o late le p = absurd (omega arith)
+  passed_over [] zero (suc to) o late le p = refl
+  passed_over [] (suc from) (suc to) o late le p = refl
+  passed_over (e ∷ es) zero (suc to) o late le p =
+      passed_over es zero to o.1 late (omega arith) (λ i l h. p (suc i) (omega arith) (omega arith))
+      ∙ sym (ap (λ b. cond b (shown (hides m) es) (e ∷ shown (hides m) es)) (o.0.after m late ∙ ap not (p zero (omega arith) (omega arith))))
+  passed_over (e ∷ es) (suc from) (suc to) o late le p =
+      passed_over es from to o.1 late (omega arith) (λ i l h. p (suc i) (omega arith) (omega arith))

@@ -1,11 +1,16 @@
+pub mod Changed
 pub mod Deals
 pub mod Ends
 pub mod FirstBytes
 pub mod Flags
 pub mod Keys
+pub mod OneValue
+pub mod Passed
 pub mod Placings
-pub mod PageGaps
 pub mod Seen
+pub mod Slots
+pub mod Steps
+pub mod Summaries
 pub mod Tails
 pub mod Together
 pub mod Values

@@ -19,8 +19,9 @@ use Rattle.model.proofs.InOrder.{sorted_left, sorted_right}
 use Rattle.model.specs.Map.{Bytes, key_cmp}
 use Rattle.sorted_pages.proofs.Keys.{below_of, above_of, starts_lower, starts-append, starts-put}
 use Rattle.sorted_pages.proofs.Keys.{filled-put, find_middle, put_middle}
-use Rattle.sorted_pages.proofs.Together.{before_page, behind_page, in_one_page, none_from, room-other, starts_too}
+use Rattle.sorted_pages.proofs.Together.{behind_page, in_one_page, none_from, room-other, starts_too}
 use Rattle.sorted_pages.proofs.Together.{together-replaced, together-split}
+use Rattle.sorted_pages.specs.Changes.{ChangesPage}
 use Rattle.sorted_pages.specs.Pages.{AreAllFull, AreFull, AreTight, Page, entries, starts_by, last_room, room_at}
 use Rattle.sorted_pages.specs.Pages.{last_page, count_at, page_entries, stands_behind, IsHalved, AreLoose, HasEntry}
 use Rattle.sorted_pages.specs.Pages.{RestHaveEntries, IsInOrder, AreBelow, IsPlace, IsRoomier, StaysTight}
@@ -134,8 +135,19 @@ module _ {X : Type 0} where
   page_at ps k i p d w is =
       page_is ps k i p w is ∙ sym (ap (λ (l : List (Page X)). get_or l i d) w.is ∙ get_or_at w.before w.page w.after d i w.index)
 
+  -- the page of a place, read there, and what a change of it makes of it
+  pub place_is : (ps : List (Page X)) (k : Bytes) (i : ℕ) (w : IsPlace ps k i) (d : Page X) → w.page ≡ get_or ps i d
+  place_is ps k i w d = sym (ap (λ (l : List (Page X)). get_or l i d) w.is ∙ get_or_at w.before w.page w.after d i w.index)
+
+  pub place_changed : (R : Page X → Page X → Type 0) (ps new : List (Page X)) (k : Bytes) (i : ℕ) (w : IsPlace ps k i) (c : ChangesPage i R ps new)
+      → R w.page c.page
+  place_changed R ps new k i w c = subst (λ (p : Page X). R p c.page) (sym (place_is ps k i w w.page)) (c.changed w.page)
+
   pub set_is : (ps : List (Page X)) (k : Bytes) (i : ℕ) (p : Page X) (w : IsPlace ps k i) → set ps i p ≡ w.before ++ p ∷ w.after
   set_is ps k i p w = ap (λ (l : List (Page X)). set l i p) w.is ∙ set_at w.before w.page w.after p i w.index
+
+  pub set_read : (ps : List (Page X)) (k : Bytes) (i : ℕ) (p d : Page X) (w : IsPlace ps k i) → get_or (set ps i p) i d ≡ p
+  set_read ps k i p d w = ap (λ (l : List (Page X)). get_or l i d) (set_is ps k i p w) ∙ get_or_at w.before p w.after d i w.index
 
   pub entries_at : (ps : List (Page X)) (k : Bytes) (i : ℕ) (w : IsPlace ps k i) → entries ps ≡ entries w.before ++ (w.page.0 ++ entries w.after)
   entries_at ps k i w = ap (λ (l : List (Page X)). entries l) w.is ∙ entries-append w.before (w.page ∷ w.after)
@@ -150,6 +162,13 @@ module _ {X : Type 0} where
       ap (find key_cmp k) (entries_at ps k i w)
       ∙ find_middle k (entries w.before) w.page.0 (entries w.after) w.below w.above
       ∙ sym (ap (λ (q : Page X). find key_cmp k q.0) (page_is ps k i p w is))
+
+  pub sorted_there : (ps : List (Page X)) (k : Bytes) (i : ℕ) (w : IsPlace ps k i) → IsInOrder ps → (d : Page X) → IsSorted (get_or ps i d).0
+  sorted_there ps k i w h d = subst (λ (q : Page X). IsSorted q.0) (place_is ps k i w d) (page_sorted ps k i w.page w (place_is ps k i w w.page) h)
+
+  pub found_there : (ps : List (Page X)) (k : Bytes) (i : ℕ) (w : IsPlace ps k i) (d : Page X)
+      → find key_cmp k (entries ps) ≡ find key_cmp k (get_or ps i d).0
+  found_there ps k i w d = find_at ps k i w.page w (place_is ps k i w w.page) ∙ ap (λ (q : Page X). find key_cmp k q.0) (place_is ps k i w d)
 
   -- ---- in the page at a place
 
@@ -176,14 +195,7 @@ module _ {X : Type 0} where
           let sorted = sorted_right key_cmp c.0 (entries (d ∷ a)) from in
           (first, none_from q d a sorted (after_filled b c (d ∷ a) h.filled).1 first)
 
-  -- a key by which that page doesn't start, or by which the next does
-  pub apart_before : (ps : List (Page X)) (k q : Bytes) (i : ℕ) → (w : IsPlace ps k i) → (p : Page X) → p ≡ get_or ps i p → 0 < i → starts_by q p.0 ≡ false
-      → is_together k q ps ≡ false
-  apart_before ps k q i w p is lt s =
-      let e = w.index in
-      ap (is_together k q) w.is
-      ∙ before_page k q w.before w.page w.after (omega arith) (w.starts lt) (ap (λ (r : Page X). starts_by q r.0) (sym (page_is ps k i p w is)) ∙ s)
-
+  -- a key by which the next page starts
   pub apart_behind : (ps : List (Page X)) (k q : Bytes) (i : ℕ) → (w : IsPlace ps k i) → (n : Page X) → i + 1 < length ps → n ≡ get_or ps (i + 1) n
       → starts_by q n.0 ≡ true → is_together k q ps ≡ false
   apart_behind ps k q i w n lt is s = by w.before w.page w.after w.is w.index w.later
@@ -437,9 +449,6 @@ module _ {X : Type 0} where
 
   all_insert : (P : Page X → Type 0) (qs : List (Page X)) (j : ℕ) (p : Page X) → P p → AllByRecursion P qs → AllByRecursion P (insert qs j p)
   all_insert P qs j p h a = grind (arith, common_steps, take-append-drop, all-append, all-front, all-back)
-
-  pub tight-same : (n : ℕ) (ps new : List (Page X)) → new ≡ ps → StaysTight n ps new
-  tight-same n ps new e = record { tight = λ r le h. subst (λ (l : List (Page X)). AreTight r l) (sym e) h }
 
   pub tight-then : (n : ℕ) (ps qs rs : List (Page X)) → StaysTight n ps qs → StaysTight n qs rs → StaysTight n ps rs
   tight-then n ps qs rs a b = record { tight = λ r le h. b.tight r le (a.tight r le h) }

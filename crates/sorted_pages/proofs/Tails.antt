@@ -1,6 +1,6 @@
 -- The entries of a range: the tail of all entries from its lower bound on, up to its upper bound.
 use Rattle.std.proofs.Common.{◌≡◌, ℕ, Bool, true, false, T, not, cond, List, [], ◌∷◌, ◌++◌, take, drop, get_or, ◌+◌}
-use Rattle.std.proofs.Common.{◌<◌, ◌≤◌, length, Option, Some, None, refl, sym, ap, subst, ◌∙◌, arith}
+use Rattle.std.proofs.Common.{Option, Some, None, refl, sym, ap, subst, ◌∙◌, arith}
 use Rattle.std.proofs.Math.Seq.{drop-append-add}
 use Rattle.std.proofs.lemmas.Bool.{and_right}
 use Rattle.std.proofs.lemmas.Grind.{common_steps}
@@ -18,10 +18,9 @@ use Rattle.model.specs.Entries.{IsSplit}
 use Rattle.model.specs.Map.{Bytes, key_cmp, is_below, is_in_range}
 use Rattle.sorted_pages.proofs.Placings.{entries_at, page_is}
 use Rattle.sorted_pages.proofs.Seen.{all-shown, shown-append, sorted-shown}
-use Rattle.sorted_pages.specs.Blanks.{shown}
+use Rattle.sorted_pages.specs.Ranges.{shown}
 use Rattle.sorted_pages.specs.Pages.{Page, entries, IsPlace, IsInOrder, AreBelow}
-use Rattle.sorted_pages.specs.Ranges.{up_to, AreFrom, IsFirstShown, IsTail, entries_from, entries_outside}
-use Rattle.sorted_pages.specs.declared.gap.Gap.{Gap}
+use Rattle.sorted_pages.specs.Ranges.{up_to, AreFrom, IsTail}
 
 -- what is above a key that isn't below hi isn't
 not_below : (q p : Bytes) (hi : Option Bytes) → key_cmp q p ≡ Less → is_below q hi ≡ false → is_below p hi ≡ false
@@ -93,32 +92,3 @@ module _ {X : Type 0} where
 
   pub after_place : (ps : List (Page X)) (k : Bytes) (i : ℕ) (p : Page X) (w : IsPlace ps k i) → p ≡ get_or ps i p → drop (i + 1) ps ≡ w.after
   after_place ps k i p w is = sym (drop-drop 1 i ps) ∙ ap (drop 1) (from_place ps k i p w is)
-
--- ---- a step
-
-module _ {X : Type 0} (hides : X → Bool) (n : ℕ) (hi : Option Bytes) (page : Page X) (ps rest : List (Page X)) (gs : List Gap) (from at : ℕ) where
-  first_of : (es : List (Bytes × X)) (i : ℕ) (e : Bytes × X) → i < length es → e ≡ get_or es i e → drop i es ≡ e ∷ drop (i + 1) es
-  first_of es i e lt is = grind (arith, common_steps)
-
-  -- what is left, where it is known from which place on the number sees something
-  left_from : ps ≡ page ∷ rest → shown hides (drop at page.0) ≡ shown hides (drop from page.0)
-      → shown hides (entries_from n from ps gs) ≡ shown hides (drop at page.0 ++ entries_outside n rest gs)
-  left_from next same = grind (arith, common_steps, shown-append)
-
-  -- the entry at that place is the next
-  pub next_entry : (e : Bytes × X) → ps ≡ page ∷ rest → at < length page.0 → e ≡ get_or page.0 at e → IsFirstShown hides (drop at page.0)
-      → shown hides (drop at page.0) ≡ shown hides (drop from page.0) → is_below e.0 hi ≡ true
-      → up_to hi (shown hides (entries_from n from ps gs)) ≡ e ∷ up_to hi (shown hides (entries_from n (at + 1) ps gs))
-  next_entry e next lt is first same below = grind (arith, common_steps, left_from, first_of)
-
-  -- and the last, where it is behind the range
-  pub no_entry : (e : Bytes × X) → ps ≡ page ∷ rest → at < length page.0 → e ≡ get_or page.0 at e → IsFirstShown hides (drop at page.0)
-      → shown hides (drop at page.0) ≡ shown hides (drop from page.0) → is_below e.0 hi ≡ false → up_to hi (shown hides (entries_from n from ps gs)) ≡ []
-  no_entry e next lt is first same above = grind (arith, common_steps, left_from, first_of)
-
-  -- a page is passed over, and those behind it whose gaps have the number
-  pub next_page : (begin : ℕ) (qs : List (Page X)) (hs : List Gap) → ps ≡ page ∷ rest → length page.0 ≤ at
-      → shown hides (drop at page.0) ≡ shown hides (drop from page.0) → shown hides (entries_from n begin qs hs) ≡ shown hides (entries_from n 0 qs hs)
-      → entries_from n 0 qs hs ≡ entries_outside n rest gs
-      → up_to hi (shown hides (entries_from n begin qs hs)) ≡ up_to hi (shown hides (entries_from n from ps gs))
-  next_page begin qs hs next le same later behind = grind (arith, common_steps, left_from)

@@ -94,12 +94,6 @@ module _ {X : Type 0} where
       and_from (starts_alike j k b.0) (Alike j k rest) (both_alike j k b.0 (too j s) (too k t))
       (alike_before j k before page after (sorted_right key_cmp b.0 (entries rest) h) f.1 s t a)
 
-  not_alike : (j k : Bytes) (before : List (Page X)) (page : Page X) (after : List (Page X)) → starts_alike j k page.0 ≡ false
-      → Alike j k (before ++ page ∷ after) ≡ false
-  not_alike j k [] page after e = and_left (starts_alike j k page.0) (Alike j k after) e
-  not_alike j k (b ∷ before) page after e =
-      and_right (starts_alike j k b.0) (Alike j k (before ++ page ∷ after)) (not_alike j k before page after e)
-
   not_alike_next : (j k : Bytes) (before : List (Page X)) (page next : Page X) (after : List (Page X)) → starts_alike j k next.0 ≡ false
       → Alike j k (before ++ page ∷ next ∷ after) ≡ false
   not_alike_next j k [] page next after e =
@@ -117,12 +111,6 @@ module _ {X : Type 0} where
   in_one_page j k (b ∷ before) page after h s t f g =
       alike_before j k before page after (sorted_right key_cmp b.0 (entries (before ++ page ∷ after)) h.sorted) h.filled (s (omega arith)) (t (omega arith))
       (none_alike j k after f g)
-
-  pub before_page : (j k : Bytes) (before : List (Page X)) (page : Page X) (after : List (Page X)) → 0 < length before → starts_by j page.0 ≡ true
-      → starts_by k page.0 ≡ false → is_together j k (before ++ page ∷ after) ≡ false
-  before_page j k [] page after lt s t = absurd (omega arith)
-  before_page j k (b ∷ before) page after lt s t =
-      not_alike j k before page after (ap (λ b. if b then starts_by k page.0 else not (starts_by k page.0)) s ∙ t)
 
   pub behind_page : (j k : Bytes) (before : List (Page X)) (page next : Page X) (after : List (Page X)) → starts_by j next.0 ≡ false
       → starts_by k next.0 ≡ true → is_together j k (before ++ page ∷ next ∷ after) ≡ false

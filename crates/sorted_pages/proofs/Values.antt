@@ -19,10 +19,18 @@ use Rattle.model.specs.Entries.{IsAt}
 use Rattle.model.specs.Map.{Bytes, key_cmp}
 use Rattle.sorted_pages.proofs.Keys.{find_behind, put_behind}
 use Rattle.sorted_pages.proofs.Placings.{page_is, set_is, find_at, grown, inserted}
-use Rattle.sorted_pages.specs.Lent.{with_value, with_value_in}
 use Rattle.sorted_pages.specs.Pages.{Page, entries, starts_by, last_room, room_at, AreBelow, IsPlace, IsInOrder}
 use Rattle.sorted_pages.specs.Pages.{is_together, starts_alike}
 use Rattle.sorted_pages.specs.Trims.{put_some, changed_at}
+
+-- the page with this value at a key that it has
+abbrev pub with_value_in : {X : Type 0} → Page X → Bytes → X → Page X
+with_value_in p k v = (put key_cmp k v p.0, p.1)
+
+-- the pages with this value at a key that they have
+abbrev pub with_value : {X : Type 0} → List (Page X) → Bytes → X → List (Page X)
+with_value [] k v = []
+with_value (p ∷ ps) k v = if is_some (find key_cmp k p.0) then with_value_in p k v ∷ ps else p ∷ with_value ps k v
 
 module _ {X : Type 0} where
   not_found : (k : Bytes) (es : List (Bytes × X)) → AreBelow k es → find key_cmp k es ≡ None

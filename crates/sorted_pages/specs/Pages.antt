@@ -15,6 +15,27 @@ use Rattle.sorted_pages.specs.declared.page.TheConstants.{PAGE_MAX}
 abbrev pub Page : Type 0 → Type 0
 Page X = List (Bytes × X) × ℕ
 
+-- pages, the numbers that are held, each in a place of its own, and a number after which no value has changed
+pub record PagesValue (X : Type 0) : Type 0 where
+  pub pages : List (Page X)
+  pub held : List ℕ
+  pub last : ℕ
+
+-- the same numbers are held, and nothing has changed with a later number
+pub record KeepsHeld {X : Type 0} (old new : PagesValue X) : Type 0 where
+  pub held : new.held ≡ old.held
+  pub last : new.last ≡ old.last
+
+-- the same numbers are held, and the last change came with this number
+pub record KeepsHeldTo {X : Type 0} (n : ℕ) (old new : PagesValue X) : Type 0 where
+  pub held : new.held ≡ old.held
+  pub last : new.last ≡ n
+
+-- the last change came with n at most
+pub record IsLastRaised {X : Type 0} (n : ℕ) (old new : PagesValue X) : Type 0 where
+  pub held : new.held ≡ old.held
+  pub last : new.last ≤ n
+
 -- the entries of all pages, one page after another
 abbrev pub entries : {X : Type 0} → List (Page X) → List (Bytes × X)
 entries [] = []

@@ -4,38 +4,51 @@ use Rattle.std.specs.Cmp.Lexicographic.{slice_cmp}
 use Rattle.std.specs.FinMap.Entries.{where_key}
 use Rattle.std.specs.List.{AllByRecursion}
 use Rattle.std.specs.Ordering.{nat_cmp, is_le}
-use Rattle.std.specs.Prelude.{◌≡◌, ℕ, Bool, true, false, List, [], ◌∷◌, ◌++◌, drop, if◌then◌else◌}
-use Rattle.std.specs.Prelude.{Option, Some, None, ⊤}
+use Rattle.std.specs.Prelude.{◌≡◌, ℕ, ◌<◌, ◌≤◌, ◌⊎◌, Bool, true, false, List, [], ◌∷◌, ◌++◌, drop}
+use Rattle.std.specs.Prelude.{if◌then◌else◌, Option, Some, None, ⊤}
 use Rattle.model.specs.KeyBytes.{key_bytes, end_bytes}
 use Rattle.model.specs.Map.{Bytes, key_cmp, is_below, is_in_range}
 use Rattle.model.specs.declared.keys.KeyRef.{KeyRef}
-use Rattle.sorted_pages.specs.Blanks.{shown}
-use Rattle.sorted_pages.specs.Gaps.{is_within}
 use Rattle.sorted_pages.specs.Pages.{AreBelow, Page, entries}
-use Rattle.sorted_pages.specs.declared.gap.Gap.{Gap}
+use Rattle.sorted_pages.specs.Summaries.{is_passed}
+use Rattle.sorted_pages.specs.declared.held.Reader.{Reader}
 use Rattle.sorted_pages.specs.declared.range.Entries.{Entries}
+use Rattle.sorted_pages.specs.declared.summary.Summary.{Summary}
 
 -- the entries before the first whose key isn't below hi
 abbrev pub up_to : {X : Type 0} → Option Bytes → List (Bytes × X) → List (Bytes × X)
 up_to hi [] = []
 up_to hi (e ∷ es) = if is_below e.0 hi then e ∷ up_to hi es else []
 
--- the entries of pages, without those of each page of which the number is in the gap
-abbrev pub entries_outside : {X : Type 0} → ℕ → List (Page X) → List Gap → List (Bytes × X)
-entries_outside n [] gs = []
-entries_outside n (p ∷ ps) [] = p.0 ++ entries_outside n ps []
-entries_outside n (p ∷ ps) (g ∷ gs) =
-    if is_within n g then entries_outside n ps gs else p.0 ++ entries_outside n ps gs
+-- the entries that aren't hidden
+abbrev pub shown : {X : Type 0} → (X → Bool) → List (Bytes × X) → List (Bytes × X)
+shown hides [] = []
+shown hides (e ∷ es) = if hides e.1 then shown hides es else e ∷ shown hides es
 
--- those of the first page from a place of it on, and those of the others
-abbrev pub entries_from : {X : Type 0} → ℕ → ℕ → List (Page X) → List Gap → List (Bytes × X)
-entries_from n at [] gs = []
-entries_from n at (p ∷ ps) gs = drop at p.0 ++ entries_outside n ps gs
+-- the pages that a range of the reader doesn't pass over
+abbrev pub not_passed : {X : Type 0} → Reader → List (Page X) → List Summary → List (Page X)
+not_passed r [] ss = []
+not_passed r (p ∷ ps) [] = p ∷ not_passed r ps []
+not_passed r (p ∷ ps) (s ∷ ss) = if is_passed r s then not_passed r ps ss else p ∷ not_passed r ps ss
+
+-- the pages that a range looks at: the first of those that are left, and those behind it that it doesn't pass over
+abbrev pub looked_at : {X : Type 0} → Reader → List (Page X) → List Summary → List (Page X)
+looked_at r [] ss = []
+looked_at r (p ∷ ps) ss = p ∷ not_passed r ps (drop 1 ss)
+
+-- those of them that are behind the first
+abbrev pub pages_ahead : {X Y : Type 0} → Entries X Y → List (Page X)
+pages_ahead r = not_passed r.reader (drop 1 r.pages.now) (drop 1 r.summaries.now)
+
+-- the entries of the pages that a range looks at, from a place of the first on
+abbrev pub entries_from : {X : Type 0} → Reader → ℕ → List (Page X) → List Summary → List (Bytes × X)
+entries_from r at [] ss = []
+entries_from r at (p ∷ ps) ss = drop at p.0 ++ entries (not_passed r ps (drop 1 ss))
 
 -- the entries that are left
-abbrev pub entries_left : {X : Type 0} → (ℕ → X → Bool) → Entries X → List (Bytes × X)
+abbrev pub entries_left : {X Y : Type 0} → (ℕ → X → Bool) → Entries X Y → List (Bytes × X)
 entries_left hides r = up_to (end_bytes r.hi)
-    (shown (hides r.number) (entries_from r.number r.at r.pages.now r.gaps.now))
+    (shown (hides r.reader.number) (entries_from r.reader r.at r.pages.now r.summaries.now))
 
 -- the entries that aren't hidden and whose keys are at least lo and below hi
 abbrev pub shown_in : {X : Type 0} → (X → Bool) → List (Page X) → Bytes → Option Bytes → List (Bytes × X)
@@ -76,3 +89,11 @@ pub record IsLeastFrom {X : Type 0} (es : List (Bytes × X)) (k : Bytes) (least 
 abbrev pub IsCutAlike : {X : Type 0} → List (Page X) → Bytes → List (Page X) → Option Bytes → Type 0
 IsCutAlike {X} ps hi qs bound =
     (hides : X → Bool) (lo : Bytes) → shown_in hides qs lo bound ≡ shown_in hides ps lo (Some hi)
+
+-- whether the reader sees something of a page is known of each page: its number is held, or nothing has changed since
+abbrev pub KnowsPages : Reader → List Summary → Type 0
+KnowsPages r ss = (0 < r.bit) ⊎ AllByRecursion (λ s. s.last ≤ r.number) ss
+
+-- the pages that are left to look at are those that were, without some at the front
+abbrev pub GoesOn : {X Y : Type 0} → Entries X Y → Entries X Y → Type 0
+GoesOn old new = (n : ℕ) × (pages_ahead new ≡ drop n (pages_ahead old))

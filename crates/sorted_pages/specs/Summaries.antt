@@ -1,72 +1,99 @@
--- What numbers see of the values of entries together.
-use Rattle.std.specs.List.{AllByRecursion}
-use Rattle.std.specs.Prelude.{◌≡◌, ℕ, ◌<◌, ◌≤◌, Bool, true, ◌||◌, ◌&&◌, ◌==◌, nat_le, nat_lt, List, length, count_by}
-use Rattle.std.specs.Prelude.{remove, slice_get, slice_index_or, Option, Some, None, ⊤}
+-- What numbers see of the values of a page, and what is known of it.
+use Rattle.std.specs.Int.{bit_at}
+use Rattle.std.specs.Int.Bits.{bit_and}
+use Rattle.std.specs.List.{AllByRecursion, list_all, list_any}
+use Rattle.std.specs.Prelude.{◌≡◌, ℕ, ◌<◌, ◌≤◌, ◌==◌, ◌||◌, Bool, true, false, List, [], ◌∷◌, length, not, nat_le}
+use Rattle.std.specs.Prelude.{nat_lt, slice_get, Some, if◌then◌else◌, ⊤}
 use Rattle.model.specs.Map.{Bytes}
-use Rattle.sorted_pages.specs.Gaps.{IsHiddenFrom, end_beside, is_in_some, is_within}
-use Rattle.sorted_pages.specs.declared.gap.Gap.{Gap}
-use Rattle.sorted_pages.specs.declared.older.Older.{Older}
+use Rattle.sorted_pages.specs.Held.{bit_of, is_among}
+use Rattle.sorted_pages.specs.Pages.{Page, PagesValue}
+use Rattle.sorted_pages.specs.Values.{IsOver}
+use Rattle.sorted_pages.specs.declared.held.Reader.{Reader}
 use Rattle.sorted_pages.specs.declared.summary.Summary.{Summary}
 
 -- nothing is seen of the entries
-abbrev pub AreHidden : {X : Type 0} → (X → Bool) → List (Bytes × X) → Type 0
-AreHidden hides es = AllByRecursion (λ e. hides e.1 ≡ true) es
+abbrev pub are_hidden : {X : Type 0} → (X → Bool) → List (Bytes × X) → Bool
+are_hidden hides es = list_all (λ e. hides e.1) es
 
--- nothing is seen of those that don't show
-abbrev pub AreOver : {X : Type 0} → (X → Bool) → (X → Bool) → List (Bytes × X) → Type 0
-AreOver hides shows es = AllByRecursion (λ e. (shows e.1 || hides e.1) ≡ true) es
+-- one of the values shows
+abbrev pub is_any_shown : {X : Type 0} → (X → Bool) → List (Bytes × X) → Bool
+is_any_shown shows es = list_any (λ e. shows e.1) es
 
--- none of the numbers sees anything of the entries
-abbrev pub AreHiddenIn : {X : Type 0} → (ℕ → X → Bool) → List (Bytes × X) → Gap → Type 0
-AreHiddenIn hides es g = (n : ℕ) → g.from ≤ n → n < g.to → AreHidden (hides n) es
+-- the last change of each of the values came with n or before
+abbrev pub AreOver : {X : Type 0} → (ℕ → X → Bool) → (X → Bool) → (X → ℕ) → ℕ → List (Bytes × X) → Type 0
+AreOver hides shows last n es = AllByRecursion (λ e. IsOver hides shows last n e.1) es
 
-pub record AreAllHiddenIn {X : Type 0} (hides : ℕ → X → Bool) (es : List (Bytes × X)) (o : Older) : Type 0 where
-  pub first : AreHiddenIn hides es o.first
-  pub second : AreHiddenIn hides es o.second
-  pub third : AreHiddenIn hides es o.third
+-- the summary is of these entries: it says of each held number, and of each from the last change on, whether it sees
+-- nothing of them
+pub record IsSummary {X : Type 0} (hides : ℕ → X → Bool) (shows : X → Bool) (last : X
+    → ℕ) (held : List ℕ) (es : List (Bytes × X)) (s : Summary) : Type 0 where
+  pub over : AreOver hides shows last s.last es
+  pub after : (n : ℕ) → s.last ≤ n → are_hidden (hides n) es ≡ not s.shows
+  pub before : (i n : ℕ) → slice_get held i ≡ Some n → n < s.last
+      → bit_at s.hidden i ≡ bit_of (are_hidden (hides n) es)
 
--- the summary is of these entries
-pub record IsSummary {X : Type 0} (hides : ℕ → X → Bool) (shows : X
-    → Bool) (es : List (Bytes × X)) (s : Summary) : Type 0 where
-  pub before : (n : ℕ) → n < s.first → AreHidden (hides n) es
-  pub after : (n : ℕ) → s.last ≤ n → AreOver (hides n) shows es
-  pub showing : count_by (λ e. shows e.1) es ≡ s.showing
-  pub gap : AreHiddenIn hides es s.gap
-  pub older : AreAllHiddenIn hides es s.older
+-- what the bits of the held numbers are once the page has changed with a number: those of numbers below it say what was
+-- seen before, of those from the last change on by what showed then
+abbrev pub IsRaised : List ℕ → Summary → Summary → Type 0
+IsRaised held old new = (i n : ℕ) → slice_get held i ≡ Some n → n < new.last
+    → bit_at new.hidden i ≡ (if nat_le old.last n then bit_of (not old.shows) else bit_at old.hidden i)
 
--- the entries but that at i
-abbrev pub all_but : {X : Type 0} → Option ℕ → List (Bytes × X) → List (Bytes × X)
-all_but None es = es
-all_but (Some i) es = remove es i
+-- ---- what changes of entries leave of summaries
 
-abbrev pub IsIndexOf : {X : Type 0} → Option ℕ → List (Bytes × X) → Type 0
-IsIndexOf None es = ⊤
-IsIndexOf (Some i) es = i < length es
+-- a summary of the old entries is one of the new ones
+abbrev pub KeepsSummaries : {X : Type 0} → (ℕ → X → Bool) → (X → Bool) → (X → ℕ) → List (Bytes × X)
+    → List (Bytes × X) → Type 0
+KeepsSummaries hides shows last old new = (held : List ℕ) (s : Summary)
+    → IsSummary hides shows last held old s → IsSummary hides shows last held new s
 
--- the summary is of these entries but the one that it leaves out
-pub record IsSummaryBut {X : Type 0} (hides : ℕ → X → Bool) (shows : X
-    → Bool) (es : List (Bytes × X)) (s : Summary) : Type 0 where
-  pub within : IsIndexOf s.left_out es
-  pub rest : IsSummary hides shows (all_but s.left_out es) s
+-- the same where of the numbers below the last change only these are held
+abbrev pub KeepsSummariesOf : {X : Type 0} → List ℕ → (ℕ → X → Bool) → (X → Bool) → (X → ℕ) → List (Bytes × X)
+    → List (Bytes × X) → Type 0
+KeepsSummariesOf ns hides shows last old new = (held : List ℕ) (s : Summary)
+    → ((n : ℕ) → is_among held n ≡ true → n < s.last → is_among ns n ≡ true)
+    → IsSummary hides shows last held old s → IsSummary hides shows last held new s
 
--- it is known of the number that it sees nothing of the entries but the one that is left out
-abbrev pub is_known : ℕ → Summary → Bool
-is_known n s = (nat_lt n s.first || (nat_le s.last n && s.showing == 0)) || (is_within n s.gap || is_in_some n s.older)
+-- a summary of the old entries that is raised to n is one of the new ones
+abbrev pub RaisesSummaries : {X : Type 0} → (ℕ → X → Bool) → (X → Bool) → (X → ℕ) → ℕ → List (Bytes × X)
+    → List (Bytes × X) → Type 0
+RaisesSummaries hides shows last n old new = (held : List ℕ) (s t : Summary)
+    → s.last ≤ n → IsSummary hides shows last held old s
+    → t.last ≡ n → t.shows ≡ is_any_shown shows new → IsRaised held s t
+    → IsSummary hides shows last held new t
 
--- nothing is seen of the entry, if there is one
-abbrev pub hides_some : {X : Type 0} → (X → Bool) → Option (Bytes × X) → Bool
-hides_some hides None = true
-hides_some hides (Some e) = hides e.1
+-- ---- the summaries of pages
 
--- nothing is seen of the entry that is left out, if there is one
-abbrev pub hides_but : {X : Type 0} → (X → Bool) → Option ℕ → List (Bytes × X) → Bool
-hides_but hides None es = true
-hides_but hides (Some i) es = hides_some hides (slice_get es i)
+-- a range of the reader passes over the page
+abbrev pub is_passed : Reader → Summary → Bool
+is_passed r s = if nat_lt r.number s.last then not (bit_and s.hidden r.bit == 0) else not s.shows
 
--- What was known of the last gap is known on once the entry that was left out is taken in: of each of its numbers from
--- which on all of them, up to the entry's last change if it shows, see nothing of it.
-abbrev pub KeepsGap : {X : Type 0} → (ℕ → X → Bool) → (X → Bool) → (X → ℕ) → List (Bytes × X) → Summary → Summary
+-- each of the pages has its summary, of which there may be more
+abbrev pub AreSummaries : {X : Type 0} → (ℕ → X → Bool) → (X → Bool) → (X → ℕ) → List ℕ → List (Page X) → List Summary
     → Type 0
-KeepsGap {X} hides shows last es s t = (i n : ℕ) (e : Bytes × X) → s.left_out ≡ Some i → e ≡ slice_index_or es i e
-    → is_within n s.gap ≡ true → n < end_beside shows last e.1 s.gap.to
-    → IsHiddenFrom hides e.1 n (end_beside shows last e.1 s.gap.to) → is_known n t ≡ true
+AreSummaries hides shows last held [] ss = ⊤
+AreSummaries hides shows last held (p ∷ ps) [] = ⊥
+AreSummaries hides shows last held (p ∷ ps) (s ∷ ss) =
+    IsSummary hides shows last held p.0 s × AreSummaries hides shows last held ps ss
+
+-- each page has a summary, and none has changed after the last number
+pub record HaveSummaries {X : Type 0} (hides : ℕ → X → Bool) (shows : X → Bool) (last : X
+    → ℕ) (v : PagesValue X) (ss : List Summary) : Type 0 where
+  pub count : length ss ≡ length v.pages
+  pub each : AreSummaries hides shows last v.held v.pages ss
+  pub late : AllByRecursion (λ s. s.last ≤ v.last) ss
+
+-- what the number sees of the pages is known: it is held, or nothing has changed since
+abbrev pub is_known : {X : Type 0} → ℕ → PagesValue X → Bool
+is_known n v = is_among v.held n || nat_le v.last n
+
+-- of the numbers below the last change only these are held
+abbrev pub HoldsAmong : {X : Type 0} → List ℕ → PagesValue X → Type 0
+HoldsAmong ns v = (n : ℕ) → is_among v.held n ≡ true → n < v.last → is_among ns n ≡ true
+
+-- these numbers are held, as far as they were known
+abbrev pub HoldsKnown : {X : Type 0} → List ℕ → PagesValue X → PagesValue X → Type 0
+HoldsKnown ns old new = (n : ℕ) → is_among ns n ≡ true → is_known n old ≡ true → is_among new.held n ≡ true
+
+-- something is seen of each of the pages
+abbrev pub AreSeen : {X : Type 0} → (X → Bool) → List (Page X) → Type 0
+AreSeen hides ps = AllByRecursion (λ p. are_hidden hides p.0 ≡ false) ps

@@ -4,9 +4,11 @@ ghost use Rattle.std.specs.Ordering.{nat_cmp};
 ghost use Rattle.std.specs.Cmp.Lexicographic.{slice_cmp};
 ghost use Rattle.std.specs.FinMap.Entries.{put, is_sorted};
 ghost use Rattle.model.specs.Map.{Bytes};
+ghost use Rattle.sorted_pages.specs.Pages.{IsLastRaised, KeepsHeldTo};
 ghost use Rattle.sorted_pages.specs.Pages.{AreAllFull, AreFull, AreLoose, IsCrowded, IsInOrder, IsInsertionPoint};
 ghost use Rattle.sorted_pages.specs.Pages.{StaysTight, count_at, entries, pushed, room_at};
-ghost use Rattle.sorted_pages.specs.Rooms.{MakesOnePage, MakesRoom, SplitsPage, TakesPlace};
+ghost use Rattle.sorted_pages.specs.Rooms.{IsPushed, MakesOnePage, MakesRoom, SplitsPage, TakesPlace};
+ghost use Rattle.sorted_pages.specs.Values.{IsNewFrom};
 
 use crate::insertion_point::InsertionPoint;
 use crate::page::{PAGE_MAX, Page};
@@ -27,31 +29,28 @@ const FILL_PLACES: usize = 256;
 
 // Adds an entry of a new key where it would stand, in the room that was made for it.
 pub(crate) fn insert<V: Versioned>(pages: &mut PageList<V>, at: InsertionPoint, key: Key, value: V)
-    requires order { IsInOrder pages.old }
-    requires point { IsInsertionPoint pages.old key at.page at.entry }
-    requires room { 0 < room_at key pages.old }
-    ensures order { IsInOrder pages.new }
-    ensures entries { entries pages.new ≡ put (slice_cmp nat_cmp) key value (entries pages.old) }
-    ensures place { TakesPlace key pages.old pages.new }
-    ensures tight { StaysTight 0 pages.old pages.new }
+    requires order { IsInOrder pages.old.pages }
+    requires point { IsInsertionPoint pages.old.pages key at.page at.entry }
+    requires room { 0 < room_at key pages.old.pages }
+    requires new { IsNewFrom V.hides V.last pages.old.last value }
+    ensures entries { entries pages.new.pages ≡ put (slice_cmp nat_cmp) key value (entries pages.old.pages) }
+    ensures place { TakesPlace key pages.old.pages pages.new.pages }
+    ensures held { KeepsHeldTo (V.last value) pages.old pages.new }
 {
-    pages.page_mut(at.page).insert(at.entry, key, value);
-    pages.look_again(at.page);
+    pages.insert(at.page, at.entry, key, value);
 }
 
 // Makes room for `n` more entries in the page where the key would stand.
 fn grow<V: Versioned>(pages: &mut PageList<V>, key: KeyRef<'_>, n: usize) -> Result<(), AllocError>
-    requires order { IsInOrder pages.old }
-    requires some { 0 < length pages.old }
+    requires order { IsInOrder pages.old.pages }
+    requires some { 0 < length pages.old.pages }
     ensures room { MakesRoom n pages.old pages.new }
-    ensures made { OnOk result (n ≤ room_at key.entry.bytes.now pages.new) }
-    ensures pages { length pages.new ≡ length pages.old }
-    ensures count { count_at key.entry.bytes.now pages.new ≡ count_at key.entry.bytes.now pages.old }
+    ensures made { OnOk result (n ≤ room_at key.entry.bytes.now pages.new.pages) }
+    ensures pages { length pages.new.pages ≡ length pages.old.pages }
+    ensures count { count_at key.entry.bytes.now pages.new.pages ≡ count_at key.entry.bytes.now pages.old.pages }
 {
     let i = place(pages.as_slice(), key);
-    let grown = pages.page_mut(i).reserve(n);
-    pages.look_again(i);
-    grown
+    pages.reserve(i, n)
 }
 
 // Splits the page where the key would stand, and gives both parts room for `n` entries.
@@ -60,14 +59,14 @@ fn split<V: Versioned + Drop>(
     key: KeyRef<'_>,
     n: usize,
 ) -> Result<(), AllocError>
-    requires order { IsInOrder pages.old }
-    requires some { 0 < length pages.old }
-    requires short { room_at key.bytes.now pages.old < n }
+    requires order { IsInOrder pages.old.pages }
+    requires some { 0 < length pages.old.pages }
+    requires short { room_at key.bytes.now pages.old.pages < n }
     ensures room { MakesRoom n pages.old pages.new }
-    ensures some { 0 < length pages.new }
-    ensures one { length pages.new ≤ length pages.old + 1 }
-    ensures split { OnOk result (IsCrowded key.entry.bytes.now n pages.old
-        → SplitsPage key.entry.bytes.now pages.old pages.new) }
+    ensures some { 0 < length pages.new.pages }
+    ensures one { length pages.new.pages ≤ length pages.old.pages + 1 }
+    ensures split { OnOk result (IsCrowded key.entry.bytes.now n pages.old.pages
+        → SplitsPage key.entry.bytes.now pages.old.pages pages.new.pages) }
 {
     let i = place(pages.as_slice(), key);
     let cut = pages.as_slice()[i].cut_for(key);
@@ -84,14 +83,14 @@ fn divide<V: Versioned + Drop>(
     key: KeyRef<'_>,
     n: usize,
 ) -> Result<(), AllocError>
-    requires order { IsInOrder pages.old }
-    requires some { 0 < length pages.old }
-    requires short { room_at key.bytes.now pages.old < n }
+    requires order { IsInOrder pages.old.pages }
+    requires some { 0 < length pages.old.pages }
+    requires short { room_at key.bytes.now pages.old.pages < n }
     ensures room { MakesRoom n pages.old pages.new }
-    ensures made { OnOk result (n ≤ room_at key.entry.bytes.now pages.new) }
-    ensures one { length pages.new ≤ length pages.old + 1 }
-    ensures split { OnOk result (IsCrowded key.entry.bytes.now n pages.old
-        → SplitsPage key.entry.bytes.now pages.old pages.new) }
+    ensures made { OnOk result (n ≤ room_at key.entry.bytes.now pages.new.pages) }
+    ensures one { length pages.new.pages ≤ length pages.old.pages + 1 }
+    ensures split { OnOk result (IsCrowded key.entry.bytes.now n pages.old.pages
+        → SplitsPage key.entry.bytes.now pages.old.pages pages.new.pages) }
 {
     split(pages, key, n)?;
     grow(pages, key, n)
@@ -108,12 +107,13 @@ fn is_crowded(len: usize, n: usize) -> bool
 
 // Makes the first page.
 fn start<V: Versioned + Drop>(pages: &mut PageList<V>, n: usize) -> Result<(), AllocError>
-    requires { pages.old ≡ [] }
+    requires { pages.old.pages ≡ [] }
     ensures room { MakesRoom n pages.old pages.new }
-    ensures made { OnOk result ((k : Bytes) → n ≤ room_at k pages.new) }
-    ensures one { length pages.new ≤ 1 }
+    ensures made { OnOk result ((k : Bytes) → n ≤ room_at k pages.new.pages) }
+    ensures one { length pages.new.pages ≤ 1 }
 {
-    pages.push(Page::with_room_in_steps(pages.allocator(), n)?)
+    let last = pages.last();
+    pages.push(Page::with_room_in_steps(pages.allocator(), n)?, last)
 }
 
 // Makes room for `n` more entries in the page where the key would stand. A page that they would make too large is split.
@@ -123,14 +123,14 @@ pub(crate) fn reserve<V: Versioned + Drop>(
     key: KeyRef<'_>,
     n: usize,
 ) -> Result<(), AllocError>
-    requires order { IsInOrder pages.old }
-    requires point { IsInsertionPoint pages.old key.bytes.now at.page at.entry }
+    requires order { IsInOrder pages.old.pages }
+    requires point { IsInsertionPoint pages.old.pages key.bytes.now at.page at.entry }
     ensures room { MakesRoom n pages.old pages.new }
-    ensures made { OnOk result (n ≤ room_at key.entry.bytes.now pages.new) }
-    ensures known { n ≤ room_at key.entry.bytes.now pages.old → IsOk result }
-    ensures split { OnOk result (IsCrowded key.entry.bytes.now n pages.old
-        → SplitsPage key.entry.bytes.now pages.old pages.new) }
-    ensures pages { MakesOnePage key.entry.bytes.now n pages.old pages.new }
+    ensures made { OnOk result (n ≤ room_at key.entry.bytes.now pages.new.pages) }
+    ensures known { n ≤ room_at key.entry.bytes.now pages.old.pages → IsOk result }
+    ensures split { OnOk result (IsCrowded key.entry.bytes.now n pages.old.pages
+        → SplitsPage key.entry.bytes.now pages.old.pages pages.new.pages) }
+    ensures pages { MakesOnePage key.entry.bytes.now n pages.old.pages pages.new.pages }
 {
     if n <= room_in(pages.as_slice(), at.page) {
         return Ok(());
@@ -150,18 +150,18 @@ fn push_page<V: Versioned + Drop>(
     key: Key,
     value: V,
 ) -> Result<(), AllocError>
-    requires order { IsInOrder pages.old }
-    requires sorted { T (is_sorted (slice_cmp nat_cmp) (entries pages.old ++ (key, value) ∷ [])) }
-    ensures order { IsInOrder pages.new }
-    ensures entries { entries pages.new ≡ pushed (is_ok result) (entries pages.old) (key, value) }
-    ensures loose { AreLoose pages.old → AreLoose pages.new }
-    ensures full { AreAllFull pages.old → AreFull pages.old → AreFull pages.new }
-    ensures tight { StaysTight FILL_PLACES pages.old pages.new }
+    requires order { IsInOrder pages.old.pages }
+    requires sorted { T (is_sorted (slice_cmp nat_cmp) (entries pages.old.pages ++ (key, value) ∷ [])) }
+    requires new { IsNewFrom V.hides V.last pages.old.last value }
+    ensures pushed { IsPushed (is_ok result) (key, value) pages.old.pages pages.new.pages }
+    ensures loose { AreLoose pages.old.pages → AreLoose pages.new.pages }
+    ensures full { AreAllFull pages.old.pages → AreFull pages.old.pages → AreFull pages.new.pages }
+    ensures held { IsLastRaised (V.last value) pages.old pages.new }
 {
+    let last = value.last();
     let mut page = Page::with_room(pages.allocator(), FILL_PLACES)?;
     page.push(key, value)?;
-    pages.push(page)?;
-    Ok(())
+    pages.push(page, last)
 }
 
 // Adds an entry above all others.
@@ -170,13 +170,13 @@ pub(crate) fn push<V: Versioned + Drop>(
     key: Key,
     value: V,
 ) -> Result<(), AllocError>
-    requires order { IsInOrder pages.old }
-    requires sorted { T (is_sorted (slice_cmp nat_cmp) (entries pages.old ++ (key, value) ∷ [])) }
-    ensures order { IsInOrder pages.new }
-    ensures entries { entries pages.new ≡ pushed (is_ok result) (entries pages.old) (key, value) }
-    ensures loose { AreLoose pages.old → AreLoose pages.new }
-    ensures full { AreFull pages.old → AreFull pages.new }
-    ensures tight { StaysTight FILL_PLACES pages.old pages.new }
+    requires order { IsInOrder pages.old.pages }
+    requires sorted { T (is_sorted (slice_cmp nat_cmp) (entries pages.old.pages ++ (key, value) ∷ [])) }
+    requires new { IsNewFrom V.hides V.last pages.old.last value }
+    ensures pushed { IsPushed (is_ok result) (key, value) pages.old.pages pages.new.pages }
+    ensures loose { AreLoose pages.old.pages → AreLoose pages.new.pages }
+    ensures full { AreFull pages.old.pages → AreFull pages.new.pages }
+    ensures held { IsLastRaised (V.last value) pages.old pages.new }
 {
     let count = pages.as_slice().len();
     if count == 0 {
@@ -185,5 +185,5 @@ pub(crate) fn push<V: Versioned + Drop>(
     if FILL <= pages.as_slice()[count - 1].len() {
         return push_page(pages, key, value);
     }
-    pages.page_mut(count - 1).push(key, value)
+    pages.push_to(count - 1, key, value)
 }

@@ -1,5 +1,5 @@
-//! The flags of a page: for each entry one byte that says whether its value may show.
-ghost use Rattle.std.specs.Prelude.{◌≡◌, ℕ, ◌<◌, ◌≤◌, true, false, IfOk, slice_index_or};
+//! The flags of a page: for each entry one byte that says whether its value shows.
+ghost use Rattle.std.specs.Prelude.{◌≡◌, ℕ, ◌<◌, ◌≤◌, true, false, IfOk, count_by, slice_index_or};
 ghost use Rattle.std.specs.Vec.{vec_capacity};
 
 use std::alloc::{AllocError, Global};
@@ -14,6 +14,13 @@ pub(crate) fn next_flagged(flags: &[bool], from: usize) -> usize
         at += 1;
     }
     at
+}
+
+// How many of the flags are true.
+pub(crate) fn count_flagged(flags: &[bool]) -> usize
+    ensures { result ≡ count_by (λ f. f) flags.now }
+{
+    flags.iter().filter(|flag| **flag).count()
 }
 
 // A copy of these flags, with so many places.

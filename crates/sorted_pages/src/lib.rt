@@ -4,10 +4,9 @@
 
 mod changing;
 mod flagging;
-mod gap;
 mod heads;
+mod held;
 mod insertion_point;
-mod older;
 mod page;
 mod page_list;
 mod pages;
@@ -16,9 +15,12 @@ mod range;
 mod ranging;
 mod summary;
 mod trimming;
+mod value_place;
 mod versioned;
 
+pub use held::HELD_MAX;
 pub use insertion_point::InsertionPoint;
 pub use pages::SortedPages;
 pub use range::Entries;
+pub use value_place::ValuePlace;
 pub use versioned::Versioned;

@@ -1,26 +1,26 @@
-//! One page: entries by rising key, room for more, and a summary by which a range may pass over it.
-ghost use Rattle.std.specs.Prelude.{◌≡◌, max, ◌+◌, ◌-◌, ◌*◌, ◌<◌, ◌≤◌, T, true, false, None, [], ◌∷◌, ◌++◌, length};
-ghost use Rattle.std.specs.Prelude.{take, drop, IfOk, IfErr, OnOk, OnErr, option_copied, is_ok, if◌then◌else◌};
+//! One page: entries by rising key, room for more, and which of their values show.
+ghost use Rattle.std.specs.Prelude.{◌≡◌, max, ◌+◌, ◌-◌, ◌*◌, ◌^◌, ◌<◌, ◌≤◌, ℕ, T, true, false, [], ◌∷◌, ◌++◌, length};
+ghost use Rattle.std.specs.Prelude.{not};
+ghost use Rattle.std.specs.Prelude.{take, drop, Some, IfOk, IfErr, IsOk, OnOk, OnErr, option_copied, is_ok};
+ghost use Rattle.std.specs.Prelude.{if◌then◌else◌};
 ghost use Rattle.std.specs.Ordering.{nat_cmp};
 ghost use Rattle.std.specs.Cmp.Lexicographic.{slice_cmp};
 ghost use Rattle.std.specs.FinMap.Entries.{find, put, is_sorted};
-ghost use Rattle.std.specs.Borrow.{sem};
 ghost use Rattle.std.specs.Vec.{vec_len, vec_capacity};
 ghost use Rattle.model.specs.Map.{key_cmp};
 ghost use Rattle.model.specs.Entries.{IsAt, IsGap, IsSplit};
 ghost use Rattle.sorted_pages.specs.Pages.{stands_behind, starts_by};
-ghost use Rattle.sorted_pages.specs.Blanks.{IsBlankTo, shown};
+ghost use Rattle.sorted_pages.specs.Ranges.{shown};
+ghost use Rattle.sorted_pages.specs.Values.{IsFresh};
+ghost use Rattle.sorted_pages.specs.Changes.{HasRoomAt};
 ghost use Rattle.sorted_pages.specs.Rooms.{HasRoomFor, IsEmptyFor};
 ghost use Rattle.sorted_pages.specs.Trims.{changed_at, passes};
 
-use crate::flagging::{copied_flags, next_flagged};
-use crate::gap::Gap;
+use crate::flagging::{copied_flags, count_flagged, next_flagged};
 use crate::heads::{SoughtKey, first_head, renewed_head};
-use crate::summary::Summary;
 use crate::versioned::Versioned;
 use model::{Key, KeyRef};
 use std::alloc::{AllocError, Global};
-use std::boxed::Box;
 use std::cmp::Ordering;
 use std::marker::Model;
 use std::mem;
@@ -82,46 +82,36 @@ fn deal<V: Drop>(
     }
 }
 
-// The summary of no entries, in memory of its own.
-fn new_summary(alloc: Global) -> Result<Box<Summary>, AllocError>
-    ensures showing { IfOk result (λ s. s.value.showing ≡ 0) }
-    ensures whole { IfOk result (λ s. s.value.left_out ≡ None) }
-{
-    match Box::new(alloc, Summary::new()) {
-        Ok(summary) => Ok(summary),
-        Err(_) => Err(AllocError),
-    }
-}
-
 // Entries by rising key. A clause sees them, and how many more fit without memory. Each place takes a byte beside the entry's own.
 #[derive(Drop)]
 pub(crate) struct Page<V: Versioned> {
     entries: Vec<(Key, V)>,
-    // for each entry whether its value may show
+    // for each entry whether its value shows
     flags: Vec<bool>,
+    // how many of them do
+    showing: usize,
+    // the number of the last change of its values
+    last: u64,
     // that of the first key
     head: u128,
-    // of so many of the first entries no number sees anything
-    blank: usize,
-    summary: Box<Summary>,
 }
 
 impl<V: Versioned> Model for Page<V> {
     ghost use Rattle.std.specs.Prelude.{ℕ, List, ◌-◌};
     ghost use Rattle.std.specs.Vec.{vec_len, vec_capacity};
-    ghost use Rattle.sorted_pages.specs.Blanks.{IsBlankTo};
+    ghost use Rattle.std.specs.Prelude.{count_by, ◌≡◌};
     ghost use Rattle.sorted_pages.specs.Flags.{HaveFlags};
     ghost use Rattle.sorted_pages.specs.Heads.{IsFirstHead};
-    ghost use Rattle.sorted_pages.specs.Summaries.{IsSummaryBut};
+    ghost use Rattle.sorted_pages.specs.Summaries.{AreOver};
 
     ghost Value = { List (List ℕ × V) × ℕ };
 
     ghost view = { λ p. (p.entries.items, vec_capacity p.entries - vec_len p.entries) };
 
-    ghost invariant = { λ p. IsBlankTo V.hides p.entries.items p.blank
-        × IsSummaryBut V.hides V.shows p.entries.items p.summary.value
-        × IsFirstHead p.entries.items p.head
-        × HaveFlags V.shows p.entries p.summary.value.left_out p.flags };
+    ghost invariant = { λ p. IsFirstHead p.entries.items p.head
+        × HaveFlags V.shows p.entries p.flags
+        × (count_by (λ e. V.shows e.1) p.entries.items ≡ p.showing)
+        × AreOver V.hides V.shows V.last p.last p.entries.items };
 }
 
 // Which of the entry's key and another stands first.
@@ -134,8 +124,8 @@ fn compare<V>(entry: &(Key, V), key: KeyRef<'_>) -> Ordering
 impl<V: Versioned> Page<V> {
     ghost use Rattle.model.specs.KeyBytes.{end_bytes};
     ghost use Rattle.sorted_pages.specs.Ranges.{IsFirstShown, IsLeastFrom};
-    ghost use Rattle.sorted_pages.specs.Lent.{lends_in_page};
-    ghost use Rattle.sorted_pages.specs.Summaries.{AreHiddenIn};
+    ghost use Rattle.sorted_pages.specs.Changes.{ChangesEntry};
+    ghost use Rattle.sorted_pages.specs.Summaries.{AreOver, KeepsSummaries, RaisesSummaries, is_any_shown};
 
     // An empty page with room for so many entries, in whole steps.
     pub(crate) fn with_room_in_steps(alloc: Global, room: usize) -> Result<Page<V>, AllocError>
@@ -150,14 +140,13 @@ impl<V: Versioned> Page<V> {
     pub(crate) fn with_room(alloc: Global, room: usize) -> Result<Page<V>, AllocError>
         ensures { IfOk result (λ p. p ≡ ([], room)) }
     {
-        let summary = new_summary(alloc)?;
         let flags = Vec::with_capacity(alloc, room)?;
         Ok(Page {
             entries: Vec::with_capacity(alloc, room)?,
             flags,
+            showing: 0,
+            last: 0,
             head: 0,
-            blank: 0,
-            summary,
         })
     }
 
@@ -234,36 +223,21 @@ impl<V: Versioned> Page<V> {
         &self.entries
     }
 
-    // At which place a range begins that has all of the page's keys: behind the last, where the page knows that the number sees nothing of
-    // its entries, and else behind those at the front of which no number sees anything.
-    pub(crate) fn start_for(&self, number: u64) -> usize
-        ensures { shown (V.hides number) (drop result self.now.0) ≡ shown (V.hides number) self.now.0 }
+    // Does one of its values show?
+    pub(crate) fn shows(&self) -> bool
+        ensures { result ≡ is_any_shown V.shows self.now.0 }
     {
-        if self.summary.as_ref().hides(&self.entries, number) {
-            return self.entries.len();
-        }
-        self.blank
+        self.showing > 0
     }
 
-    // Numbers that see nothing of its entries: those of its last gap, and none where a value was lent for writing.
-    pub(crate) fn gap(&self) -> Gap
-        ensures { AreHiddenIn V.hides self.now.0 result }
-    {
-        let summary = self.summary.as_ref();
-        if summary.left_out.is_some() {
-            return Gap::none();
-        }
-        summary.gap
-    }
-
-    // The next place from this one on whose value has to be asked: one whose flag is true, where the number isn't below that of the page's
+    // The next place from this one on whose value has to be asked: one whose value shows, where the number isn't below that of the page's
     // last change.
     fn next_asked(&self, from: usize, number: u64) -> usize
         ensures from { from ≤ result }
         ensures shown { shown (V.hides number) (drop result self.now.0)
             ≡ shown (V.hides number) (drop from self.now.0) }
     {
-        if number < self.summary.as_ref().last {
+        if number < self.last {
             return from;
         }
         next_flagged(&self.flags, from)
@@ -304,28 +278,46 @@ impl<V: Versioned> Page<V> {
         }
     }
 
-    // Lends the key's value for writing, which stands at `i`.
-    pub(crate) fn value_at(&mut self, key: KeyRef<'_>, i: usize) -> &mut V
-        requires { IsAt self.old.0 key.bytes.now i }
-        ensures* writes_back { sem 𝓛 (lends_in_page V.row V.Versioned self.entry key.entry.bytes.now result) }
-        ensures value { find (slice_cmp nat_cmp) key.entry.bytes.now self.old.0 ≡ Some result.now }
+    // Lends the key's value, which stands at `i`.
+    pub(crate) fn value(&self, key: KeyRef<'_>, i: usize) -> &V
+        requires sorted { T (is_sorted (slice_cmp nat_cmp) self.now.0) }
+        requires place { IsAt self.now.0 key.bytes.now i }
+        ensures { find (slice_cmp nat_cmp) key.entry.bytes.now self.now.0 ≡ Some result.now }
     {
-        self.look_again();
-        self.blank = self.blank.min(i);
-        *self.summary.as_mut() = self.summary.as_ref().leave_out(&self.entries, i);
-        self.flags[i] = true;
-        let entry = &mut self.entries[i];
-        &mut entry.1
+        &self.entries[i].1
     }
 
-    // Looks at the value that was lent for writing last.
-    pub(crate) fn look_again(&mut self)
-        ensures { self.new ≡ self.old }
+    // Makes room for a version more in the key's value, which stands at `i`.
+    pub(crate) fn reserve_value(
+        &mut self,
+        key: KeyRef<'_>,
+        i: usize,
+        alloc: Global,
+    ) -> Result<(), AllocError>
+        requires sorted { T (is_sorted (slice_cmp nat_cmp) self.old.0) }
+        requires place { IsAt self.old.0 key.bytes.now i }
+        ensures changed { ChangesEntry key.entry.bytes.now V.is_roomier self.old self.new }
+        ensures made { OnOk result (HasRoomAt V.room key.entry.bytes.now self.new.0) }
+        ensures known { HasRoomAt V.room key.entry.bytes.now self.old.0 → IsOk result }
+        ensures summaries { KeepsSummaries V.hides V.shows V.last self.old.0 self.new.0 }
     {
-        if let Some(i) = self.summary.as_ref().left_out {
-            self.flags[i] = self.entries[i].1.shows();
-            *self.summary.as_mut() = self.summary.as_ref().with_left_out(&self.entries);
-        }
+        self.entries[i].1.reserve(alloc)
+    }
+
+    // Adds a version to the key's value, which stands at `i`, in the room that was made for it.
+    pub(crate) fn add(&mut self, key: KeyRef<'_>, i: usize, version: V::Version)
+        requires sorted { T (is_sorted (slice_cmp nat_cmp) self.old.0) }
+        requires place { IsAt self.old.0 key.bytes.now i }
+        requires room { HasRoomAt V.room key.bytes.now self.old.0 }
+        ensures changed { ChangesEntry key.entry.bytes.now (V.adds version) self.old self.new }
+        ensures summaries { RaisesSummaries V.hides V.shows V.last (V.change_number version) self.old.0 self.new.0 }
+    {
+        let value = &mut self.entries[i].1;
+        value.add(version);
+        self.last = self.last.max(value.last());
+        let shows = value.shows();
+        self.showing = recounted(self.showing, self.flags[i], shows);
+        self.flags[i] = shows;
     }
 
     // Makes room for `n` more entries. Where it is missing the places become whole steps.
@@ -348,12 +340,12 @@ impl<V: Versioned> Page<V> {
     pub(crate) fn insert(&mut self, i: usize, key: Key, value: V)
         requires gap { IsGap self.old.0 key i }
         requires room { 0 < self.old.1 }
+        requires fresh { IsFresh V.hides V.last value }
         ensures entries { self.new.0 ≡ put (slice_cmp nat_cmp) key value self.old.0 }
         ensures room { self.old.1 ≡ self.new.1 + 1 }
+        ensures summaries { RaisesSummaries V.hides V.shows V.last (V.last value) self.old.0 self.new.0 }
     {
-        self.look_again();
-        self.blank = self.blank.min(i);
-        let mut summary = self.summary.as_ref().with_left_out(&self.entries);
+        self.last = self.last.max(value.last());
         let shows = value.shows();
         match self.entries.insert(i, (key, value)) {
             Ok(()) => {}
@@ -363,29 +355,31 @@ impl<V: Versioned> Page<V> {
             Ok(()) => {}
             Err(_) => unreachable!(),
         }
+        self.showing = recounted(self.showing, false, shows);
         self.head = renewed_head(&self.entries, i, self.head);
-        summary.left_out = Some(i);
-        *self.summary.as_mut() = summary.with_left_out(&self.entries);
     }
 }
 
 impl<V: Versioned + Drop> Page<V> {
+    ghost use Rattle.sorted_pages.specs.Summaries.{RaisesSummaries};
+
     // Adds an entry at the end.
     pub(crate) fn push(&mut self, key: Key, value: V) -> Result<(), AllocError>
+        requires fresh { IsFresh V.hides V.last value }
         ensures entries { self.new.0 ≡ (if is_ok result then self.old.0 ++ (key, value) ∷ [] else self.old.0) }
         ensures places { length self.old.0 + self.old.1 ≤ length self.new.0 + self.new.1 }
         ensures tight { self.new.1 ≤ max self.old.1 STEP }
+        ensures summaries { OnOk result
+            (RaisesSummaries V.hides V.shows V.last (V.last value) self.old.0 self.new.0) }
     {
         self.reserve(1)?;
-        self.look_again();
+        self.last = self.last.max(value.last());
         let last = self.entries.len();
-        let mut summary = self.summary.as_ref().with_left_out(&self.entries);
         let shows = value.shows();
         self.entries.push_reserved((key, value));
         self.flags.push_reserved(shows);
+        self.showing = recounted(self.showing, false, shows);
         self.head = renewed_head(&self.entries, last, self.head);
-        summary.left_out = Some(last);
-        *self.summary.as_mut() = summary.with_left_out(&self.entries);
         Ok(())
     }
 
@@ -396,66 +390,58 @@ impl<V: Versioned + Drop> Page<V> {
         ensures upper { IfOk result (HasRoomFor n (drop at self.old.0)) }
         ensures failed { OnErr result (self.new ≡ self.old) }
     {
-        self.look_again();
         let alloc = *self.entries.allocator();
         let mut lower = vector_for(alloc, at, n)?;
         let mut upper = vector_for(alloc, self.entries.len() - at, n)?;
         let lower_flags = copied_flags(alloc, &self.flags[..at], lower.capacity())?;
         let flags = copied_flags(alloc, &self.flags[at..], upper.capacity())?;
-        let mut summary = new_summary(alloc)?;
-        let gaps = self.summary.as_ref().with_left_out(&self.entries).gaps();
         let entries = mem::replace(&mut self.entries, Vec::new(alloc));
         deal(entries, at, &mut lower, &mut upper);
-        self.blank = self.blank.min(at);
-        *self.summary.as_mut() = Summary::of(&lower, gaps);
         self.entries = lower;
+        self.showing = count_flagged(&lower_flags);
         self.flags = lower_flags;
-        *summary.as_mut() = Summary::of(&upper, gaps);
         let head = first_head(&upper);
         Ok(Page {
             entries: upper,
+            showing: count_flagged(&flags),
             flags,
+            last: self.last,
             head,
-            blank: 0,
-            summary,
         })
     }
 }
 
 impl<V: Versioned> Page<V> {
+    ghost use Rattle.sorted_pages.specs.Summaries.{KeepsSummariesOf};
+
     // Trims the key's value, where it has one. Does it keep something of this number then?
     pub(crate) fn trim_at(&mut self, key: KeyRef<'_>, numbers: &[u64], number: u64) -> bool
         requires { T (is_sorted (slice_cmp nat_cmp) self.old.0) }
         ensures entries { self.new.0 ≡ changed_at (V.trimmed numbers.now) key.entry.bytes.now self.old.0 }
         ensures room { self.new.1 ≡ self.old.1 }
         ensures left { result ≡ passes (V.has number) (find (slice_cmp nat_cmp) key.entry.bytes.now self.new.0) }
+        ensures summaries { KeepsSummariesOf numbers.now V.hides V.shows V.last self.old.0 self.new.0 }
     {
         match self.search(key) {
             Ok(i) => {
-                self.look_again();
-                *self.summary.as_mut() = self.summary.as_ref().leave_out(&self.entries, i);
-                let entry = &mut self.entries[i];
-                entry.1.trim(numbers);
-                let left = entry.1.has(number);
-                self.flags[i] = entry.1.shows();
-                self.blank = blank_from(&self.entries, self.blank.min(i));
-                let summary = self.summary.as_ref().with_left_out(&self.entries);
-                *self.summary.as_mut() = summary.active(&self.entries, numbers);
-                left
+                let value = &mut self.entries[i].1;
+                value.trim(numbers);
+                value.has(number)
             }
             Err(_) => false,
         }
     }
 }
 
-// How many of the first entries no number sees anything of, where `from` of them are known.
-fn blank_from<V: Versioned>(entries: &[(Key, V)], from: usize) -> usize
-    requires { IsBlankTo V.hides entries.now from }
-    ensures { IsBlankTo V.hides entries.now result }
+// How many values show where one of them did or didn't, and does or doesn't now.
+fn recounted(showing: usize, did: bool, does: bool) -> usize
+    requires some { did ≡ true → 0 < showing }
+    requires few { showing < 2 ^ 64 - 1 }
+    ensures { result + (if did then 1 else 0) ≡ showing + (if does then 1 else 0) }
 {
-    let mut count = from;
-    while count < entries.len() && entries[count].1.is_blank() {
-        count += 1;
+    match (did, does) {
+        (true, false) => showing - 1,
+        (false, true) => showing + 1,
+        _ => showing,
     }
-    count
 }

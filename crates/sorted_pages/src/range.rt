@@ -1,12 +1,12 @@
 //! The entries of a range of which a begin number sees something, borrowed one by one.
-ghost use Rattle.std.specs.Prelude.{◌≡◌, ◌≤◌, ◌+◌, List, drop, length, not};
 ghost use Rattle.std.specs.List.{position};
-ghost use Rattle.sorted_pages.specs.Blanks.{shown};
-ghost use Rattle.sorted_pages.specs.Gaps.{is_within};
-ghost use Rattle.sorted_pages.specs.Ranges.{entries_from, entries_outside};
+ghost use Rattle.std.specs.Prelude.{◌≡◌, ◌≤◌, drop, length, not};
+ghost use Rattle.sorted_pages.specs.Ranges.{looked_at, not_passed};
+ghost use Rattle.sorted_pages.specs.Summaries.{is_passed};
 
-use crate::gap::Gap;
+use crate::held::Reader;
 use crate::page::Page;
+use crate::summary::Summary;
 use crate::versioned::Versioned;
 use model::KeyRef;
 use std::alloc::AllocError;
@@ -16,50 +16,42 @@ pub struct Entries<'a, V: Versioned> {
     // the pages that are left, and a place of the first of them: the entries before it aren't
     pub(crate) pages: &'a [Page<V>],
     pub(crate) at: usize,
-    // gaps of the pages behind the first
-    pub(crate) gaps: &'a [Gap],
+    // the summaries of the pages
+    pub(crate) summaries: &'a [Summary],
     // the upper end, where there is one
     pub(crate) hi: Option<KeyRef<'a>>,
-    pub(crate) number: u64,
+    pub(crate) reader: Reader,
 }
 
-// The gaps from the one at `i` on.
-pub(crate) fn gaps_from(gaps: &[Gap], i: usize) -> &[Gap]
-    ensures { result.now ≡ drop i gaps.now }
+// The summaries behind the first.
+fn behind_first(summaries: &[Summary]) -> &[Summary]
+    ensures { result.now ≡ drop 1 summaries.now }
 {
-    match gaps.get(i..) {
+    match summaries.get(1..) {
         Some(rest) => rest,
         None => &[],
     }
 }
 
-// The place of the first gap that doesn't have the number.
-fn first_without(gaps: &[Gap], number: u64) -> Option<usize>
-    ensures { result ≡ position (λ g. not (is_within number g)) gaps.now }
+// The place of the first summary of a page that the reader doesn't pass over.
+fn first_looked_at(summaries: &[Summary], reader: Reader) -> Option<usize>
+    ensures { result ≡ position (λ s. not (is_passed reader s)) summaries.now }
 {
-    gaps.iter().position(|gap| !gap.has(number))
+    summaries
+        .iter()
+        .position(|summary| !summary.is_passed(reader))
 }
 
-// How many of the first pages have the number in their gaps.
-fn hidden_pages<V: Versioned>(pages: &[Page<V>], gaps: &[Gap], number: u64) -> usize
+// How many of the first pages the reader passes over.
+fn passed_pages<V: Versioned>(pages: &[Page<V>], summaries: &[Summary], reader: Reader) -> usize
     ensures within { result ≤ length pages.now }
-    ensures rest { entries_from number 0 (drop result pages.now) (drop (result + 1) gaps.now)
-        ≡ entries_outside number pages.now gaps.now }
+    ensures known { result ≤ length summaries.now }
+    ensures rest { looked_at reader (drop result pages.now) (drop result summaries.now)
+        ≡ not_passed reader pages.now summaries.now }
 {
-    first_without(gaps, number)
-        .unwrap_or(gaps.len())
+    first_looked_at(summaries, reader)
+        .unwrap_or(summaries.len())
         .min(pages.len())
-}
-
-// Where a range that has all keys of the pages begins in the first of them, where there is one.
-fn start<V: Versioned>(pages: &[Page<V>], number: u64) -> usize
-    ensures { (gs : List Gap) → shown (V.hides number) (entries_from number result pages.now gs)
-        ≡ shown (V.hides number) (entries_from number 0 pages.now gs) }
-{
-    match pages.first() {
-        None => 0,
-        Some(page) => page.start_for(number),
-    }
 }
 
 impl<'a, V: Versioned> Clone for Entries<'a, V> {
@@ -95,16 +87,22 @@ impl<'a, V: Versioned> Entries<'a, V> {
 impl<'a, V: Versioned> Iterator for Entries<'a, V> {
     type Item = (KeyRef<'a>, &'a V);
 
-    ghost use Rattle.std.specs.Iterator.{YieldsFirstBy, item_count};
-    ghost use Rattle.sorted_pages.specs.Ranges.{entries_left, lent_entry};
+    ghost use Rattle.std.specs.Prelude.{⊤};
+    ghost use Rattle.std.specs.Iterator.{MakesProgress, YieldsFirstBy, item_count};
+    ghost use Rattle.sorted_pages.specs.Ranges.{GoesOn, entries_left, lent_entry};
 
     ghost next_gives = { YieldsFirstBy lent_entry (entries_left V.hides) };
 
     ghost remaining = { item_count (entries_left V.hides) };
 
-    fn next(&mut self) -> Option<(KeyRef<'a>, &'a V)> {
+    fn next(&mut self) -> Option<(KeyRef<'a>, &'a V)>
+        ensures steps { YieldsFirstBy lent_entry (entries_left V.hides) self.old result self.new }
+        ensures goes { MakesProgress (λ _. ⊤) (item_count (entries_left V.hides)) self.old result self.new }
+        // It looks at no other pages than those that were left to look at.
+        ensures ahead { GoesOn self.old self.new }
+    {
         while let Some((page, rest)) = self.pages.split_first() {
-            self.at = page.next_seen(self.at, self.number);
+            self.at = page.next_seen(self.at, self.reader.number);
             if let Some(entry) = page.entries().get(self.at) {
                 let key = entry.0.lend();
                 if !self.is_in(key) {
@@ -113,10 +111,11 @@ impl<'a, V: Versioned> Iterator for Entries<'a, V> {
                 self.at += 1;
                 return Some((key, &entry.1));
             }
-            let hidden = hidden_pages(rest, self.gaps, self.number);
-            self.pages = &rest[hidden..];
-            self.gaps = gaps_from(self.gaps, hidden + 1);
-            self.at = start(self.pages, self.number);
+            let summaries = behind_first(self.summaries);
+            let passed = passed_pages(rest, summaries, self.reader);
+            self.pages = &rest[passed..];
+            self.summaries = &summaries[passed..];
+            self.at = 0;
         }
         None
     }

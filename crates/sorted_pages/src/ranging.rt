@@ -1,14 +1,16 @@
 //! Where a range begins and ends: the page and the entry from which it goes on, and the page and the key up to which it goes.
-ghost use Rattle.std.specs.Prelude.{◌≡◌, List};
+ghost use Rattle.std.specs.Prelude.{◌≡◌, ℕ, List};
 ghost use Rattle.model.specs.KeyBytes.{end_bytes};
-ghost use Rattle.sorted_pages.specs.PageGaps.{AreHiddenInEach};
+ghost use Rattle.sorted_pages.specs.Held.{IsReader};
 ghost use Rattle.sorted_pages.specs.Pages.{IsInOrder};
-ghost use Rattle.sorted_pages.specs.Ranges.{IsCutAlike, entries_left, shown_in};
+ghost use Rattle.sorted_pages.specs.Ranges.{IsCutAlike, KnowsPages, entries_left, pages_ahead, shown_in};
+ghost use Rattle.sorted_pages.specs.Summaries.{AreSeen, AreSummaries};
 
-use crate::gap::Gap;
+use crate::held::Reader;
 use crate::page::Page;
 use crate::placing::place;
-use crate::range::{Entries, gaps_from};
+use crate::range::Entries;
+use crate::summary::Summary;
 use crate::versioned::Versioned;
 use model::KeyRef;
 
@@ -22,32 +24,34 @@ pub(crate) struct RangeEnd<'a, V: Versioned> {
 // Lends the entries from one key on, up to another, of which the number sees something.
 pub(crate) fn within<'a, V: Versioned>(
     pages: &'a [Page<V>],
-    gaps: &'a [Gap],
+    summaries: &'a [Summary],
     lo: KeyRef<'_>,
     hi: Option<KeyRef<'a>>,
-    number: u64,
+    reader: Reader,
 ) -> Entries<'a, V>
     requires order { IsInOrder pages.now }
-    requires gaps { AreHiddenInEach V.hides pages.now gaps.now }
-    ensures { entries_left V.hides result
-        ≡ shown_in (V.hides number) pages.now lo.entry.bytes.now (end_bytes hi.entry) }
+    requires summaries { (held : List ℕ) × IsReader held reader
+        × AreSummaries V.hides V.shows V.last held pages.now summaries.now }
+    ensures entries { entries_left V.hides result
+        ≡ shown_in (V.hides reader.number) pages.now lo.entry.bytes.now (end_bytes hi.entry) }
+    ensures ahead { KnowsPages reader summaries.now → AreSeen (V.hides reader.number) (pages_ahead result) }
 {
     if pages.is_empty() {
         return Entries {
             pages,
-            gaps,
             at: 0,
+            summaries,
             hi,
-            number,
+            reader,
         };
     }
     let i = place(pages, lo);
     Entries {
         pages: &pages[i..],
-        gaps: gaps_from(gaps, i + 1),
         at: pages[i].split_place(lo),
+        summaries: &summaries[i..],
         hi,
-        number,
+        reader,
     }
 }
 
@@ -55,8 +59,8 @@ pub(crate) fn within<'a, V: Versioned>(
 pub(crate) fn up_to<'a, V: Versioned>(pages: &'a [Page<V>], hi: KeyRef<'_>) -> RangeEnd<'a, V>
     requires { IsInOrder pages.now }
     ensures order { IsInOrder result.pages.now }
-    ensures gaps { (gs : List Gap) → AreHiddenInEach V.hides pages.now gs
-        → AreHiddenInEach V.hides result.pages.now gs }
+    ensures summaries { (held : List ℕ) (ss : List Summary) → AreSummaries V.hides V.shows V.last held pages.now ss
+        → AreSummaries V.hides V.shows V.last held result.pages.now ss }
     ensures same { IsCutAlike pages.now hi.entry.bytes.now result.pages.now (end_bytes result.least) }
 {
     if pages.is_empty() {

@@ -1,39 +1,86 @@
-//! Pages of entries: how many values are looked at for a begin number to which none of them is visible.
+//! Pages of entries: what a range yields to numbers that are held and to others, and of how many values it asks.
 use crate::helpers::key;
 use model::{Key, KeyRef, RangeRef};
 use sorted_pages::{SortedPages, Versioned};
+use std::alloc::{AllocError, Global};
 use std::cell::Cell;
 use std::process::Abort;
 
-// A value that the numbers from `first` on and below `last` see, and those from `again` on where it shows again, of which `newest` is the
-// last at which it was set. It counts how often this is asked.
+// A value that shows or doesn't from a number on.
+#[derive(Drop)]
+struct Change {
+    number: u64,
+    shows: bool,
+}
+
+// A value that has changed twice at most since it was set: with the number `second` last, and before with `first`. It counts how often it
+// is asked what a number sees of it.
 #[derive(Drop)]
 struct Watched<'a> {
     asked: &'a Cell<u64>,
     first: u64,
-    last: u64,
+    second: u64,
+    was: bool,
+    did: bool,
     shows: bool,
-    again: u64,
-    newest: u64,
+}
+
+impl Watched<'_> {
+    ghost use Rattle.std.specs.Prelude.{◌≡◌, bool_eq};
+
+    // Is there room for a change more?
+    fn has_room(&self) -> bool
+        ensures { result ≡ bool_eq self.now.was self.now.did }
+    {
+        self.was == self.did
+    }
 }
 
 impl Versioned for Watched<'_> {
-    ghost use Rattle.std.specs.Prelude.{◌||◌, ◌&&◌, nat_le, nat_lt, false, not, if◌then◌else◌};
+    ghost use Rattle.std.specs.Prelude.{◌≡◌, ◌&&◌, ◌==◌, nat_le, false, not, if◌then◌else◌, bool_eq};
+
+    type Version = Change;
+
+    ghost change_number = { λ c. c.number };
+
+    ghost adds = { λ c old new. new ≡ record old {
+      first = old.second;
+      second = c.number;
+      was = old.did;
+      did = old.shows;
+      shows = c.shows;
+    } };
+
+    ghost room = { λ v. if bool_eq v.was v.did then 1 else 0 };
+
+    ghost is_roomier = { λ old new. new ≡ old };
 
     ghost trimmed = { λ _ value. value };
 
     ghost has = { λ _ _. false };
 
-    ghost hides = { λ number v. nat_lt number v.first
-        || (nat_le v.last number && (not v.shows || nat_lt number v.again)) };
+    ghost hides = { λ n v. not (if nat_le v.second n then v.shows else if nat_le v.first n then v.did else v.was) };
 
-    ghost is_blank = { λ value. nat_le value.last value.first && not value.shows };
+    ghost shows = { λ v. v.shows };
 
-    ghost shows = { λ value. value.shows };
+    ghost last = { λ v. v.second };
 
-    ghost first = { λ value. value.first };
+    // Where it has changed twice there is no room for a third change.
+    fn reserve(&mut self, _alloc: Global) -> Result<(), AllocError> {
+        if self.has_room() {
+            Ok(())
+        } else {
+            Err(AllocError)
+        }
+    }
 
-    ghost last = { λ value. if value.shows then value.newest else value.last };
+    fn add(&mut self, version: Change) {
+        self.first = self.second;
+        self.second = version.number;
+        self.was = self.did;
+        self.did = self.shows;
+        self.shows = version.shows;
+    }
 
     fn trim(&mut self, _numbers: &[u64]) {}
 
@@ -43,266 +90,236 @@ impl Versioned for Watched<'_> {
 
     fn hides(&self, number: u64) -> bool {
         self.asked.set(self.asked.get().saturating_add(1));
-        number < self.first || self.last <= number && (!self.shows || number < self.again)
-    }
-
-    fn is_blank(&self) -> bool {
-        self.last <= self.first && !self.shows
+        if self.second <= number {
+            return !self.shows;
+        }
+        if self.first <= number {
+            return !self.did;
+        }
+        !self.was
     }
 
     fn shows(&self) -> bool {
         self.shows
     }
 
-    fn first(&self) -> u64 {
-        self.first
-    }
-
     fn last(&self) -> u64 {
-        if self.shows { self.newest } else { self.last }
+        self.second
     }
 
-    fn hidden_from(&self, low: u64, high: u64) -> u64 {
-        if self.shows && self.first.max(self.again) < high {
-            return low.max(high);
-        }
-        if self.first < self.last.min(high) {
-            return low.max(self.last.min(high));
-        }
-        low
+    fn change_number(version: &Change) -> u64 {
+        version.number
     }
 }
 
-// A value that all numbers but 0 see.
-fn live(asked: &Cell<u64>) -> Watched<'_> {
-    Watched {
-        asked,
-        first: 1,
-        last: u64::MAX,
-        shows: false,
-        again: 0,
-        newest: 0,
-    }
-}
-
-// A value that the numbers from this one on see.
+// A value that numbers from this one on see.
 fn set_at(number: u64, asked: &Cell<u64>) -> Watched<'_> {
     Watched {
         asked,
         first: number,
-        last: number,
+        second: number,
+        was: false,
+        did: false,
         shows: true,
-        again: number,
-        newest: number,
     }
 }
 
-// Makes room for one entry more where the key would be inserted, if it has no value.
-fn make_room<R: Abort>(rt: &R, pages: &mut SortedPages<Watched<'_>>, at: KeyRef<'_>) {
-    if let Err(point) = pages.find_mut(at) {
-        pages.reserve(point, at, 1).expect(rt, "memory");
-    }
-}
-
-// Adds a value of the key of these bytes, where it has none.
+// Adds a value of the key of these bytes, which has none: numbers from that one on see it.
 fn add<'a, R: Abort + AllocGlobal>(
     rt: &R,
     pages: &mut SortedPages<Watched<'a>>,
     bytes: &[u8],
-    value: Watched<'a>,
+    number: u64,
+    asked: &'a Cell<u64>,
 ) {
     let at = KeyRef::new(bytes).expect(rt, "a key");
-    make_room(rt, pages, at);
+    if let Err(point) = pages.find(at) {
+        pages.reserve(point, at, 1).expect(rt, "memory");
+    }
     let key = Key::from_ref(rt.alloc(), at).expect(rt, "memory");
     let room = pages.room(at);
-    match pages.find_mut(at) {
-        Err(point) if room > 0 => pages.insert(point, key, value),
-        _ => {}
+    let last = pages.last();
+    match pages.find(at) {
+        Err(point) if room > 0 && last <= number => pages.insert(point, key, set_at(number, asked)),
+        _ => panic!(rt; "the key is there"),
     }
 }
 
-// Pages of 2,000 values, of which the first `count` are seen below `last` and the others by all numbers but 0.
-fn filled<'a, R: Abort + AllocGlobal>(
-    rt: &R,
-    count: u16,
-    last: u64,
-    asked: &'a Cell<u64>,
-) -> SortedPages<Watched<'a>> {
+// Pages of 2,000 values that all numbers see.
+fn filled<'a, R: Abort + AllocGlobal>(rt: &R, asked: &'a Cell<u64>) -> SortedPages<Watched<'a>> {
     let mut pages = SortedPages::new(rt.alloc());
     for i in 0..2_000u16 {
-        let mut value = live(asked);
-        if i < count {
-            value.last = last;
-        }
-        add(rt, &mut pages, i.to_be_bytes().as_slice(), value);
+        add(rt, &mut pages, i.to_be_bytes().as_slice(), 0, asked);
     }
     pages
 }
 
-// Changes a page that isn't the first, in one of three ways, or not at all.
-fn change<'a, R: Abort + AllocGlobal>(
+// Lets the value of the key of these bytes show or not from one number on.
+fn change_one<R: Abort>(
     rt: &R,
-    pages: &mut SortedPages<Watched<'a>>,
-    way: u64,
-    asked: &'a Cell<u64>,
+    pages: &mut SortedPages<Watched<'_>>,
+    bytes: &[u8],
+    number: u64,
+    shows: bool,
 ) {
-    match way {
-        0 => {}
-        1 => make_room(rt, pages, key(b"\x07\xd0")),
-        2 => add(rt, pages, b"\x07\xd0", live(asked)),
-        _ => assert!(rt; !pages.trim_at(key(b"\x07\xcf"), &[], 0)),
+    let at = KeyRef::new(bytes).expect(rt, "a key");
+    if let Ok(place) = pages.find(at) {
+        pages.reserve_value(place, at).expect(rt, "room");
+    }
+    let last = pages.last();
+    match pages.find(at) {
+        Ok(place) if last <= number && pages.value(place, at).has_room() => {
+            pages.add(place, at, Change { number, shows });
+        }
+        _ => panic!(rt; "a key is missing"),
     }
 }
 
-// Lends the value of the key of these bytes for writing. Has it one?
-fn lend(pages: &mut SortedPages<Watched<'_>>, bytes: &[u8]) -> bool {
-    match KeyRef::new(bytes) {
-        Some(at) => pages.find_mut(at).is_ok(),
-        None => false,
+// The same of each of the 2,000.
+fn change_all<R: Abort>(rt: &R, pages: &mut SortedPages<Watched<'_>>, number: u64, shows: bool) {
+    for i in 0..2_000u16 {
+        change_one(rt, pages, i.to_be_bytes().as_slice(), number, shows);
     }
 }
 
-// How many values are looked at until the number has come to the first that it sees, or to the end of the range.
+// How many values are asked until the number has come to the first that it sees, or to the end of the range. Does it see one?
 fn looks_up_to(
     pages: &SortedPages<Watched<'_>>,
     hi: Option<KeyRef<'_>>,
     number: u64,
     asked: &Cell<u64>,
-) -> u64 {
+) -> (u64, bool) {
     asked.set(0);
     let lo = key(b"\0");
-    let _ = pages.range(RangeRef { lo, hi }, number).next();
-    asked.get()
+    let seen = pages.range(RangeRef { lo, hi }, number).next().is_some();
+    (asked.get(), seen)
 }
 
 // The same of a range over all keys.
-fn looks(pages: &SortedPages<Watched<'_>>, number: u64, asked: &Cell<u64>) -> u64 {
+fn looks(pages: &SortedPages<Watched<'_>>, number: u64, asked: &Cell<u64>) -> (u64, bool) {
     looks_up_to(pages, None, number, asked)
 }
 
-/// Of a page that is passed over no value is looked at, also where one was lent for writing, once another page's was.
-#[test]
-fn pages_passed_over(rt: HostRuntime) {
-    let asked = Cell::new(0);
-    let mut pages = filled(&rt, 0, 0, &asked);
-    assert!(rt; pages.pages() > 3 && lend(&mut pages, &[0, 0]));
-    let before = looks(&pages, 0, &asked);
-    assert!(rt; before < 1_000);
-    for way in 0..4 {
-        assert!(rt; lend(&mut pages, &[4, 0]));
-        change(&rt, &mut pages, way, &asked);
-        assert!(rt; looks(&pages, 0, &asked) == before + 1);
-        assert!(rt; lend(&mut pages, &[0, 0]) && looks(&pages, 0, &asked) == before);
-    }
-}
-
-/// Nor is one looked at of a page of which nothing is seen any more, though older numbers see all of it.
-#[test]
-fn deleted_pages_are_passed_over(rt: HostRuntime) {
-    let asked = Cell::new(0);
-    let pages = filled(&rt, 2_000, 5, &asked);
-    assert!(rt; looks(&pages, 4, &asked) == 1);
-    assert!(rt; looks(&pages, 5, &asked) < 1_000);
-}
-
-/// Nor is one looked at of a page behind that of the range's end, also where the number sees nothing before it.
-#[test]
-fn a_range_ends_at_the_page_of_its_end(rt: HostRuntime) {
-    let asked = Cell::new(0);
-    let mut pages = filled(&rt, 2_000, 5, &asked);
-    let before = looks(&pages, 5, &asked);
-    assert!(rt;
-        lend(&mut pages, b"\x04\0") && looks(&pages, 5, &asked) == before.saturating_add(1)
-    );
-    assert!(rt; looks_up_to(&pages, Some(key(b"\0\x01")), 5, &asked) == before);
-    assert!(rt; looks_up_to(&pages, Some(key(b"\x05\0")), 5, &asked) == before.saturating_add(1));
-}
-
-// Lets the value of the key of these bytes show again from one number on, set last with another.
-fn set_one_again<R: Abort>(
-    rt: &R,
-    pages: &mut SortedPages<Watched<'_>>,
-    bytes: &[u8],
-    again: u64,
-    newest: u64,
-) {
-    let at = KeyRef::new(bytes).expect(rt, "a key");
-    match pages.find_mut(at) {
-        Ok(value) => {
-            value.shows = true;
-            value.again = again;
-            value.newest = newest;
-        }
-        Err(_) => panic!(rt; "a key is missing"),
-    }
-}
-
-// The same of each of the values.
-fn set_again<R: Abort>(rt: &R, pages: &mut SortedPages<Watched<'_>>, again: u64, newest: u64) {
-    for i in 0..2_000u16 {
-        set_one_again(rt, pages, i.to_be_bytes().as_slice(), again, newest);
-    }
-}
-
-/// Nor of a page of which all was deleted and set again, for a number between, though older numbers see all of it, and newer ones too.
+/// What was deleted and set again shows to the numbers before and after, and not to those between. Of those that are held no page behind
+/// the first is looked at where they see nothing; of others each is.
 #[test]
 fn refilled_pages_are_passed_over(rt: HostRuntime) {
     let asked = Cell::new(0);
-    let mut pages = filled(&rt, 2_000, 5, &asked);
-    set_again(&rt, &mut pages, 9, 9);
-    assert!(rt; looks(&pages, 4, &asked) == 1);
-    assert!(rt; looks(&pages, 5, &asked) < 1_000);
-    assert!(rt; looks(&pages, 8, &asked) < 1_000);
-    assert!(rt; looks(&pages, 9, &asked) == 1);
+    let mut pages = filled(&rt, &asked);
+    pages.hold(&[4]);
+    change_all(&rt, &mut pages, 5, false);
+    assert!(rt; looks(&pages, 4, &asked) == (1, true));
+    assert!(rt; looks(&pages, 5, &asked) == (0, false));
+    pages.hold(&[4, 6]);
+    change_all(&rt, &mut pages, 9, true);
+    assert!(rt; looks(&pages, 4, &asked) == (1, true));
+    assert!(rt; looks(&pages, 9, &asked) == (1, true));
+    let (held, sees) = looks(&pages, 6, &asked);
+    assert!(rt; !sees && held < 300);
+    assert!(rt; looks(&pages, 7, &asked) == (2_000, false));
+    pages.hold(&[4]);
+    assert!(rt; looks(&pages, 6, &asked) == (2_000, false));
+    pages.hold(&[4, 6]);
+    assert!(rt;
+        looks(&pages, 6, &asked) == (2_000, false) && looks(&pages, 4, &asked) == (1, true)
+    );
 }
 
-/// Nor where the values of such a page have newer ones, and it was split for new keys.
+/// Nor where such pages are split for new keys, of which the number sees nothing either.
 #[test]
 fn split_pages_are_passed_over(rt: HostRuntime) {
     let asked = Cell::new(0);
-    let mut pages = filled(&rt, 2_000, 5, &asked);
-    set_again(&rt, &mut pages, 9, 9);
-    set_again(&rt, &mut pages, 9, 12);
+    let mut pages = filled(&rt, &asked);
+    change_all(&rt, &mut pages, 5, false);
+    pages.hold(&[6]);
+    change_all(&rt, &mut pages, 9, true);
     let before = pages.pages();
     for i in 0..2_000u16 {
         let [high, low] = i.to_be_bytes();
-        add(&rt, &mut pages, &[high, low, 0], set_at(20, &asked));
+        add(&rt, &mut pages, &[high, low, 0], 20, &asked);
     }
     assert!(rt; pages.pages() > before);
-    assert!(rt; looks(&pages, 5, &asked) < 1_000);
-    assert!(rt; looks(&pages, 8, &asked) < 1_000);
+    let (held, sees) = looks(&pages, 6, &asked);
+    assert!(rt; !sees && held < 300);
+    assert!(rt; looks(&pages, 20, &asked) == (1, true));
 }
 
-/// Of a page of which one value shows the others aren't looked at by a number from the page's last change on, but for one that was lent for
-/// writing, until another page's is. Numbers before that change look at each.
+/// Of 64 numbers that are held each passes over the pages of which it sees nothing, and no other.
+#[test]
+fn each_held_number_passes_over_its_pages(rt: HostRuntime) {
+    let asked = Cell::new(0);
+    let mut pages = filled(&rt, &asked);
+    let mut numbers = [0; 64];
+    for i in 0..64u8 {
+        let number = u64::from(i) + 10;
+        numbers[usize::from(i)] = number;
+        pages.hold(&numbers[..usize::from(i) + 1]);
+        change_one(&rt, &mut pages, &[i >> 4, i << 4], number + 1, false);
+    }
+    for i in 0..64u8 {
+        let at = [i >> 4, i << 4];
+        let hi = [i >> 4, (i << 4) + 1];
+        let lo = KeyRef::new(&at).expect(&rt, "a key");
+        let range = RangeRef {
+            lo,
+            hi: KeyRef::new(&hi),
+        };
+        let number = u64::from(i) + 10;
+        assert!(rt; pages.range(range, number).next().is_some());
+        assert!(rt; pages.range(range, number + 1).next().is_none());
+    }
+}
+
+/// No page is looked at behind that of the range's end, also where the number sees nothing before it.
+#[test]
+fn a_range_ends_at_the_page_of_its_end(rt: HostRuntime) {
+    let asked = Cell::new(0);
+    let mut pages = filled(&rt, &asked);
+    change_all(&rt, &mut pages, 5, false);
+    assert!(rt; pages.pages() > 3);
+    change_one(&rt, &mut pages, b"\x04\0", 6, true);
+    assert!(rt; looks(&pages, 6, &asked) == (1, true));
+    assert!(rt; looks_up_to(&pages, Some(key(b"\0\x01")), 6, &asked) == (0, false));
+    assert!(rt; looks_up_to(&pages, Some(key(b"\x04\0")), 6, &asked) == (0, false));
+    assert!(rt; looks_up_to(&pages, Some(key(b"\x05\0")), 6, &asked) == (1, true));
+}
+
+/// Of a page of which one value shows the others aren't asked by a number from the page's last change on. Numbers before that change ask
+/// each.
 #[test]
 fn values_that_do_not_show_are_passed_over(rt: HostRuntime) {
     let asked = Cell::new(0);
-    let mut pages = filled(&rt, 2_000, 5, &asked);
-    set_one_again(&rt, &mut pages, &[0, 100], 9, 9);
-    assert!(rt; looks(&pages, 9, &asked) == 1);
-    assert!(rt; lend(&mut pages, &[0, 50]) && looks(&pages, 9, &asked) == 2);
-    assert!(rt; lend(&mut pages, &[4, 0]) && looks(&pages, 9, &asked) == 1);
-    assert!(rt; looks(&pages, 8, &asked) > 100);
-    assert!(rt; !pages.trim_at(key(b"\0\x20"), &[], 0) && looks(&pages, 9, &asked) == 1);
-    add(&rt, &mut pages, b"\0\x10\0", set_at(12, &asked));
-    assert!(rt; looks(&pages, 12, &asked) == 1 && looks(&pages, 11, &asked) > 100);
+    let mut pages = filled(&rt, &asked);
+    change_all(&rt, &mut pages, 5, false);
+    change_one(&rt, &mut pages, &[0, 100], 9, true);
+    assert!(rt; looks(&pages, 9, &asked) == (1, true));
+    assert!(rt; looks(&pages, 8, &asked).0 > 100);
+    pages.hold(&[]);
+    assert!(rt; !pages.trim_at(key(b"\0\x20"), &[], 0) && looks(&pages, 9, &asked) == (1, true));
+    add(&rt, &mut pages, b"\0\x10\0", 12, &asked);
+    assert!(rt; looks(&pages, 12, &asked) == (1, true) && looks(&pages, 11, &asked).0 > 100);
 }
 
-/// Values at the front of a page that no number sees are passed over once one of the page was trimmed.
+/// A value that has no room for a change more is refused it, and is as it was.
 #[test]
-fn blank_values_are_passed_over(rt: HostRuntime) {
+fn a_value_without_room_is_refused_it(rt: HostRuntime) {
     let asked = Cell::new(0);
-    let mut pages = filled(&rt, 1_000, 0, &asked);
-    let before = looks(&pages, 1, &asked);
-    assert!(rt; !pages.trim_at(key(b"\x03\xe7"), &[], 0));
-    assert!(rt; looks(&pages, 1, &asked).saturating_add(100) < before);
+    let mut pages = filled(&rt, &asked);
+    change_one(&rt, &mut pages, b"\0\0", 5, false);
+    let at = key(b"\0\0");
+    match pages.find(at) {
+        Ok(place) => {
+            assert!(rt; pages.reserve_value(place, at).is_err());
+            assert!(rt; !pages.value(place, at).hides(4) && pages.value(place, at).hides(5));
+        }
+        Err(_) => panic!(rt; "a key is missing"),
+    }
 }
 
 /// Pages have places in whole steps of 96, also where each entry has asked for one.
 #[test]
 fn places_are_whole_steps(rt: HostRuntime) {
     let asked = Cell::new(0);
-    let pages = filled(&rt, 0, 0, &asked);
+    let pages = filled(&rt, &asked);
     assert!(rt; pages.places() >= 2_000 && pages.places() % 96 == 0);
 }

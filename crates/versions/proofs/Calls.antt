@@ -9,7 +9,7 @@ use Rattle.std.specs.Cmp.Lexicographic.{slice_cmp}
 use Rattle.std.specs.FinMap.Entries.{put, is_sorted}
 use Rattle.std.specs.List.{AllByRecursion}
 use Rattle.std.specs.Ordering.{nat_cmp}
-use Rattle.std.specs.Prelude.{option_map}
+use Rattle.std.specs.Prelude.{nat_le, option_map}
 use Rattle.model.proofs.Elements.{all-append, all-each}
 use Rattle.model.proofs.Entries.{IsSorted}
 use Rattle.model.proofs.InOrder.{parts, sorted_left}
@@ -29,7 +29,7 @@ use Rattle.versions.specs.Groups.{GroupValue, Listed}
 use Rattle.versions.specs.Installing.{places_taken}
 use Rattle.versions.specs.Listings.{is_seen_from, AreSeenFrom, IsFollowed, is_in, is_listed, IsListed, unpinned}
 use Rattle.versions.specs.Listings.{followed}
-use Rattle.versions.specs.Meaning.{kept_in, writes_of}
+use Rattle.versions.specs.Meaning.{is_among, kept_in, writes_of}
 use Rattle.versions.specs.StandsFor.{StandsFor}
 use Rattle.versions.specs.Pins.{AreUnderPins, IsAddedTo}
 
@@ -117,6 +117,11 @@ first_place es ps w ws vs next h =
     let itself = counts_itself w.0 ps ws in
     place-more (count_together w.0 ps (w ∷ ws)) 1 (room_at w.0 ps) (room_at w.0 ps) (find_chain w.0 es) (λ le. omega (arith, le, itself)) own.0
 
+-- the first of the writes can be added to its chain
+pub first_ready : (n : ℕ) (es : Chains) (w : KeyWrite) (ws vs : List KeyWrite) → vs ≡ w ∷ ws → AllByRecursion (λ w. CanAddVersion n (find_chain w.0 es)) vs
+    → CanAddVersion n (find_chain w.0 es)
+first_ready n es w ws vs next h = (subst (AllByRecursion (λ (w : KeyWrite). CanAddVersion n (find_chain w.0 es))) next h).0
+
 pub installing-step : (n : ℕ) (from es fs : Chains) (ps qs : List (Page ChainValue)) (ls us : List Listed) (room room' : ℕ) (all ws vs : List KeyWrite)
     (w : KeyWrite) (own : ℕ) → vs ≡ w ∷ ws → Installing n from es ps ls room all vs
     → fs ≡ put (slice_cmp nat_cmp) w.0 (added (find_chain w.0 es) (stamped n w.1) own) es
@@ -186,5 +191,6 @@ stands-opened v m is_map is last none = record {
   maps = λ n t. ap (visible n) is ∙ visible-base n m;
   newest = λ k. ap (λ es. option_map (λ (c : ChainValue). c.newest.number) (find_chain k es)) is ∙ newest-base k m;
   within = omega (arith, last);
+  known = λ n t. or_right (is_among v.held n) (nat_le v.last n) (grind (arith, nat_tests, last));
   pinned = subst (AreUnderPins (λ _. true) v) (sym none) tt;
 }

@@ -1,27 +1,17 @@
 -- One chain: a version more, and what a reclaim leaves.
 use Rattle.std.proofs.Common.{[], ◌≡◌, ℕ, ◌<◌, ◌≤◌, Bool, true, false, ◌&&◌, List, ◌∷◌, ◌++◌, Option, Some, None}
-use Rattle.std.proofs.Common.{refl, ap, ◌∙◌, arith, inl, inr, sym}
+use Rattle.std.proofs.Common.{refl, ap, ◌∙◌, arith, inl, inr}
 use Rattle.std.proofs.lemmas.Bool.{cond_both, both_ways, or_cases, or_right}
 use Rattle.std.proofs.lemmas.Bool.Decides.{nat_tests}
 use Rattle.std.specs.List.{AllByRecursion, list_any}
-use Rattle.std.specs.Prelude.{IfSome, nat_le, nat_lt, if◌then◌else◌, ◌==◌, is_none, max, is_some}
+use Rattle.std.specs.Prelude.{IfSome, nat_le, nat_lt, if◌then◌else◌, ◌==◌, is_none, is_some, not}
 use Rattle.model.proofs.Elements.{all-append, all-each}
 use Rattle.model.specs.Map.{Bytes}
+use Rattle.sorted_pages.specs.Values.{IsChangedAt, IsTrimmed}
 use Rattle.versions.specs.Chains.{CanAddVersion, Stamped, ChainValue, last_at, version_at, value_of, seen, seen_in}
 use Rattle.versions.specs.Chains.{added, number_of_first, is_between, seen_by, reclaimed, IsRisingTo, IsRisingChain}
-use Rattle.versions.specs.Chains.{hides}
+use Rattle.versions.specs.Chains.{hides, longer_chain, shows}
 use Rattle.versions.specs.Meaning.{is_among, IsSeen, IsTightChain}
-
-none_is : (v : Option Bytes) → is_some v ≡ false → v ≡ None
-none_is None e = refl
-none_is (Some x) e = absurd (both_ways true e refl)
-
-none_hides : (v : Option Bytes) → is_some v ≡ false → is_none v ≡ true
-none_hides v e = ap is_none (none_is v e)
-
-none_some : (v : Option Bytes) → is_none v ≡ true → is_some v ≡ false
-none_some None e = refl
-none_some (Some x) e = absurd (both_ways false refl e)
 
 pub last_at-push : (n : ℕ) (d : Option Stamped) (vs : List Stamped) (v : Stamped)
     → last_at n d (vs ++ v ∷ []) ≡ (if nat_le v.number n then Some v else last_at n d vs)
@@ -41,61 +31,28 @@ pub met : (n : ℕ) (vs us : List Stamped) (v : Stamped) (number : ℕ) (o : Opt
 met n vs us v number o is same le e =
     grind (arith, nat_tests, ap (last_at n None) is, last_at-push n None us v)
 
--- ---- up to where a chain is hidden
-
--- A walk from the newest back has come to the versions `rest`: they are all that the numbers below `until` see, and those from there on and below
--- `high` see nothing.
-pub record IsWalked (c : ChainValue) (high until : ℕ) (rest : List Stamped) : Type 0 where
-  pub below : until ≤ high
-  pub left : (n : ℕ) → n < until → last_at n None rest ≡ version_at n c
-  pub over : (n : ℕ) → until ≤ n → n < high → hides n c ≡ true
-
--- a version is too new
-pub walked_past : (c : ChainValue) (high until : ℕ) (vs us : List Stamped) (v : Stamped) (number : ℕ) → vs ≡ us ++ v ∷ [] → number ≡ v.number → until ≤ number
-    → IsWalked c high until vs → IsWalked c high until us
-walked_past c high until vs us v number is same le w = record {
-  below = w.below;
-  left = λ n lt. passed_by n vs us v number _ is same (omega arith) (w.left n lt);
-  over = w.over;
-}
-
--- a version is a deletion
-pub walked_deletion : (c : ChainValue) (high until : ℕ) (vs us : List Stamped) (v : Stamped) (number : ℕ) → vs ≡ us ++ v ∷ [] → number ≡ v.number
-    → number < until → is_some v.value ≡ false → IsWalked c high until vs → IsWalked c high number us
-walked_deletion c high until vs us v number is same lt none w = record {
-  below = (let b = w.below in omega arith);
-  left = λ n low. passed_by n vs us v number _ is same low (w.left n (omega arith));
-  over = λ n low top. elim (nat_lt n until) as (λ b. nat_lt n until ≡ b → hides n c ≡ true) [
-    | true ↦ λ t. ap is_none (sym (met n vs us v number _ is same low (w.left n (grind (arith, nat_tests))))) ∙ none_hides v.value none
-    | false ↦ λ f. w.over n (grind (arith, nat_tests)) top
-  ] refl;
-}
-
--- the numbers below `until` that see a version see its value, so none from which on all below `high` see nothing is less
-pub ends : (c : ChainValue) (v : Stamped) (number low until high m : ℕ) → number < until → until ≤ high → is_some v.value ≡ true
-    → ((n : ℕ) → number ≤ n → n < until → v.value ≡ seen n c)
-    → low ≤ m → ((n : ℕ) → m ≤ n → n < high → hides n c ≡ true) → max low until ≤ m
-ends c v number low until high m lt le some sees from hidden = elim (nat_lt m until) as (λ b. nat_lt m until ≡ b → max low until ≤ m) [
-  | true ↦ λ t.
-      let below : m < until = grind (arith, nat_tests) in
-      let n = max m number in
-      let is = sees n (omega arith) (omega arith) in
-      absurd (both_ways (is_some (seen n c)) (none_some (seen n c) (hidden n (omega arith) (omega arith))) (sym (ap is_some is) ∙ some))
-  | false ↦ λ f. (let above : until ≤ m = grind (arith, nat_tests) in omega arith)
-] refl
-
--- a version that is too old for the later ones is what the numbers below `until` see
-pub walked_value : (c : ChainValue) (high until : ℕ) (vs us : List Stamped) (v : Stamped) (number low m : ℕ) → vs ≡ us ++ v ∷ [] → number ≡ v.number
-    → number < until → is_some v.value ≡ true → IsWalked c high until vs
-    → low ≤ m → ((n : ℕ) → m ≤ n → n < high → hides n c ≡ true) → max low until ≤ m
-walked_value c high until vs us v number low m is same lt some w from hidden =
-    ends c v number low until high m lt w.below some (λ n le top. met n vs us v number _ is same le (w.left n top)) from hidden
-
 -- ---- a version more
 
 pub seen-added : (m : ℕ) (o : Option ChainValue) (v : Stamped) (room : ℕ) → seen m (added o v room) ≡ (if nat_le v.number m then v.value else seen_in m o)
 seen-added m None v room = grind (arith, nat_tests)
 seen-added m (Some c) v room = grind (arith, nat_tests, last_at-push m None c.older c.newest)
+
+-- ---- which numbers see something of a chain
+
+none_some : (v : Option Bytes) → is_none v ≡ not (is_some v)
+none_some None = refl
+none_some (Some x) = refl
+
+-- the newest version is what its number and those above see
+pub hides-newest : (n : ℕ) (c : ChainValue) → c.newest.number ≤ n → hides n c ≡ not (shows c)
+hides-newest n c le = grind (arith, nat_tests, none_some c.newest.value)
+
+-- numbers below a new version's see what they saw
+pub changed-longer : (c : ChainValue) (v : Stamped) (room : ℕ) → IsChangedAt hides (λ c. c.newest.number) v.number c (longer_chain c v room)
+changed-longer c v room = record {
+  before = λ m lt. ap is_none (grind (arith, nat_tests, seen-added m (Some c) v room));
+  latest = refl;
+}
 
 rising-push : (vs : List Stamped) (v : Stamped) (n : ℕ) → IsRisingTo vs v.number → v.number < n → IsRisingTo (vs ++ v ∷ []) n
 rising-push [] v n h lt = (tt, lt, tt)
@@ -141,6 +98,15 @@ version_at-reclaimed bs c b t = pick-seen_by bs c.newest b t None c.older
 -- the newest is what its number and those above see
 pub version_at-newest : (bs : List ℕ) (c : ChainValue) (b : ℕ) → c.newest.number ≤ b → version_at b (reclaimed bs c) ≡ version_at b c
 version_at-newest bs c b le = grind (arith, nat_tests)
+
+-- the numbers that are taken in, and those from the newest version's on, see of what is left what they saw
+pub trimmed-reclaimed : (bs : List ℕ) (c : ChainValue) → IsTrimmed hides shows (λ c. c.newest.number) bs c (reclaimed bs c)
+trimmed-reclaimed bs c = record {
+  among = λ n t. ap (λ v. is_none (value_of v)) (version_at-reclaimed bs c n t);
+  after = λ n le. ap (λ v. is_none (value_of v)) (version_at-newest bs c n le);
+  newest = refl;
+  latest = refl;
+}
 
 -- no later version has a number of at most b
 pub stays : (b : ℕ) (v : Stamped) (vs : List Stamped) → AllByRecursion (λ u. b < u.number) vs → last_at b (Some v) vs ≡ Some v

@@ -2,7 +2,7 @@
 use Rattle.std.proofs.Common.{add-one, ◌≡◌, ℕ, zero, suc, ◌+◌, ◌-◌, ◌<◌, ◌≤◌, Bool, true, false, ◌&&◌, List, [], ◌∷◌}
 use Rattle.std.proofs.Common.{◌++◌, length, take, drop, get_or, set, Option, Some, None, refl, sym, ap, subst, ◌∙◌}
 use Rattle.std.proofs.Common.{arith, inl, inr}
-use Rattle.std.proofs.lemmas.Bool.{both_ways, and_right}
+use Rattle.std.proofs.lemmas.Bool.{both_ways, and_right, or_left}
 use Rattle.std.proofs.lemmas.Bool.Decides.{nat_tests}
 use Rattle.std.proofs.lemmas.Grind.{common_steps}
 use Rattle.std.proofs.lemmas.List.{get_or-take, length-take, drop-set, take-set, take-take, drop_all, take_all}
@@ -17,6 +17,7 @@ use Rattle.model.proofs.Elements.{all-each, all-get, all-map, all-more, all-remo
 use Rattle.model.proofs.Elements.{any-set}
 use Rattle.model.proofs.Lookups.{same_key, same_key_itself}
 use Rattle.model.specs.Map.{Bytes}
+use Rattle.sorted_pages.specs.Pages.{KeepsHeld, PagesValue, entries}
 use Rattle.versions.proofs.ChainLaws.{any-weaker, between-wider}
 use Rattle.versions.proofs.Listings.{needed-chain, reclaimed-needed, part-at, part-trans, all-collected-part}
 use Rattle.versions.proofs.Listings.{left-part, listed-part}
@@ -96,6 +97,18 @@ pub record Dropping (bs : List ℕ) (old now : Chains) (os vs : List Listed) (le
   pub left_out : AreKept os vs now
   pub seen : (n : ℕ) → AreSeenFrom n os → AreSeenFrom n vs
   pub each : (active : ℕ → Bool) (v : ChainsValue) (w : ℕ) → AllByRecursion (IsUnderPin active v w) os → AllByRecursion (IsUnderPin active v w) vs
+
+-- no version was looked at
+pub dropping-none : (bs : List ℕ) (es : Chains) (vs : List Listed) (left : ℕ) → left ≡ length vs → Dropping bs es es vs vs left
+dropping-none bs es vs left all = subst (Dropping bs es es vs vs) (sym all) (record {
+  in_range = omega arith;
+  part = λ k. inl refl;
+  kept = λ n h. h;
+  collected = all-none (IsCollected bs es) vs;
+  left_out = λ k n high t. or_left (is_in vs k n high) _ t;
+  seen = λ n h. h;
+  each = λ active v w h. h;
+})
 
 -- some number sees the version
 pub dropping-seen : (bs : List ℕ) (old now : Chains) (os vs : List Listed) (m left : ℕ) (v : Listed) (o : Option ℕ) → left ≡ m + 1 → v ≡ get_or vs m v
@@ -318,12 +331,12 @@ collecting-ended bs old now olds gs most s none k =
     grind (arith, s.part k)
 
 -- a step was made
-pub collecting-step : (bs : List ℕ) (old now : Chains) (olds gs : List GroupValue) (most : ℕ) → Settling bs old now olds gs 0 most
-    → ReclaimsStep bs old now olds gs
-collecting-step bs old now olds gs most s = record {
-  garbage = collecting-garbage bs old now olds gs most s;
-  chains = record { part = s.part; kept = s.kept };
-  all = collecting-ended bs old now olds gs most s;
+pub collecting-step : (bs : List ℕ) (old now : PagesValue ChainValue) (olds gs : List GroupValue) (most : ℕ) → KeepsHeld old now
+    → Settling bs (entries old.pages) (entries now.pages) olds gs 0 most → ReclaimsStep bs old now olds gs
+collecting-step bs old now olds gs most held s = record {
+  garbage = collecting-garbage bs (entries old.pages) (entries now.pages) olds gs most s;
+  pages = record { chains = record { part = s.part; kept = s.kept }; held = held };
+  all = collecting-ended bs (entries old.pages) (entries now.pages) olds gs most s;
 }
 
 -- and all groups were looked at

@@ -1,5 +1,6 @@
 -- The loop over a group's lists.
 use Rattle.std.proofs.Common.{◌≡◌, ℕ, Bool, true, false, List, [], ◌∷◌, ◌++◌, length, take, drop, get_or, set, ◌<◌}
+use Rattle.std.proofs.Common.{◌≤◌}
 use Rattle.std.proofs.Common.{refl, sym, ap, subst, ◌∙◌, arith}
 use Rattle.std.proofs.lemmas.Bool.{and_parts, both_ways, eqb-true}
 use Rattle.std.proofs.lemmas.Bool.Decides.{nat_tests}
@@ -8,14 +9,14 @@ use Rattle.std.proofs.lemmas.List.{append-nil, length-append, nil_from_length, t
 use Rattle.std.proofs.lemmas.List.Folds.{list_any-append}
 use Rattle.std.specs.List.{AllByRecursion, list_all}
 use Rattle.std.specs.Prelude.{◌==◌}
-use Rattle.std.specs.Vec.{vec_len}
+use Rattle.std.specs.Vec.{vec_capacity, vec_len}
 use Rattle.std.specs.declared.vec.Vec.{Vec}
 use Rattle.model.proofs.Elements.{all-append, all-back, all-front, all-pass}
 use Rattle.versions.proofs.Listings.{part-trans, all-collected-part, left-part}
 use Rattle.versions.specs.Chains.{Chains, ChainsValue, IsKept}
 use Rattle.versions.specs.Groups.{Listed}
 use Rattle.versions.specs.Listings.{is_seen_from, AreSeenFrom, is_of, IsCollected, IsPartReclaimed, AreKept}
-use Rattle.versions.specs.Listings.{versions_in}
+use Rattle.versions.specs.Listings.{spare_in, versions_in}
 use Rattle.versions.specs.Reclaiming.{DropsUnseen, ReclaimsChains}
 use Rattle.versions.specs.Pins.{IsUnderPin}
 
@@ -116,6 +117,11 @@ empty-both (x ∷ xs) ys e = cc
 pub in-first : {Z : Type 0} (xs : List (Vec Listed Z)) (x : Vec Listed Z) → versions_in xs ≡ [] → 0 < length xs → x ≡ get_or xs 0 x → x.items ≡ []
 in-first [] x none some is = absurd (omega arith)
 in-first (y ∷ xs) x none some is = ap (λ (v : Vec Listed _). v.items) is ∙ (empty-both y.items (versions_in xs) none).0
+
+-- its room is what can be listed
+pub spare-first : {Z : Type 0} (xs : List (Vec Listed Z)) (x : Vec Listed Z) → 0 < length xs → x ≡ get_or xs 0 x → spare_in xs ≤ vec_capacity x
+spare-first [] x some is = absurd (omega arith)
+spare-first (y ∷ xs) x some is = (let room = ap (λ (v : Vec Listed _). vec_capacity v) is in omega arith)
 
 -- another list in its place
 pub in-filled : {Z : Type 0} (xs : List (Vec Listed Z)) (x : Vec Listed Z) → versions_in xs ≡ [] → 0 < length xs → versions_in (set xs 0 x) ≡ x.items

@@ -19,7 +19,8 @@ use Rattle.model.proofs.InOrder.{both, less, parts}
 use Rattle.model.proofs.Lookups.{same_key, same_key_itself, same_key_comm, same_map}
 use Rattle.model.specs.Map.{Bytes, KeyMap, KeyWrite, IsMap, key_cmp, value_at, after_writes}
 use Rattle.sorted_pages.proofs.Together.{room-together, together_as, together_between}
-use Rattle.sorted_pages.specs.Pages.{AreApart, Page, is_together, room_at}
+use Rattle.sorted_pages.specs.Changes.{ChangesValue}
+use Rattle.sorted_pages.specs.Pages.{AreApart, Page, entries, is_together, room_at}
 use Rattle.sorted_pages.specs.Trims.{put_some, changed_at}
 use Rattle.versions.proofs.ChainLaws.{seen-added, rising-added, version_at-reclaimed, version_at-newest}
 use Rattle.versions.proofs.ChainLaws.{tight-reclaimed, rising-seen_by, reclaimed_twice}
@@ -115,6 +116,16 @@ roomier-put k c d (f ∷ es) h e r =
       r.room,
       λ (t : find_chain k es ≡ Some c). roomier-put k c d es p.1 t r,
     )
+
+-- the key's chain got more room
+pub roomier-changed : (k : Bytes) (ps qs : List (Page ChainValue)) → IsSorted (entries ps) → ChangesValue k IsRoomierChain ps qs
+    → AreRoomier (entries ps) (entries qs)
+roomier-changed k ps qs h d = subst (AreRoomier (entries ps)) (sym d.entries) (roomier-put k d.before d.after (entries ps) h d.found d.changed)
+
+-- where a key's value has changed, it has one, which needs no place
+pub place-changed : {R : ChainValue → ChainValue → Type 0} (k : Bytes) (n : ℕ) (ps qs : List (Page ChainValue)) → ChangesValue k R ps qs
+    → HasPlace n (room_at k qs) (find_chain k (entries qs))
+place-changed k n ps qs d = subst (HasPlace n (room_at k qs)) (sym (ap (find_chain k) d.entries ∙ find-put_itself k d.after (entries ps))) tt
 
 same_version : (n : ℕ) (c d : ChainValue) → IsRoomierChain c d → seen n d ≡ seen n c
 same_version n c d r = λ i. value_of (if nat_le (r.newest i).number n then Some (r.newest i) else Rattle.versions.specs.Chains.last_at n None (r.older i))

@@ -1,18 +1,14 @@
 -- What the numbers see when chains change.
-use Rattle.std.proofs.Common.{◌≡◌, ℕ, ◌<◌, ◌≤◌, min, Bool, true, T, cond, ◌&&◌, List, [], ◌∷◌, Option, Some, None}
-use Rattle.std.proofs.Common.{refl, ap, arith}
-use Rattle.std.proofs.lemmas.Bool.Decides.{nat_tests}
+use Rattle.std.proofs.Common.{◌≡◌, ℕ, Bool, T, cond, ◌&&◌, List, [], ◌∷◌, Some, refl, arith}
 use Rattle.std.specs.Cmp.Lexicographic.{slice_cmp, nat_list_cmp_total}
 use Rattle.std.specs.FinMap.Entries.{put, where_key, below_all, find-put, is_sorted-put}
 use Rattle.std.specs.Ordering.{nat_cmp}
-use Rattle.std.specs.Prelude.{fold, is_none, nat_le, if◌then◌else◌}
 use Rattle.model.proofs.Entries.{IsSorted, IsBelowAll}
 use Rattle.model.proofs.InOrder.{find_none, parts}
 use Rattle.model.proofs.Lookups.{same_key, same_map, value_after_write, IsMap-after_write}
 use Rattle.model.specs.Map.{Bytes, key_cmp, IsMap, is_same_key, value_at, after_write}
-use Rattle.sorted_pages.specs.Blanks.{shown}
-use Rattle.versions.specs.Chains.{Stamped, ChainValue, Chains, find_chain, first_shown, hides, last_at, least_value}
-use Rattle.versions.specs.Chains.{seen, seen_in, u64_max, value_of, visible}
+use Rattle.sorted_pages.specs.Ranges.{shown}
+use Rattle.versions.specs.Chains.{ChainValue, Chains, find_chain, hides, seen, seen_in, visible}
 
 below_visible : (n : ℕ) (k : Bytes) (es : Chains) → IsBelowAll k es → T (below_all (slice_cmp nat_cmp) k (visible n es))
 below_visible n k [] h = tt
@@ -66,27 +62,6 @@ visible-put_same n k c es h same =
 pub visible-where : (n : ℕ) (p : Bytes → Bool) (es : Chains) → visible n (where_key (slice_cmp nat_cmp) p es) ≡ where_key (slice_cmp nat_cmp) p (visible n es)
 visible-where n p [] = refl
 visible-where n p (e ∷ es) = grind (arith, visible-where n p es)
-
-least_le : (m : ℕ) (vs : List Stamped) → fold least_value m vs ≤ m
-least_le m [] = omega arith
-least_le m (v ∷ vs) = grind (arith, least_le (min m v.number) vs, least_le m vs)
-
--- a version that is a value is above a number below the least of these
-passed : (n m : ℕ) (d : Option Stamped) (v : Stamped) → value_of d ≡ None → n < least_value m v → value_of (if nat_le v.number n then Some v else d) ≡ None
-passed n m d v none lt = grind (arith, nat_tests)
-
--- below the least number of a value, n sees a deletion of them or none of them
-older_hidden : (n m : ℕ) (d : Option Stamped) (vs : List Stamped) → value_of d ≡ None → n < fold least_value m vs → value_of (last_at n d vs) ≡ None
-older_hidden n m d [] none lt = none
-older_hidden n m d (v ∷ vs) none lt =
-    let here = passed n m d v none (omega (arith, least_le (least_value m v) vs)) in
-    older_hidden n (least_value m v) (if nat_le v.number n then Some v else d) vs here lt
-
--- below its first value, a chain is hidden
-pub first_hides : (n : ℕ) (c : ChainValue) → n < first_shown c → hides n c ≡ true
-first_hides n c lt =
-    let m = least_value u64_max c.newest in
-    ap is_none (passed n u64_max (last_at n None c.older) c.newest (older_hidden n m None c.older refl lt) (omega (arith, least_le m c.older)))
 
 pub visible-shown : (n : ℕ) (es : Chains) → visible n (shown (hides n) es) ≡ visible n es
 visible-shown n [] = refl

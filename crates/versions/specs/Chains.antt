@@ -4,7 +4,7 @@ use Rattle.std.specs.FinMap.Entries.{find, is_sorted, put}
 use Rattle.std.specs.List.{AllByRecursion, list_any, prefix_len}
 use Rattle.std.specs.Ordering.{nat_cmp}
 use Rattle.std.specs.Prelude.{◌≡◌, ℕ, T, ◌+◌, ◌-◌, ◌<◌, ◌≤◌, Bool, List, [], ◌∷◌, ◌++◌, length, Option, Some, None}
-use Rattle.std.specs.Prelude.{option_map, nat_le, nat_lt, ◌&&◌, ◌==◌, ◌^◌, min, fold, is_none, is_some, if◌then◌else◌}
+use Rattle.std.specs.Prelude.{option_map, nat_le, nat_lt, ◌&&◌, ◌==◌, is_none, is_some, if◌then◌else◌}
 use Rattle.std.specs.Prelude.{⊤}
 use Rattle.model.specs.Map.{Bytes, KeyMap, KeyWrite, is_same_key}
 use Rattle.sorted_pages.specs.Pages.{Page, is_together, room_at}
@@ -25,11 +25,12 @@ pub record ChainValue : Type 0 where
 abbrev pub Chains : Type 0
 Chains = List (Bytes × ChainValue)
 
--- the chains by rising key, the pages that they stand in, the groups of their superseded versions, and the greatest
--- number that was installed, or 0
+-- the chains by rising key, the pages that they stand in, the numbers of which it is held what they see of each page,
+-- the groups of the superseded versions, and the greatest number that was installed, or 0
 pub record ChainsValue : Type 0 where
   pub chains : Chains
   pub pages : List (Page ChainValue)
+  pub held : List ℕ
   -- how many more superseded versions, and groups of them, are listed without memory
   pub listed_spare : ℕ
   pub groups_spare : ℕ
@@ -71,21 +72,6 @@ hides n c = is_none (seen n c)
 -- the newest version is a value
 abbrev pub shows : ChainValue → Bool
 shows c = is_some c.newest.value
-
--- the version's number, where it is a value and that is less than n, and else n
-abbrev pub least_value : ℕ → Stamped → ℕ
-least_value n v = if is_some v.value then min n v.number else n
-
-abbrev pub u64_max : ℕ
-u64_max = 2 ^ 64 - 1
-
--- the least number of a version that is a value, and the greatest of all where none is
-abbrev pub first_shown : ChainValue → ℕ
-first_shown c = fold least_value (least_value u64_max c.newest) c.older
-
--- the key is deleted, and nothing older is kept, so no number sees anything
-abbrev pub is_blank : ChainValue → Bool
-is_blank c = length c.older == 0 && is_none c.newest.value
 
 -- the pairs that n sees
 abbrev pub visible : ℕ → Chains → KeyMap

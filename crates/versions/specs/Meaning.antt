@@ -1,8 +1,9 @@
 -- What versions mean: a map for each number, the number of each key's newest version, and how many versions are kept.
 use Rattle.std.specs.List.{AllByRecursion, list_any}
-use Rattle.std.specs.Prelude.{◌≡◌, ℕ, ◌+◌, ◌-◌, ◌⊎◌, Bool, ◌||◌, ◌==◌, nat_le, IsTrue, List, [], ◌∷◌, length, Option}
+use Rattle.std.specs.Prelude.{◌≡◌, ℕ, ◌+◌, ◌-◌, ◌⊎◌, Bool, ◌||◌, nat_le, IsTrue, List, [], ◌∷◌, length, Option}
 use Rattle.std.specs.Prelude.{Some, None, option_map, if◌then◌else◌}
 use Rattle.model.specs.Map.{Bytes, KeyMap, KeyWrite, is_same_key, after_writes}
+pub use Rattle.sorted_pages.specs.Held.{is_among}
 use Rattle.versions.specs.Chains.{Stamped, ChainValue, Chains, ChainsValue, version_at, visible, find_chain}
 use Rattle.versions.specs.Chains.{reclaimed}
 use Rattle.versions.specs.Groups.{GroupValue}
@@ -23,9 +24,6 @@ kept_in (Some c) = length c.older + 1
 abbrev pub versions_kept : ChainsValue → Bytes → ℕ
 versions_kept v k = kept_in (find_chain k v.chains)
 
-abbrev pub is_among : List ℕ → ℕ → Bool
-is_among bs n = list_any (λ b. b == n) bs
-
 -- how many of the group's lists are garbage where these numbers are active
 abbrev pub garbage_for : List ℕ → GroupValue → ℕ
 garbage_for bs g = if is_among bs g.pin then g.garbage else g.seen + g.garbage
@@ -41,6 +39,10 @@ garbage_of bs v = garbage_in bs v.groups
 -- in how many groups the superseded versions stand
 abbrev pub groups_of : ChainsValue → ℕ
 groups_of v = length v.groups
+
+-- what number n sees of each page is known: it is held, or nothing has been installed since
+abbrev pub is_known : ℕ → ChainsValue → Bool
+is_known n v = is_among v.held n || nat_le v.last n
 
 -- nothing that can be asked for has changed
 pub record IsSameMeaning (old new : ChainsValue) : Type 0 where
@@ -71,6 +73,7 @@ pub record IsInstalled (old new : ChainsValue) (n : ℕ) (ws : List KeyWrite) : 
   pub newest : (k : Bytes) → newest_of new k ≡ (if is_written_by ws k then Some n else newest_of old k)
   pub kept : (k : Bytes) → versions_kept new k ≡ versions_kept old k + writes_of ws k
   pub last : new.last ≡ n
+  pub held : new.held ≡ old.held
 
 -- each version of a chain is its newest or is the one that some of the numbers sees
 abbrev pub IsSeen : List ℕ → ChainValue → Stamped → Type 0

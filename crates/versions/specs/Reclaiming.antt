@@ -1,7 +1,9 @@
 -- What a step of a reclaim does to chains, to the versions that are listed of them, and to the groups.
 use Rattle.std.specs.List.{AllByRecursion}
 use Rattle.std.specs.Prelude.{◌≡◌, ◌≤◌, ◌+◌, ◌-◌, ℕ, List, ◌∷◌, take, get_or, false}
-use Rattle.versions.specs.Chains.{Chains, IsKept}
+use Rattle.sorted_pages.specs.Pages.{KeepsHeld, PagesValue, entries}
+use Rattle.sorted_pages.specs.Summaries.{HoldsAmong}
+use Rattle.versions.specs.Chains.{ChainValue, Chains, IsKept}
 use Rattle.versions.specs.Groups.{GroupValue, Listed}
 use Rattle.versions.specs.Listings.{AreAmong, AreFound, AreIn, AreKept, AreUnclassifiedCollected, AreOfBoth}
 use Rattle.versions.specs.Listings.{AreSeenFrom, IsAllReclaimed, IsListed, IsPartReclaimed, IsCollected}
@@ -14,6 +16,17 @@ use Rattle.versions.specs.Pins.{MoveUnderPins, StayUnder}
 pub record ReclaimsChains (bs : List ℕ) (old new : Chains) : Type 0 where
   pub part : IsPartReclaimed bs old new
   pub kept : (last : ℕ) → IsKept old last → IsKept new last
+
+-- so it is of the chains in pages, and the same numbers are held
+pub record ReclaimsPages (bs : List ℕ) (old new : PagesValue ChainValue) : Type 0 where
+  pub chains : ReclaimsChains bs (entries old.pages) (entries new.pages)
+  pub held : KeepsHeld old new
+
+-- what always holds of chains holds, and of the numbers before the last change only these are held
+pub record IsReclaimable (bs : List ℕ) (v : PagesValue ChainValue) : Type 0 where
+  pub last : ℕ
+  pub kept : IsKept (entries v.pages) last
+  pub among : HoldsAmong bs v
 
 -- ---- listed versions
 
@@ -67,10 +80,10 @@ pub record TakesGroup (g other h : GroupValue) : Type 0 where
 -- ---- all groups
 
 -- So many lists are no longer garbage, each chain is as it was or was reclaimed, and where none is garbage, each was.
-pub record ReclaimsStep (bs : List ℕ) (old new : Chains) (gs hs : List GroupValue) : Type 0 where
+pub record ReclaimsStep (bs : List ℕ) (old new : PagesValue ChainValue) (gs hs : List GroupValue) : Type 0 where
   pub garbage : garbage_in bs hs ≡ garbage_in bs gs - lists_a_step
-  pub chains : ReclaimsChains bs old new
-  pub all : garbage_in bs hs ≡ 0 → IsAllReclaimed bs old new
+  pub pages : ReclaimsPages bs old new
+  pub all : garbage_in bs hs ≡ 0 → IsAllReclaimed bs (entries old.pages) (entries new.pages)
 
 -- The groups after a step: each older version of the chains is listed, in no more lists than before, and its pin is one
 -- of the numbers or 0; what is unclassified is truly unclassified and collected.

@@ -7,7 +7,7 @@ use Rattle.model.specs.History.{Record, map_at}
 use Rattle.model.specs.Map.{Bytes, KeyMap, KeyWrite, IsMap, value_at}
 use Rattle.versions.specs.Chains.{ChainsValue}
 use Rattle.versions.specs.Listings.{IsClassified}
-use Rattle.versions.specs.Meaning.{map_seen, newest_of, is_among}
+use Rattle.versions.specs.Meaning.{map_seen, newest_of, is_among, is_known}
 use Rattle.versions.specs.Pins.{AreUnderPins}
 
 -- the commit number of the last record that writes the key, and d where none does
@@ -27,6 +27,8 @@ pub record StandsFor (v : ChainsValue) (active : ℕ → Bool) (base : KeyMap) (
   pub newest : (k : Bytes) → newest_of v k ≡ last_writer base history k
   -- what was installed has the number of a record
   pub within : v.last ≤ length history
+  -- what each active number sees of each page is known
+  pub known : (n : ℕ) → IsTrue (active n) → IsTrue (is_known n v)
   -- no active number above a pin sees what is listed under it, so the greatest below can take its place
   pub pinned : AreUnderPins active v v.groups
 
@@ -35,10 +37,12 @@ abbrev pub StandForSame : ChainsValue → ChainsValue → Type 0
 StandForSame old new = (active : ℕ → Bool) (base : KeyMap) (history : List Record) → StandsFor old active base history
     ↔ StandsFor new active base history
 
--- what the old ones stand for, the new ones stand for with one record more, of commit n and these writes
+-- what the old ones stand for, the new ones stand for with one record more, of commit n and these writes, where each
+-- active number is held
 abbrev pub StandWithCommit : ChainsValue → ChainsValue → ℕ → List KeyWrite → Type 0
 StandWithCommit old new n ws =
     (active : ℕ → Bool) (base : KeyMap) (history : List Record) (r : Record) → StandsFor old active base history
+    → ((m : ℕ) → IsTrue (active m) → IsTrue (is_among old.held m))
     → length history + 1 ≡ n → r.commit ≡ n → r.writes ≡ ws
     → StandsFor new active base (history ++ r ∷ [])
 
@@ -54,3 +58,7 @@ ClassifiedWhereActive bs old new =
     (active : ℕ → Bool) (base : KeyMap) (history : List Record) → StandsFor old active base history
     → ((n : ℕ) → IsTrue (is_among bs n) → IsTrue (active n))
     → AllByRecursion IsClassified new.groups
+
+-- each of these numbers is held, where what it sees was known
+abbrev pub AreHeldWhereKnown : List ℕ → ChainsValue → ChainsValue → Type 0
+AreHeldWhereKnown bs old new = (n : ℕ) → IsTrue (is_among bs n) → IsTrue (is_known n old) → IsTrue (is_among new.held n)

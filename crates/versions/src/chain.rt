@@ -1,8 +1,7 @@
 //! The versions of one key. A single version, which most keys have, allocates nothing but its value.
 ghost use Rattle.std.specs.Prelude.{◌≡◌, ◌+◌, ◌<◌, ◌≤◌, [], length, IfSome, IsOk, OnOk, Some, option_copied};
 ghost use Rattle.model.specs.Key.{IsValue};
-ghost use Rattle.versions.specs.Chains.{seen, hides, shows, first_shown, longer_chain, fresh_chain, reclaimed};
-ghost use Rattle.versions.specs.Chains.{is_blank};
+ghost use Rattle.versions.specs.Chains.{IsRoomierChain, seen, hides, shows, longer_chain, fresh_chain, reclaimed};
 ghost use Rattle.versions.specs.Kept.{kept_chain};
 ghost use Rattle.versions.specs.Listings.{has_version};
 
@@ -94,31 +93,6 @@ impl Chain {
         }
     }
 
-    // Makes room for a version.
-    pub(crate) fn reserve(&mut self, alloc: Global) -> Result<(), AllocError>
-        ensures older { self.new.older ≡ self.old.older }
-        ensures newest { self.new.newest ≡ self.old.newest }
-        ensures room { self.old.room ≤ self.new.room }
-        ensures made { OnOk result (0 < self.new.room) }
-        ensures known { 0 < self.old.room → IsOk result }
-    {
-        let kept = mem::replace(&mut self.kept, Kept::Deletion(0));
-        let (kept, result) = with_room(alloc, kept);
-        self.kept = kept;
-        result
-    }
-
-    // Adds a version in the room that was made for it.
-    pub(crate) fn add(&mut self, version: Version)
-        requires { 0 < self.old.room }
-        ensures { self.new ≡ longer_chain self.old version self.new.room }
-    {
-        match &mut self.kept {
-            Kept::More(several) => several.as_mut().add(version),
-            _ => unreachable!(),
-        }
-    }
-
     // Drops the older versions that none of the numbers sees, and frees the room for more with the last of them.
     fn reclaim(&mut self, begins: &[u64])
         ensures { self.new ≡ reclaimed begins.now self.old }
@@ -148,19 +122,41 @@ impl Chain {
 }
 
 impl Versioned for Chain {
+    type Version = Version;
+
+    ghost change_number = { λ v. v.number };
+
+    ghost adds = { λ v c d. d ≡ longer_chain c v d.room };
+
+    ghost room = { λ c. c.room };
+
+    ghost is_roomier = { IsRoomierChain };
+
     ghost trimmed = { reclaimed };
 
     ghost has = { λ n c. has_version n (Some c) };
 
     ghost hides = { hides };
 
-    ghost is_blank = { is_blank };
-
     ghost shows = { shows };
 
-    ghost first = { first_shown };
-
     ghost last = { λ c. c.newest.number };
+
+    // Makes room for a version.
+    fn reserve(&mut self, alloc: Global) -> Result<(), AllocError> {
+        let kept = mem::replace(&mut self.kept, Kept::Deletion(0));
+        let (kept, result) = with_room(alloc, kept);
+        self.kept = kept;
+        result
+    }
+
+    // Adds a version in the room that was made for it.
+    fn add(&mut self, version: Version) {
+        match &mut self.kept {
+            Kept::More(several) => several.as_mut().add(version),
+            _ => unreachable!(),
+        }
+    }
 
     fn trim(&mut self, numbers: &[u64]) {
         self.reclaim(numbers);
@@ -179,15 +175,6 @@ impl Versioned for Chain {
         self.seen(number).is_none()
     }
 
-    // Is the key deleted, with nothing older?
-    fn is_blank(&self) -> bool {
-        match &self.kept {
-            Kept::Value(_, _) => false,
-            Kept::Deletion(_) => true,
-            Kept::More(several) => several.as_ref().is_alone() && !several.as_ref().shows(),
-        }
-    }
-
     // Is the newest version a value?
     fn shows(&self) -> bool {
         match &self.kept {
@@ -197,28 +184,14 @@ impl Versioned for Chain {
         }
     }
 
-    // The least number of a version that is a value.
-    fn first(&self) -> u64 {
-        match &self.kept {
-            Kept::Value(number, _) => u64::MAX.min(*number),
-            Kept::Deletion(_) => u64::MAX,
-            Kept::More(several) => several.as_ref().first(),
-        }
-    }
-
     // The number of the newest version.
     fn last(&self) -> u64 {
         self.number()
     }
 
-    // The end of the last value that a number below `high` sees, where that is above `low`.
-    fn hidden_from(&self, low: u64, high: u64) -> u64 {
-        match &self.kept {
-            Kept::Value(number, _) if *number < high => low.max(high),
-            Kept::Value(_, _) => low,
-            Kept::Deletion(_) => low,
-            Kept::More(several) => several.as_ref().hidden_from(low, high),
-        }
+    // The number of the commit that leaves the version.
+    fn change_number(version: &Version) -> u64 {
+        version.number
     }
 }
 

@@ -5,11 +5,13 @@ ghost use Rattle.std.specs.Cmp.Lexicographic.{slice_cmp};
 ghost use Rattle.std.specs.FinMap.Entries.{is_sorted};
 ghost use Rattle.std.specs.Vec.{vec_len, vec_capacity};
 ghost use Rattle.model.specs.Map.{Bytes};
-ghost use Rattle.sorted_pages.specs.Pages.{AreApart, IsInsertionPoint, entries, room_at};
-ghost use Rattle.versions.specs.Chains.{HasPlaceAt, ChainHasRoom, IsAddedAt, IsKept, CanAddVersion, AreRoomier};
+ghost use Rattle.sorted_pages.specs.Pages.{IsInsertionPoint, IsLastRaised, entries};
+ghost use Rattle.sorted_pages.specs.Rooms.{IsEmptyFor};
+ghost use Rattle.versions.specs.Chains.{HasPlaceAt, ChainHasRoom, IsAddedAt};
 ghost use Rattle.versions.specs.Chains.{WhereRoom, count_together, find_chain, stamped};
 ghost use Rattle.versions.specs.Listings.{followed};
-ghost use Rattle.versions.specs.Installing.{AddsWrites, HaveRoom, ListsFollowed, ListsMore, TakesRoom};
+ghost use Rattle.versions.specs.Installing.{AddsWrites, CanAddAt, HaveMoreRoom, HaveRoom, IsKeptBelow};
+ghost use Rattle.versions.specs.Installing.{ListsFollowed, ListsMore, TakesRoom};
 
 use crate::chain::Chain;
 use crate::listing::OldVersion;
@@ -17,7 +19,7 @@ use crate::several::Version;
 use crate::value::kept_value;
 use model::{Key, KeyRef, Write};
 use sorted_pages::{InsertionPoint, SortedPages};
-use std::alloc::{AllocError, Global};
+use std::alloc::AllocError;
 
 // Lists the version of the key that commit `n` supersedes.
 fn list(listed: &mut Vec<OldVersion>, key: Key, number: u64, n: u64)
@@ -37,8 +39,8 @@ fn list(listed: &mut Vec<OldVersion>, key: Key, number: u64, n: u64)
 
 // How many of the first of the writes come to the page where a new key would be inserted.
 fn count_beside(chains: &SortedPages<Chain>, at: InsertionPoint, writes: &[Write]) -> usize
-    ensures { (k : Bytes) → IsInsertionPoint chains.now k at.page at.entry
-        → result ≡ count_together k chains.now writes.now }
+    ensures { (k : Bytes) → IsInsertionPoint chains.now.pages k at.page at.entry
+        → result ≡ count_together k chains.now.pages writes.now }
 {
     for (i, write) in writes.iter().enumerate() {
         if !chains.is_placed_in(at, write.lend_key()) {
@@ -51,23 +53,20 @@ fn count_beside(chains: &SortedPages<Chain>, at: InsertionPoint, writes: &[Write
 // Makes room for a version in the key's chain, or where it would stand, for a new chain for each of the first of the writes that come to
 // the same page.
 pub(crate) fn make_room(
-    alloc: Global,
     chains: &mut SortedPages<Chain>,
     key: KeyRef<'_>,
     writes: &[Write],
 ) -> Result<(), AllocError>
-    requires { T (is_sorted (slice_cmp nat_cmp) (entries chains.old)) }
-    ensures chains { AreRoomier (entries chains.old) (entries chains.new) }
-    ensures rooms { (q : Bytes) → room_at q chains.old ≤ room_at q chains.new }
-    ensures apart { AreApart chains.old chains.new }
-    ensures room { OnOk result (ChainHasRoom (find_chain key.entry.bytes.now (entries chains.new))) }
-    ensures place { OnOk result (HasPlaceAt (count_together key.entry.bytes.now chains.new writes.now)
-        key.entry.bytes.now chains.new (entries chains.new)) }
-    ensures known { WhereRoom (count_together key.entry.bytes.now chains.old writes.now)
-        key.entry.bytes.now chains.old (entries chains.old) (IsOk result) }
+    requires { T (is_sorted (slice_cmp nat_cmp) (entries chains.old.pages)) }
+    ensures roomier { HaveMoreRoom chains.old chains.new }
+    ensures room { OnOk result (ChainHasRoom (find_chain key.entry.bytes.now (entries chains.new.pages))) }
+    ensures place { OnOk result (HasPlaceAt (count_together key.entry.bytes.now chains.new.pages writes.now)
+        key.entry.bytes.now chains.new.pages (entries chains.new.pages)) }
+    ensures known { WhereRoom (count_together key.entry.bytes.now chains.old.pages writes.now)
+        key.entry.bytes.now chains.old.pages (entries chains.old.pages) (IsOk result) }
 {
-    match chains.find_mut(key) {
-        Ok(chain) => chain.reserve(alloc),
+    match chains.find(key) {
+        Ok(at) => chains.reserve_value(at, key),
         Err(at) => {
             // Where there is room for all of them, it need not be known which of them come here.
             if writes.len() <= chains.room_in(at) {
@@ -81,23 +80,23 @@ pub(crate) fn make_room(
 
 // Adds the version that commit `n` leaves, in the room that was made for it, and lists the one before it.
 fn add(chains: &mut SortedPages<Chain>, listed: &mut Vec<OldVersion>, n: u64, write: Write)
-    requires sorted { T (is_sorted (slice_cmp nat_cmp) (entries chains.old)) }
-    requires ready { CanAddVersion n (find_chain write.0 (entries chains.old)) }
-    requires place { HasPlaceAt 1 write.0 chains.old (entries chains.old) }
+    requires sorted { T (is_sorted (slice_cmp nat_cmp) (entries chains.old.pages)) }
+    requires ready { CanAddAt n write.0 chains.old }
     requires listed_spare { 1 ≤ vec_capacity listed.old - vec_len listed.old }
-    ensures chains { IsAddedAt write.0 (stamped n write.1) (entries chains.old) (entries chains.new) }
-    ensures places { TakesRoom (find_chain write.0 (entries chains.old)) write.0 chains.old chains.new }
-    ensures listed { ListsMore listed.old listed.new (followed (find_chain write.0 (entries chains.old)) write.0 n) }
+    ensures chains { IsAddedAt write.0 (stamped n write.1) (entries chains.old.pages) (entries chains.new.pages) }
+    ensures places { TakesRoom n (find_chain write.0 (entries chains.old.pages)) write.0 chains.old chains.new }
+    ensures listed { ListsMore listed.old listed.new
+        (followed (find_chain write.0 (entries chains.old.pages)) write.0 n) }
 {
     let (key, value) = write.into_parts();
     let version = Version {
         number: n,
         value: kept_value(value),
     };
-    match chains.find_mut(key.lend()) {
-        Ok(chain) => {
-            let number = chain.number();
-            chain.add(version);
+    match chains.find(key.lend()) {
+        Ok(at) => {
+            let number = chains.value(at, key.lend()).number();
+            chains.add(at, key.lend(), version);
             list(listed, key, number, n);
         }
         Err(at) => chains.insert(at, key, Chain::new(version)),
@@ -111,13 +110,13 @@ pub(crate) fn add_all(
     n: u64,
     writes: Vec<Write>,
 )
-    requires kept { (last : ℕ) × (last < n) × IsKept (entries chains.old) last }
+    requires kept { IsKeptBelow n chains.old }
     requires rising { T (is_sorted (slice_cmp nat_cmp) writes.items) }
-    requires room { HaveRoom chains.old (entries chains.old) writes.items }
-    requires none { listed.old.items ≡ [] }
-    requires listed_spare { length writes.items ≤ vec_capacity listed.old - vec_len listed.old }
-    ensures chains { AddsWrites (entries chains.old) (entries chains.new) n writes.items }
-    ensures listed { ListsFollowed (entries chains.old) (entries chains.new) n listed.new.items }
+    requires room { HaveRoom chains.old.pages (entries chains.old.pages) writes.items }
+    requires listed { IsEmptyFor (length writes.items) listed.old }
+    ensures chains { AddsWrites (entries chains.old.pages) (entries chains.new.pages) n writes.items }
+    ensures listed { ListsFollowed (entries chains.old.pages) (entries chains.new.pages) n listed.new.items }
+    ensures held { IsLastRaised n chains.old chains.new }
 {
     for write in writes {
         add(chains, listed, n, write);

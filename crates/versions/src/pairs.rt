@@ -12,12 +12,13 @@ pub struct Pairs<'a> {
 
 impl<'a> Pairs<'a> {
     ghost use Rattle.std.specs.Prelude.{◌≡◌};
-    ghost use Rattle.sorted_pages.specs.Ranges.{entries_left};
+    ghost use Rattle.sorted_pages.specs.Ranges.{entries_left, pages_ahead as entries_pages_ahead};
     ghost use Rattle.versions.specs.Chains.{hides, visible};
-    ghost use Rattle.versions.specs.Lent.{range_pairs};
+    ghost use Rattle.versions.specs.Lent.{pages_ahead, range_pairs};
 
     pub(crate) fn new(entries: Entries<'a, Chain>, n: u64) -> Pairs<'a>
-        ensures { range_pairs result ≡ visible n (entries_left hides entries.entry) }
+        ensures pairs { range_pairs result ≡ visible n (entries_left hides entries.entry) }
+        ensures ahead { pages_ahead result ≡ entries_pages_ahead entries.entry }
     {
         Pairs { entries, n }
     }

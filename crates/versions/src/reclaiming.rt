@@ -6,13 +6,16 @@ ghost use Rattle.std.specs.Ordering.{nat_cmp};
 ghost use Rattle.std.specs.Cmp.Lexicographic.{slice_cmp};
 ghost use Rattle.std.specs.FinMap.Entries.{is_sorted};
 ghost use Rattle.std.specs.Vec.{vec_len};
+ghost use Rattle.sorted_pages.specs.Changes.{KeepsHeld};
 ghost use Rattle.sorted_pages.specs.Pages.{entries};
-ghost use Rattle.versions.specs.Chains.{IsKept, IsReclaimedAt, find_chain};
+ghost use Rattle.sorted_pages.specs.Summaries.{HoldsAmong};
+ghost use Rattle.versions.specs.Chains.{IsReclaimedAt, find_chain};
 ghost use Rattle.versions.specs.Pins.{GroupStaysUnder};
 ghost use Rattle.versions.specs.Listings.{AreApart, ListsAreFilled, AreIn, CanJoin, IsListed, IsRepinned};
 ghost use Rattle.versions.specs.Listings.{IsTrulyUnclassified, has_version, lists_in, versions_in, pin_for, pins};
-ghost use Rattle.versions.specs.Reclaiming.{AreLookedAt, DropsFromGroup, DropsUnseen, IsLookedAfter, KeepsListed};
-ghost use Rattle.versions.specs.Reclaiming.{ReclaimsChains, ReclaimsStep, StaysApart, TakesGroup, TakesLists};
+ghost use Rattle.versions.specs.Reclaiming.{AreLookedAt, DropsFromGroup, DropsUnseen, IsLookedAfter, IsReclaimable};
+ghost use Rattle.versions.specs.Reclaiming.{KeepsListed, ReclaimsPages, ReclaimsStep, StaysApart, TakesGroup};
+ghost use Rattle.versions.specs.Reclaiming.{TakesLists};
 ghost use Rattle.versions.specs.Reclaiming.{TakesVersions};
 ghost use Rattle.versions.specs.Meaning.{garbage_for, garbage_in, is_among};
 
@@ -27,9 +30,11 @@ const LISTS_A_STEP: usize = 2;
 
 // Drops the older versions of the key that none of the numbers sees. Is this one still there?
 fn reclaim_version(chains: &mut SortedPages<Chain>, version: &OldVersion, begins: &[u64]) -> bool
-    requires { T (is_sorted (slice_cmp nat_cmp) (entries chains.old)) }
-    ensures reclaimed { IsReclaimedAt begins.now version.now.key (entries chains.old) (entries chains.new) }
-    ensures left { result ≡ has_version version.now.number (find_chain version.now.key (entries chains.new)) }
+    requires sorted { T (is_sorted (slice_cmp nat_cmp) (entries chains.old.pages)) }
+    requires among { HoldsAmong begins.now chains.old }
+    ensures reclaimed { IsReclaimedAt begins.now version.now.key (entries chains.old.pages) (entries chains.new.pages) }
+    ensures left { result ≡ has_version version.now.number (find_chain version.now.key (entries chains.new.pages)) }
+    ensures held { KeepsHeld chains.old chains.new }
 {
     chains.trim_at(version.key.lend(), begins, version.number)
 }
@@ -42,10 +47,10 @@ fn drop_unseen(
     begins: &[u64],
     next: Option<u64>,
 )
-    requires kept { (last : ℕ) × IsKept (entries chains.old) last }
+    requires kept { IsReclaimable begins.now chains.old }
     requires next { IfSome next (λ n. IsTrue (is_among begins.now n)) }
-    ensures chains { ReclaimsChains begins.now (entries chains.old) (entries chains.new) }
-    ensures versions { DropsUnseen begins.now (entries chains.new) versions.old.items versions.new.items }
+    ensures chains { ReclaimsPages begins.now chains.old chains.new }
+    ensures versions { DropsUnseen begins.now (entries chains.new.pages) versions.old.items versions.new.items }
 {
     let mut left = versions.len();
     while left > 0 {
@@ -89,11 +94,12 @@ fn collect_first(
     next: Option<u64>,
 )
     requires one { length lists.old ≡ 1 }
-    requires kept { (last : ℕ) × IsKept (entries chains.old) last }
+    requires kept { IsReclaimable begins.now chains.old }
     requires next { IfSome next (λ n. IsTrue (is_among begins.now n)) }
     ensures one { length lists.new ≡ 1 }
-    ensures chains { ReclaimsChains begins.now (entries chains.old) (entries chains.new) }
-    ensures versions { DropsUnseen begins.now (entries chains.new) (versions_in lists.old) (versions_in lists.new) }
+    ensures chains { ReclaimsPages begins.now chains.old chains.new }
+    ensures versions { DropsUnseen begins.now (entries chains.new.pages) (versions_in lists.old) (versions_in lists.new)
+        }
 {
     match lists.front_mut() {
         Some(list) => drop_unseen(chains, list, begins, next),
@@ -108,12 +114,13 @@ fn collect_lists(
     begins: &[u64],
     next: Option<u64>,
 )
-    requires kept { (last : ℕ) × IsKept (entries chains.old) last }
+    requires kept { IsReclaimable begins.now chains.old }
     requires next { IfSome next (λ n. IsTrue (is_among begins.now n)) }
     ensures fewer { length lists.new ≤ length lists.old }
     ensures filled { ListsAreFilled lists.new }
-    ensures chains { ReclaimsChains begins.now (entries chains.old) (entries chains.new) }
-    ensures versions { DropsUnseen begins.now (entries chains.new) (versions_in lists.old) (versions_in lists.new) }
+    ensures chains { ReclaimsPages begins.now chains.old chains.new }
+    ensures versions { DropsUnseen begins.now (entries chains.new.pages) (versions_in lists.old) (versions_in lists.new)
+        }
 {
     let alloc = *lists.allocator();
     let mut rest = mem::replace(lists, LinkedList::new(alloc));
@@ -172,9 +179,9 @@ impl Group {
     fn look_at_garbage(&mut self, chains: &mut SortedPages<Chain>, begins: &[u64], count: usize)
         requires count { count ≤ self.old.garbage }
         requires repinned { IsRepinned begins.now self.old }
-        requires kept { (last : ℕ) × IsKept (entries chains.old) last }
-        ensures chains { ReclaimsChains begins.now (entries chains.old) (entries chains.new) }
-        ensures group { DropsFromGroup (entries chains.new) self.old.pin self.old self.new }
+        requires kept { IsReclaimable begins.now chains.old }
+        ensures chains { ReclaimsPages begins.now chains.old chains.new }
+        ensures group { DropsFromGroup (entries chains.new.pages) self.old.pin self.old self.new }
         ensures garbage { self.new.garbage + count ≡ self.old.garbage }
         ensures repinned { IsRepinned begins.now self.new }
     {
@@ -191,11 +198,11 @@ impl Group {
     // was then looked at.
     fn look_at_unclassified(&mut self, chains: &mut SortedPages<Chain>, begins: &[u64])
         requires repinned { IsRepinned begins.now self.old }
-        requires kept { (last : ℕ) × IsKept (entries chains.old) last }
-        ensures chains { ReclaimsChains begins.now (entries chains.old) (entries chains.new) }
-        ensures group { DropsFromGroup (entries chains.new) self.old.pin self.old self.new }
+        requires kept { IsReclaimable begins.now chains.old }
+        ensures chains { ReclaimsPages begins.now chains.old chains.new }
+        ensures group { DropsFromGroup (entries chains.new.pages) self.old.pin self.old self.new }
         ensures garbage { garbage_for begins.now self.new ≡ self.old.garbage }
-        ensures looked_after { IsLookedAfter begins.now (entries chains.new) self.new }
+        ensures looked_after { IsLookedAfter begins.now (entries chains.new.pages) self.new }
     {
         if self.unclassified.is_empty() {
             return;
@@ -208,12 +215,12 @@ impl Group {
 
     // Takes in which numbers are active, looks at up to `most` of the garbage lists, and answers how many fewer than `most` it looked at.
     fn reclaim(&mut self, chains: &mut SortedPages<Chain>, begins: &[u64], most: usize) -> usize
-        requires kept { (last : ℕ) × IsKept (entries chains.old) last }
+        requires kept { IsReclaimable begins.now chains.old }
         ensures spare { result ≡ most - garbage_for begins.now self.old }
         ensures garbage { garbage_for begins.now self.new ≡ garbage_for begins.now self.old - most }
-        ensures chains { ReclaimsChains begins.now (entries chains.old) (entries chains.new) }
-        ensures group { DropsFromGroup (entries chains.new) (pin_for begins.now self.old.pin) self.old self.new }
-        ensures looked_after { IsLookedAfter begins.now (entries chains.new) self.new }
+        ensures chains { ReclaimsPages begins.now chains.old chains.new }
+        ensures group { DropsFromGroup (entries chains.new.pages) (pin_for begins.now self.old.pin) self.old self.new }
+        ensures looked_after { IsLookedAfter begins.now (entries chains.new.pages) self.new }
     {
         self.repin(begins);
         let count = self.garbage().min(most);
@@ -238,10 +245,10 @@ impl Group {
 // Takes in which numbers are active, and looks at the first garbage lists, from the last group on: what none of the numbers sees goes. So
 // the list of a commit is looked at before those that others left, and no chain grows while these are many.
 fn reclaim_groups(chains: &mut SortedPages<Chain>, groups: &mut [Group], begins: &[u64])
-    requires kept { (last : ℕ) × IsKept (entries chains.old) last }
-    requires listed { IsListed (entries chains.old) groups.old }
-    ensures step { ReclaimsStep begins.now (entries chains.old) (entries chains.new) groups.old groups.new }
-    ensures groups { AreLookedAt begins.now (entries chains.new) groups.old groups.new }
+    requires kept { IsReclaimable begins.now chains.old }
+    requires listed { IsListed (entries chains.old.pages) groups.old }
+    ensures step { ReclaimsStep begins.now chains.old chains.new groups.old groups.new }
+    ensures groups { AreLookedAt begins.now (entries chains.new.pages) groups.old groups.new }
 {
     let mut most = LISTS_A_STEP;
     let mut left = groups.len();
@@ -309,12 +316,12 @@ pub(crate) fn reclaim_versions(
     groups: &mut Vec<Group>,
     begins: &[u64],
 ) -> bool
-    requires kept { (last : ℕ) × IsKept (entries chains.old) last }
-    requires listed { IsListed (entries chains.old) groups.old.items }
+    requires kept { IsReclaimable begins.now chains.old }
+    requires listed { IsListed (entries chains.old.pages) groups.old.items }
     requires few { lists_in groups.old.items < 2 ^ 63 }
     ensures still { result ≡ nat_lt 0 (garbage_in begins.now groups.new.items) }
-    ensures step { ReclaimsStep begins.now (entries chains.old) (entries chains.new) groups.old.items groups.new.items }
-    ensures groups { AreLookedAt begins.now (entries chains.new) groups.old.items groups.new.items }
+    ensures step { ReclaimsStep begins.now chains.old chains.new groups.old.items groups.new.items }
+    ensures groups { AreLookedAt begins.now (entries chains.new.pages) groups.old.items groups.new.items }
     ensures few { length groups.new.items ≤ length begins.now + 1 }
 {
     reclaim_groups(chains, groups, begins);

@@ -2,8 +2,7 @@
 ghost use Rattle.std.specs.Prelude.{◌≡◌, ◌==◌, ◌+◌, ◌<◌, ◌≤◌, ℕ, true, length, IfSome, IsOk, OnOk, Some};
 ghost use Rattle.std.specs.Prelude.{option_copied};
 ghost use Rattle.model.specs.Key.{IsValue};
-ghost use Rattle.versions.specs.Chains.{hides, seen, shows, first_shown, least_value, longer_chain, thinned};
-ghost use Rattle.versions.specs.Chains.{is_between};
+ghost use Rattle.versions.specs.Chains.{is_between, seen, shows, longer_chain, thinned};
 ghost use Rattle.versions.specs.Listings.{has_version};
 
 use crate::value::KeptValue;
@@ -24,18 +23,6 @@ impl Model for Version {
     ghost Value = { Stamped };
 
     ghost view = { λ v. record { number = v.number; value = v.value } };
-}
-
-impl Version {
-    // The version's number, where it is a value and that is less than `n`, and else `n`.
-    fn least_value(&self, n: u64) -> u64
-        ensures { result ≡ least_value n self.now }
-    {
-        match self.value {
-            None => n,
-            Some(_) => n.min(self.number),
-        }
-    }
 }
 
 /// The newest version of a key, and those before it by rising number, or room for them.
@@ -90,31 +77,6 @@ impl Several {
         None
     }
 
-    // The least number, `low` or above, from which on none below `high` sees a value. The walk starts at the newest, and ends at the
-    // first value that such a number sees.
-    pub(crate) fn hidden_from(&self, low: u64, high: u64) -> u64
-        ensures above { low ≤ result }
-        ensures hidden { (n : ℕ) → result ≤ n → n < high → hides n self.now ≡ true }
-        ensures least { (m : ℕ) → low ≤ m → ((n : ℕ) → m ≤ n → n < high → hides n self.now ≡ true) → result ≤ m }
-    {
-        let mut until = high;
-        if self.newest.number < until {
-            if self.newest.value.is_some() {
-                return low.max(until);
-            }
-            until = self.newest.number;
-        }
-        for version in self.older.iter().rev() {
-            if version.number < until {
-                if version.value.is_some() {
-                    return low.max(until);
-                }
-                until = version.number;
-            }
-        }
-        low
-    }
-
     // Makes room for a version.
     pub(crate) fn reserve(&mut self) -> Result<(), AllocError>
         ensures older { self.new.older ≡ self.old.older }
@@ -158,15 +120,6 @@ impl Several {
         self.older.truncate(kept);
     }
 
-    // Is there no version but the newest?
-    pub(crate) fn is_alone(&self) -> bool
-        ensures { result ≡ (length self.now.older == 0) }
-    {
-        // Shows the view of the newest version, which the chain's view contains.
-        let _ = &self.newest;
-        self.older.is_empty()
-    }
-
     // Is there a version of this number before the newest?
     pub(crate) fn has(&self, number: u64) -> bool
         ensures { result ≡ has_version number (Some self.now) }
@@ -181,17 +134,6 @@ impl Several {
         ensures { result ≡ shows self.now }
     {
         self.newest.value.is_some()
-    }
-
-    // The least number of a version that is a value.
-    pub(crate) fn first(&self) -> u64
-        ensures { result ≡ first_shown self.now }
-    {
-        self.older
-            .iter()
-            .fold(self.newest.least_value(u64::MAX), |first, version| {
-                version.least_value(first)
-            })
     }
 }
 

@@ -8,15 +8,18 @@ ghost use Rattle.std.specs.FinMap.Entries.{is_sorted};
 ghost use Rattle.model.specs.KeyBytes.{end_bytes};
 ghost use Rattle.model.specs.Map.{value_at, pairs_in_range};
 ghost use Rattle.versions.specs.Chains.{IsPrepared, HasPlaceAt, ChainHasRoom, WhereRoom, count_together, find_chain};
+ghost use Rattle.versions.specs.Chains.{hides};
 ghost use Rattle.versions.specs.Meaning.{map_seen, newest_of, versions_kept, garbage_of, groups_of, IsSameMeaning};
-ghost use Rattle.versions.specs.Meaning.{IsInstalled, IsReclaimed, IsReclaimedInPart};
+ghost use Rattle.versions.specs.Meaning.{IsInstalled, IsReclaimed, IsReclaimedInPart, is_known};
 ghost use Rattle.sorted_pages.specs.Pages.{places_in};
 ghost use Rattle.std.specs.List.{AllByRecursion};
 ghost use Rattle.versions.specs.Listings.{IsTrulyUnclassified};
 ghost use Rattle.versions.specs.Installing.{HasMoreRoom};
-ghost use Rattle.versions.specs.Lent.{range_pairs};
+ghost use Rattle.versions.specs.Lent.{pages_ahead, range_pairs};
 ghost use Rattle.versions.specs.StandsFor.{StandForSame, StandWithCommit, StandWhereAmong, StandsFor};
-ghost use Rattle.versions.specs.StandsFor.{ClassifiedWhereActive};
+ghost use Rattle.versions.specs.StandsFor.{AreHeldWhereKnown, ClassifiedWhereActive};
+ghost use Rattle.sorted_pages.specs.Summaries.{AreSeen};
+ghost use Rattle.sorted_pages.specs.declared.held.TheConstants.{HELD_MAX};
 
 use crate::chain::Chain;
 use crate::installing::{add_all, make_room};
@@ -48,7 +51,7 @@ pub struct Versions {
 }
 
 impl Model for Versions {
-    ghost use Rattle.std.specs.Prelude.{◌≡◌, ◌-◌, []};
+    ghost use Rattle.std.specs.Prelude.{◌≡◌, ◌≤◌, ◌-◌, []};
     ghost use Rattle.std.specs.Vec.{vec_len, vec_capacity};
     ghost use Rattle.sorted_pages.specs.Pages.{entries};
     ghost use Rattle.versions.specs.Chains.{ChainsValue, IsKept};
@@ -57,8 +60,9 @@ impl Model for Versions {
     ghost Value = { ChainsValue };
 
     ghost view = { λ v. record {
-      chains = entries v.chains;
-      pages = v.chains;
+      chains = entries v.chains.pages;
+      pages = v.chains.pages;
+      held = v.chains.held;
       listed_spare = spare_in v.listed;
       groups_spare = vec_capacity v.groups - vec_len v.groups;
       groups = v.groups.items;
@@ -66,8 +70,8 @@ impl Model for Versions {
     } };
 
     ghost invariant = { λ v.
-        IsKept (entries v.chains) v.last × IsListed (entries v.chains) v.groups.items × (versions_in v.listed ≡ [])
-        × HasFewLists v.groups.items v.listed v.last };
+        IsKept (entries v.chains.pages) v.last × IsListed (entries v.chains.pages) v.groups.items
+        × (versions_in v.listed ≡ []) × HasFewLists v.groups.items v.listed v.last × (v.chains.last ≤ v.last) };
 }
 
 impl Versions {
@@ -103,10 +107,13 @@ impl Versions {
         }
     }
 
-    /// Lends the pairs of the range that number `n` sees, by rising key. Takes no memory.
+    /// Lends the pairs of the range that number `n` sees, by rising key. Where what it sees of each page is known, the pages that are
+    /// looked at are the first and the last of the range, and those of which it sees a pair. Of the others 24 bytes are read, one after
+    /// another. Takes no memory.
     pub fn range(&self, n: u64, range: RangeRef<'_>) -> Pairs<'_>
-        ensures { range_pairs result
+        ensures pairs { range_pairs result
             ≡ pairs_in_range (map_seen self.now n) range.entry.lo.bytes.now (end_bytes range.entry.hi) }
+        ensures ahead { is_known n self.now ≡ true → AreSeen (hides n) (pages_ahead result) }
     {
         Pairs::new(self.chains.range(range, n), n)
     }
@@ -163,8 +170,7 @@ impl Versions {
         ensures known { WhereRoom (count_together key.entry.bytes.now self.old.pages writes.now)
             key.entry.bytes.now self.old.pages self.old.chains (IsOk result) }
     {
-        let alloc = *self.listed.allocator();
-        make_room(alloc, &mut self.chains, key, writes)
+        make_room(&mut self.chains, key, writes)
     }
 
     /// Makes the room in which these writes can be installed: in the page of each new key, for it and the writes right behind it that come
@@ -183,6 +189,17 @@ impl Versions {
         reserve_list(&mut self.listed, writes.len())?;
         self.groups.reserve(1)?;
         Ok(())
+    }
+
+    /// From now on these numbers alone are active, 64 at most, so what they see of each page is held, as far as it was known. Nothing else
+    /// changes. Its time grows with the square of how many there are. Takes no memory.
+    pub fn keep_active(&mut self, begins: &[u64])
+        requires { length begins.now ≤ HELD_MAX }
+        ensures kept { self.new ≡ record self.old { held = self.new.held } }
+        ensures held { AreHeldWhereKnown begins.now self.old self.new }
+        ensures stands { StandWhereAmong begins.now self.old self.new }
+    {
+        self.chains.hold(begins);
     }
 
     /// Installs the writes of commit `n` in the room that `prepare` made for them: one version more for each. No number below `n` sees
@@ -213,31 +230,35 @@ impl Versions {
     /// those that `reclaim` leaves it.
     ///
     /// What each commit superseded is a list, of at most as many versions as it wrote, under a number that sees them, its pin. Once the pin
-    /// is none of these numbers, the list is garbage, and a call looks at 2 garbage lists, from the last group on: so a new list need not
-    /// wait for those that an old number left. For each version in a list it walks the key's chain once, against the numbers themselves,
-    /// and called again with the same numbers it ends. Takes no memory: where the lists of two commits come under one pin, they are linked.
-    /// The lists under one pin are one group, so there are no more groups than numbers and one. Lists that are needed though their pin
-    /// isn't active, or doesn't see all of them, are unclassified, and each call looks at them; no others are unclassified. Where each of
-    /// the numbers was active at the calls before, or is at least that of the last commit, there are none.
+    /// is none of these numbers, 64 at most, the list is garbage, and a call looks at 2 garbage lists, from the last group on: so a new
+    /// list need not wait for those that an old number left. For each version in a list it walks the key's chain once, against the numbers
+    /// themselves, and called again with the same numbers it ends. Takes no memory: where the lists of two commits come under one pin,
+    /// they are linked. The lists under one pin are one group, so there are no more groups than numbers and one. Lists that are needed
+    /// though their pin isn't active, or doesn't see all of them, are unclassified, and each call looks at them; no others are
+    /// unclassified. Where each of the numbers was active at the calls before, or is at least that of the last commit, there are none.
+    ///
+    /// From then on these numbers alone are active, as after `keep_active`.
     pub fn reclaim_step(&mut self, begins: &[u64]) -> bool
+        requires { length begins.now ≤ HELD_MAX }
         ensures reclaimed { IsReclaimedInPart self.old self.new begins.now }
-        ensures all { result ≡ false → IsReclaimed self.old self.new begins.now }
         ensures still { result ≡ nat_lt 0 (garbage_of begins.now self.new) }
         ensures few { groups_of self.new ≤ length begins.now + 1 }
         ensures unclassified { AllByRecursion (IsTrulyUnclassified begins.now) self.new.groups }
         ensures classified { ClassifiedWhereActive begins.now self.old self.new }
         ensures stands { StandWhereAmong begins.now self.old self.new }
     {
+        self.chains.hold(begins);
         reclaim_versions(&mut self.chains, &mut self.groups, begins)
     }
 
-    /// Drops the versions that are neither the newest of their keys nor seen from one of the numbers; there may be no number. A deletion
-    /// that is the newest version of its key stays.
+    /// Drops the versions that are neither the newest of their keys nor seen from one of the numbers, 64 at most; there may be no number. A
+    /// deletion that is the newest version of its key stays.
     ///
     /// It takes the steps of `reclaim_step` until no list is garbage. So its time grows with the versions in the garbage lists, for each of
     /// which it walks its key's chain against the numbers, and where lists are unclassified, with the versions in them for each step. Takes
     /// no memory.
     pub fn reclaim(&mut self, begins: &[u64])
+        requires { length begins.now ≤ HELD_MAX }
         ensures reclaimed { IsReclaimed self.old self.new begins.now }
         ensures no_garbage { garbage_of begins.now self.new ≡ 0 }
         ensures few { groups_of self.new ≤ length begins.now + 1 }

@@ -15,7 +15,8 @@ returns-clause-room g c =
         rooms = λ q. (let a = one.roomier.rooms q in let b = two.roomier.rooms q in omega arith);
         apart = λ j k t. one.roomier.apart j k (two.roomier.apart j k t);
       };
-      tight = tight-then (c.args.n + (STEP - 1)) c.args.pages.now c.split.new.pages c.grow.new.pages one.tight two.tight;
+      tight = tight-then (c.args.n + (STEP - 1)) c.args.pages.now.pages c.split.new.pages.pages c.grow.new.pages.pages one.tight two.tight;
+      held = record { held = two.held.held ∙ one.held.held; last = two.held.last ∙ one.held.last };
     }
 
 pub returns-clause-split : goal.returns-clause-split

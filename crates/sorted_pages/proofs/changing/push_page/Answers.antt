@@ -7,7 +7,7 @@ use Rattle.sorted_pages.specs.Pages.{Page}
 
 pub returns : goal.returns
 returns g c =
-    let ps = c.args.pages.now in
+    let ps = c.args.pages.now.pages in
     let p = c.push.new.self in
     let e : Bytes × g.row.V.Denot = (c.args.key, c.args.value) in
     let all = pushed_page ps e c.requires.order c.requires.sorted p (c.in_ok-push.ensures.entries

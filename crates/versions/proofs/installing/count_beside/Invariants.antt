@@ -5,5 +5,5 @@ use Rattle.sorted_pages.specs.Pages.{IsInsertionPoint, is_together}
 
 -- the writes so far come to the page
 abbrev pub invariant-loop-i : goal.invariant-loop-i
-invariant-loop-i l = (k : Bytes) → IsInsertionPoint l.chains k l.at.page l.at.entry → (j : ℕ) (d : KeyWrite) → j < l.i
-    → is_together k (get_or l.writes j d).0 l.chains ≡ true
+invariant-loop-i l = (k : Bytes) → IsInsertionPoint l.chains.pages k l.at.page l.at.entry → (j : ℕ) (d : KeyWrite) → j < l.i
+    → is_together k (get_or l.writes j d).0 l.chains.pages ≡ true

@@ -7,7 +7,7 @@ use Rattle.versions.specs.Reclaiming.{DropsUnseen}
 
 pub returns-clause-versions : goal.returns-clause-versions
 returns-clause-versions c =
-    let drops = DropsUnseen c.args.begins.now (entries c.drop_unseen.new.chains) in
+    let drops = DropsUnseen c.args.begins.now (entries c.drop_unseen.new.chains.pages) in
     let were = in-one c.args.lists.now c.in-Some.list.now c.requires.one c.in-Some.ensures.value in
     let are = in-only c.args.lists.now c.drop_unseen.new.versions c.requires.one in
     subst (drops (versions_in c.args.lists.now)) (sym are)

@@ -8,7 +8,7 @@ use Rattle.versions.specs.Groups.{Listed}
 
 pub returns-clause-reclaimed : goal.returns-clause-reclaimed
 returns-clause-reclaimed c =
-    let es = entries c.args.chains.now in
-    subst (λ (k : Bytes). IsReclaimedAt c.args.begins.now k es (entries c.trim_at.new.self)) (c.lend.ensures
+    let es = entries c.args.chains.now.pages in
+    subst (λ (k : Bytes). IsReclaimedAt c.args.begins.now k es (entries c.trim_at.new.self.pages)) (c.lend.ensures
     ∙ ap (λ (v : Listed). v.key) c.version.view_is)
-    (reclaimed-at c.args.begins.now c.lend.result.bytes.now es (entries c.trim_at.new.self) c.trim_at.ensures.entries)
+    (reclaimed-at c.args.begins.now c.lend.result.bytes.now es (entries c.trim_at.new.self.pages) c.trim_at.ensures.entries)

@@ -16,7 +16,7 @@ use Rattle.versions.specs.Pins.{AreUnderPins}
 pub returns : goal.returns
 returns c =
     let bs = c.args.begins.now in
-    let es = entries c.reclaim_groups.new.chains in
+    let es = entries c.reclaim_groups.new.chains.pages in
     let groups = c.reclaim_groups.new.groups in
     let joined = c.join_groups.ensures.keeps in
     let step = c.reclaim_groups.ensures.step in
@@ -29,7 +29,7 @@ returns c =
     let few = apart-few (pins c.join_groups.new.groups.items) (0 ∷ bs) c.join_groups.ensures.apart active in
     record {
       still = c.are_garbage.ensures ∙ any-garbage bs c.deref.result.now ∙ ap (λ (gs : List GroupValue). nat_lt 0 (garbage_in bs gs)) c.deref.ensures.value;
-      step = record { garbage = search rules; chains = step.chains; all = search rules };
+      step = record { garbage = search rules; pages = step.pages; all = search rules };
       groups = record {
         listed = groups-found es all c.join_groups.new.groups.items joined.found (subst (IsListed es) are looked.listed);
         lists = search rules;

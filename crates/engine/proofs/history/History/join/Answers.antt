@@ -1,23 +1,27 @@
 use Rattle.engine.proofs.history.History.join.Goals as goal
 use Rattle.std.proofs.Common.{◌≡◌, ℕ, ◌+◌, Bool, true, List, [], ◌∷◌, ◌++◌, ap, sym, subst, ◌∙◌, length, arith}
+use Rattle.std.proofs.lemmas.Bool.{and_parts, or_left}
 use Rattle.std.proofs.lemmas.Bool.Decides.{nat_tests}
 use Rattle.std.proofs.lemmas.List.{nil_from_length}
-use Rattle.std.specs.Prelude.{◌==◌}
+use Rattle.std.specs.BTreeMap.{values}
+use Rattle.std.specs.Prelude.{◌==◌, ◌&&◌, ◌||◌, map, nat_le, IsTrue}
 use Rattle.model.specs.History.{Record}
 use Rattle.model.specs.Map.{KeyMap, KeyWrite}
-use Rattle.versions.specs.StandsFor.{StandsFor as VersionsStandFor}
+use Rattle.versions.specs.Chains.{ChainsValue, IsPrepared}
+use Rattle.versions.specs.Meaning.{is_among}
+use Rattle.versions.specs.StandsFor.{AreHeldWhereKnown, StandWhereAmong, StandsFor as VersionsStandFor}
 use Rattle.snapshot.specs.View.{View}
 use Rattle.pivot_check.specs.Kept.{IsInReach}
 use Rattle.pivot_check.specs.StandsFor.{StandsFor as CommittedStandsFor, IsRecordOf}
 use Rattle.engine.specs.HistoryValue.{HistoryValue, Joins}
 
-next_joined : (old new : HistoryValue) (t : View) (ws : List KeyWrite) (n : ℕ) → n ≡ old.committed.facts.last + 1 → ws ≡ t.writes
+next_joined : (bs : List ℕ) (old new : HistoryValue) (t : View) (ws : List KeyWrite) (n : ℕ) → n ≡ old.committed.facts.last + 1 → ws ≡ t.writes
     → ((active : ℕ → Bool) (base : KeyMap) (history : List Record) (r : Record) → VersionsStandFor old.versions active base history → length history + 1 ≡ n
-    → r.commit ≡ n → r.writes ≡ ws → VersionsStandFor new.versions active base (history ++ r ∷ []))
+    → r.commit ≡ n → r.writes ≡ ws → VersionsStandFor new.versions (λ k. active k && is_among bs k) base (history ++ r ∷ []))
     → (IsInReach old.committed.facts t → (history : List Record) → CommittedStandsFor old.committed.facts history → (r : Record) → IsRecordOf t n r
     → CommittedStandsFor new.committed.facts (history ++ r ∷ []))
-    → Joins old new t
-next_joined old new t ws n number same adds notes active base history r h reach own =
+    → Joins bs old new t
+next_joined bs old new t ws n number same adds notes active base history r h reach own =
     let last = h.committed.last in
     let is : IsRecordOf t n r = subst (λ k. IsRecordOf t k r) (sym number) own in
     record {
@@ -25,23 +29,51 @@ next_joined old new t ws n number same adds notes active base history r h reach 
       committed = notes reach history h.committed r is;
     }
 
+-- each number that is still active is held
+held_still : (bs : List ℕ) (old new : ChainsValue) (active : ℕ → Bool) (base : KeyMap) (history : List Record) → AreHeldWhereKnown bs old new
+    → VersionsStandFor old active base history → (n : ℕ) → IsTrue (active n && is_among bs n) → IsTrue (is_among new.held n)
+held_still bs old new active base history held s n t =
+    let p = and_parts (active n) (is_among bs n) t in held n p.1 (s.known n p.0)
+
+-- fewer numbers are active
+fewer : (bs : List ℕ) (v : ChainsValue) (active : ℕ → Bool) (base : KeyMap) (history : List Record)
+    → ((active others : ℕ → Bool) (base : KeyMap) (history : List Record) → ((n : ℕ) → IsTrue (others n) → IsTrue (active n || nat_le v.last n))
+    → VersionsStandFor v active base history → VersionsStandFor v others base history)
+    → VersionsStandFor v active base history → VersionsStandFor v (λ n. active n && is_among bs n) base history
+fewer bs v active base history law s =
+    law active (λ n. active n && is_among bs n) base history
+    (λ n t. or_left (active n) (nat_le v.last n) (and_parts (active n) (is_among bs n) t).0) s
+
+-- what was made ready stays so
+prepared_still : (v w : ChainsValue) (ws : List KeyWrite) → w ≡ record v { held = w.held } → IsPrepared v ws → IsPrepared w ws
+prepared_still v w ws same p =
+    subst (λ (u : ChainsValue). IsPrepared u ws) (sym same) (record { chains = p.chains; places = p.places; listed = p.listed; groups = p.groups })
+
 -- a list that was found to be empty
 empty_is : (xs : List KeyWrite) (n : ℕ) (b : Bool) → b ≡ (n == 0) → n ≡ length xs → b ≡ true → xs ≡ []
 empty_is xs n b e long t = nil_from_length xs (grind (arith, nat_tests))
 
 pub returns-then-not-is_empty-clause-stands : goal.returns-then-not-is_empty-clause-stands
-returns-then-not-is_empty-clause-stands c =
-    subst (λ (v : HistoryValue). Joins v (record { versions = c.install.new.self; committed = c.note.new.self }) c.args.transaction) c.self.view_is
-    (next_joined _ _ c.args.transaction c.into_writes-writes.result.items (c.last-number.result
+returns-then-not-is_empty-clause-stands c = λ few.
+    let bs = map (λ (t : View). t.begin) (values c.args.others.now) in
+    let begins = c.gather_begins-count.ensures.numbers few in
+    let kept = subst (λ ns. StandWhereAmong ns c.self.inside.versions c.keep_active.new.self) begins c.keep_active.ensures.stands in
+    let held = subst (λ ns. AreHeldWhereKnown ns c.self.inside.versions c.keep_active.new.self) begins c.keep_active.ensures.held in
+    subst (λ (v : HistoryValue). Joins bs v (record { versions = c.install.new.self; committed = c.note.new.self }) c.args.transaction) c.self.view_is
+    (next_joined bs _ _ c.args.transaction c.into_writes-writes.result.items (c.last-number.result
     + 1) (ap (λ n. n + 1) c.last-number.ensures) c.into_writes-writes.ensures.writes
-    c.install.ensures.stands c.note.ensures.stands_for)
+    (λ active base history r s long commit is. c.install.ensures.stands (λ n. active n && is_among bs n) base history r
+    (kept active base history s) (held_still bs c.self.inside.versions c.keep_active.new.self active base history held s) long commit is)
+    c.note.ensures.stands_for)
 
 pub returns-else-not-is_empty-clause-stands : goal.returns-else-not-is_empty-clause-stands
-returns-else-not-is_empty-clause-stands c =
+returns-else-not-is_empty-clause-stands c = λ few.
+    let bs = map (λ (t : View). t.begin) (values c.args.others.now) in
     let none = empty_is c.into_writes-writes.result.items c.into_writes-writes.result.len c.is_empty.result c.is_empty.ensures c.into_writes-writes.result.ok.0
     c.if-not-is_empty.false in
-    subst (λ (v : HistoryValue). Joins v (record { versions = c.self.inside.versions; committed = c.note.new.self }) c.args.transaction) c.self.view_is
-    (next_joined _ _ c.args.transaction c.into_writes-writes.result.items (c.last-number.result
+    subst (λ (v : HistoryValue). Joins bs v (record { versions = c.self.inside.versions; committed = c.note.new.self }) c.args.transaction) c.self.view_is
+    (next_joined bs _ _ c.args.transaction c.into_writes-writes.result.items (c.last-number.result
     + 1) (ap (λ n. n + 1) c.last-number.ensures) c.into_writes-writes.ensures.writes
-    (λ active base history r s long commit is. c.law_read_only_record_follows.ensures c.self.inside.versions active base history r (is ∙ none) s)
+    (λ active base history r s long commit is. c.law_read_only_record_follows.ensures c.self.inside.versions (λ n. active n && is_among bs n) base history r
+    (is ∙ none) (fewer bs c.self.inside.versions active base history (c.law_numbers_change.ensures c.self.inside.versions) s))
     c.note.ensures.stands_for)

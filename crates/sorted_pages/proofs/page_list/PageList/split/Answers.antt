@@ -1,52 +1,79 @@
-use Rattle.sorted_pages.proofs.page_list.PageList.split.Goals as goal
-use Rattle.std.proofs.Common.{◌≡◌, ◌+◌, ◌<◌, length, get_or, set, ap, sym, ◌∙◌, arith}
-use Rattle.std.proofs.lemmas.Grind.{common_steps}
-use Rattle.std.proofs.lemmas.List.{get_or_default, length-set}
+use Rattle.std.proofs.Common.{◌≡◌, ◌∙◌, ◌+◌, ◌<◌, List, ap, arith, drop, get_or, length, set, subst, sym, take}
+use Rattle.std.proofs.lemmas.List.{get_or_default, get_or-set_same}
 use Rattle.std.specs.List.{insert}
-use Rattle.sorted_pages.proofs.PageGaps.{gaps-insert, gaps-set}
+use Rattle.sorted_pages.proofs.Summaries.{have-read, have-split, over-drop, over-take}
+use Rattle.sorted_pages.specs.Pages.{Page, PagesValue}
+use Rattle.sorted_pages.specs.Rooms.{HasRoomFor}
+use Rattle.sorted_pages.specs.Summaries.{IsSummary}
+use Rattle.sorted_pages.proofs.page_list.PageList.split.Goals as goal
 
-pub index_mut-lower-requires : goal.index_mut-lower-requires
-index_mut-lower-requires g c =
-    omega (arith, c.requires.page, ap length c.self.view_is, ap length c.reserve-2.ensures.items, c.reserve-2.new.self.ok.0)
+pub of-requires : goal.of-requires
+of-requires g c =
+    let v = g.V.Versioned in
+    let s = c.self.inside in
+    let old = c.index_mut.result.now in
+    let within : c.args.i < length s.pages.items = subst (λ (p : PagesValue g.row.V.Denot). c.args.i < length p.pages) (sym c.self.view_is) c.requires.page in
+    let known = have-read v.hides v.shows v.last s.pages.items s.held s.last s.summaries.items c.self.invariant c.reserve-2.new.self.items
+    c.reserve.new.self.items c.args.i old c.index.result.now c.in_ok-reserve-2.ensures.items c.in_ok-reserve.ensures.items within
+    c.index_mut.ensures.value c.index.ensures in
+    let lower = c.split_off.new.self in
+    let read : c.index-2.result.now ≡ lower =
+    c.index-2.ensures ∙ get_or-set_same c.reserve-2.new.self.items c.args.i lower c.index-2.result.now
+    (subst (λ (l : List (Page g.row.V.Denot)). c.args.i < length l) (sym c.in_ok-reserve-2.ensures.items) within) in
+    rw (read, c.in_ok-upper.ensures.lower.entries) (over-take v.hides v.shows v.last c.index.result.now.last c.args.at old.0 known.0.over)
 
-pub overflow_add-i : goal.overflow_add-i
-overflow_add-i g c = grind (arith, common_steps)
-
-pub insert-requires : goal.insert-requires
-insert-requires g c =
-    omega (arith, c.requires.page, ap length c.self.view_is, ap length c.reserve-2.ensures.items, c.reserve-2.new.self.ok.0)
+pub of-summary-requires : goal.of-summary-requires
+of-summary-requires g c =
+    let v = g.V.Versioned in
+    let s = c.self.inside in
+    let old = c.index_mut.result.now in
+    let within : c.args.i < length s.pages.items = subst (λ (p : PagesValue g.row.V.Denot). c.args.i < length p.pages) (sym c.self.view_is) c.requires.page in
+    let known = have-read v.hides v.shows v.last s.pages.items s.held s.last s.summaries.items c.self.invariant c.reserve-2.new.self.items
+    c.reserve.new.self.items c.args.i old c.index.result.now c.in_ok-reserve-2.ensures.items c.in_ok-reserve.ensures.items within
+    c.index_mut.ensures.value c.index.ensures in
+    rw c.in_ok-upper.ensures.upper.entries (over-drop v.hides v.shows v.last c.index.result.now.last c.args.at old.0 known.0.over)
 
 pub invariant_of-self-2 : goal.invariant_of-self-2
 invariant_of-self-2 g c =
-    let hides = g.V.Versioned.hides in
-    let i = c.args.i in
-    let ps = c.self.inside.pages.items in
-    let gs = c.self.inside.gaps.items in
+    let v = g.V.Versioned in
+    let s = c.self.inside in
+    let old = c.index_mut.result.now in
+    let within : c.args.i < length s.pages.items = subst (λ (p : PagesValue g.row.V.Denot). c.args.i < length p.pages) (sym c.self.view_is) c.requires.page in
+    let known = have-read v.hides v.shows v.last s.pages.items s.held s.last s.summaries.items c.self.invariant c.reserve-2.new.self.items
+    c.reserve.new.self.items c.args.i old c.index.result.now c.in_ok-reserve-2.ensures.items c.in_ok-reserve.ensures.items within
+    c.index_mut.ensures.value c.index.ensures in
     let lower = c.split_off.new.self in
-    let upper = c.in_ok-upper.upper in
-    let within : i < length ps = omega (arith, c.requires.page, ap length c.self.view_is) in
-    let halves = gaps-insert hides (set ps i lower) (set gs i c.gap.result) (i + 1) upper c.gap-gap.result (omega (arith, within, length-set ps i lower))
-    (gaps-set hides ps gs i lower c.gap.result c.self.invariant c.gap.ensures) c.gap-gap.ensures in
-    let pages : c.insert.new.self.items ≡ insert (set ps i lower) (i + 1) upper =
-    c.in-Ok.ensures.items ∙ ap (λ l. insert (set l i lower) (i + 1) upper) c.reserve-2.ensures.items in
-    let gaps : c.insert-2.new.self.items ≡ insert (set gs i c.gap.result) (i + 1) c.gap-gap.result =
-    c.in-Ok-insert.ensures.items ∙ ap (λ l. insert (set l i c.gap.result) (i + 1) c.gap-gap.result) c.reserve.ensures.items in
-    rw (pages, gaps) halves
+    let read : c.index-2.result.now ≡ lower =
+    c.index-2.ensures ∙ get_or-set_same c.reserve-2.new.self.items c.args.i lower c.index-2.result.now
+    (subst (λ (l : List (Page g.row.V.Denot)). c.args.i < length l) (sym c.in_ok-reserve-2.ensures.items) within) in
+    let low = c.of.ensures in
+    let high = c.of-summary.ensures in
+    let late = known.1 in
+    let pages : c.insert.new.self.items ≡ insert (set c.reserve-2.new.self.items c.args.i lower) (c.args.i + 1) c.in_ok-upper.upper = c.in-Ok.ensures.items in
+    let summaries : c.insert-2.new.self.items ≡ insert (set c.reserve.new.self.items c.args.i c.of.result) (c.args.i + 1) c.of-summary.result =
+    c.in-Ok-insert.ensures.items in
+    rw (pages, summaries, c.in_ok-reserve-2.ensures.items, c.in_ok-reserve.ensures.items)
+    (have-split v.hides v.shows v.last s.pages.items s.held s.last s.summaries.items c.self.invariant c.args.i lower c.in_ok-upper.upper
+    c.of.result c.of-summary.result within
+    (subst (λ (p : Page g.row.V.Denot). IsSummary v.hides v.shows v.last s.held p.0 c.of.result) read low.summary) high.summary
+    (omega (arith, low.last, late)) (omega (arith, high.last, late)))
 
 pub returns-clause-parts : goal.returns-clause-parts
-returns-clause-parts g c = λ p.
+returns-clause-parts g c p =
     let i = c.args.i in
+    let old = c.index_mut.result.now in
     let lower = c.split_off.new.self in
     let upper = c.in_ok-upper.upper in
-    let same = c.reserve-2.ensures.items ∙ c.self.view_is in
-    let page = c.index_mut-lower.result.now in
-    let within : i < length c.args.self.now = c.requires.page in
-    let read : get_or c.args.self.now i p ≡ page =
-    sym (rw same at c.index_mut-lower.ensures.value ∙ get_or_default c.args.self.now i page p within) in
+    let same : c.reserve-2.new.self.items ≡ c.args.self.now.pages =
+    c.in_ok-reserve-2.ensures.items ∙ ap (λ (q : PagesValue g.row.V.Denot). q.pages) c.self.view_is in
+    let read : old ≡ get_or c.args.self.now.pages i p =
+    c.index_mut.ensures.value ∙ ap (λ (l : List (Page g.row.V.Denot)). get_or l i old) same
+    ∙ get_or_default c.args.self.now.pages i old p c.requires.page in
+    let all : c.insert.new.self.items ≡ insert (set c.reserve-2.new.self.items i lower) (i + 1) upper = c.in-Ok.ensures.items in
     record {
       lower = lower;
       upper = upper;
-      is = c.in-Ok.ensures.items ∙ ap (λ l. insert (set l i lower) (i + 1) upper) same;
-      low = rw read c.in_ok-upper.ensures.lower;
-      high = rw read c.in_ok-upper.ensures.upper;
+      is = all ∙ ap (λ (l : List (Page g.row.V.Denot)). insert (set l i lower) (i + 1) upper) same;
+      low = subst (λ (q : Page g.row.V.Denot). HasRoomFor c.args.n (take c.args.at q.0) lower) read c.in_ok-upper.ensures.lower;
+      high = subst (λ (q : Page g.row.V.Denot). HasRoomFor c.args.n (drop c.args.at q.0) upper) read c.in_ok-upper.ensures.upper;
     }

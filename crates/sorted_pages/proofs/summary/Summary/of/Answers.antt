@@ -1,14 +1,12 @@
+use Rattle.std.proofs.Common.{◌∙◌, ap}
+use Rattle.std.specs.Prelude.{nat_lt, ◌&&◌}
+use Rattle.sorted_pages.proofs.Summaries.{summary-of}
+use Rattle.sorted_pages.specs.Held.{bit_of}
+use Rattle.sorted_pages.specs.Summaries.{are_hidden}
 use Rattle.sorted_pages.proofs.summary.Summary.of.Goals as goal
-use Rattle.std.proofs.Common.{refl}
-use Rattle.sorted_pages.proofs.Seen.{none_seen, next_taken}
 
-pub loop-i-init : goal.loop-i-init
-loop-i-init g c = record {
-  summary = none_seen g.V.Versioned.hides g.V.Versioned.shows _ c.new.ensures.showing;
-  whole = c.new.ensures.whole;
-}
-
-pub with_left_out-summary-requires : goal.with_left_out-summary-requires
-with_left_out-summary-requires g c =
-    next_taken g.V.Versioned.hides g.V.Versioned.shows c.args.entries.now c.loop-i.i c.loop-i.summary _ c.loop-i-test.true refl refl refl refl refl refl
-    c.loop-i.invariant.summary
+pub returns-clause-summary : goal.returns-clause-summary
+returns-clause-summary g c =
+    let v = g.V.Versioned in
+    summary-of v.hides v.shows v.last c.args.held.now c.args.page.now.0 _ c.requires c.shows.ensures
+    (λ i n at. c.bits_hiding.ensures i n at ∙ ap (λ es. bit_of (nat_lt n c.args.last && are_hidden (v.hides n) es)) c.entries.ensures)

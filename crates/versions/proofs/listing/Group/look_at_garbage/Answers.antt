@@ -13,7 +13,7 @@ use Rattle.versions.specs.Pins.{IsUnderPin}
 pub returns-clause-group : goal.returns-clause-group
 returns-clause-group c =
     let g = c.self.inside in
-    let es = entries c.collect_lists.new.chains in
+    let es = entries c.collect_lists.new.chains.pages in
     let taken = c.take_front-lists.result in
     let rest = c.take_front-lists.new.lists in
     let split = in-parts c.args.count g.garbage taken rest c.take_front-lists.ensures.front c.take_front-lists.ensures.rest in

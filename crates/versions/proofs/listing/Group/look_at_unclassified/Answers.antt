@@ -30,7 +30,7 @@ returns-clause-group c =
 pub returns-clause-looked_after : goal.returns-clause-looked_after
 returns-clause-looked_after c =
     let bs = c.args.begins.now in
-    let es = entries c.collect_lists.new.chains in
+    let es = entries c.collect_lists.new.chains.pages in
     let none = no-versions (IsCollected bs es) c.replace-unclassified.new.dest (ap length (c.replace-unclassified.ensures.after ∙ c.new.ensures)) in
     let put = c.keep.ensures.versions in
     record {
@@ -48,7 +48,7 @@ returns-clause-looked_after c =
 pub returns-then-is_empty-clause-looked_after : goal.returns-then-is_empty-clause-looked_after
 returns-then-is_empty-clause-looked_after c =
     let bs = c.args.begins.now in
-    let es = entries c.args.chains.now in
+    let es = entries c.args.chains.now.pages in
     let unclassified = no-versions (IsCollected bs es) c.self.inside.unclassified (eqb-true _ _ (sym c.if-is_empty.ensures)) in
     record {
       collected = λ zero. (

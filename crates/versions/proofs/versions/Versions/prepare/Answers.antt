@@ -13,12 +13,16 @@ use Rattle.versions.specs.Meaning.{IsSameMeaning}
 use Rattle.versions.specs.StandsFor.{StandForSame}
 
 -- room for the list and for the groups changes no chain, and the histories stay
-reserved : (old now inside new : ChainsValue) → AreRoomier old.chains now.chains → now.last ≡ old.last → now.groups ≡ old.groups → inside ≡ now
-    → new.chains ≡ inside.chains → new.last ≡ inside.last → new.groups ≡ inside.groups → IsSameMeaning old new × StandForSame old new
-reserved old now inside new more last groups view same last' groups' =
+reserved : (old now inside new : ChainsValue) → AreRoomier old.chains now.chains → now.last ≡ old.last → now.groups ≡ old.groups → now.held ≡ old.held
+    → inside ≡ now → new.chains ≡ inside.chains → new.last ≡ inside.last → new.groups ≡ inside.groups → new.held ≡ inside.held
+    → IsSameMeaning old new × StandForSame old new
+reserved old now inside new more last groups held view same last' groups' held' =
     let roomier = subst (AreRoomier old.chains) (sym (same ∙ ap (λ (v : ChainsValue). v.chains) view)) more in
-    let meaning = same-roomier old new roomier (last' ∙ ap (λ (v : ChainsValue). v.last) view ∙ last) in
-    (meaning, λ active base history. stands-same old active base history new meaning roomier (groups' ∙ ap (λ (v : ChainsValue). v.groups) view ∙ groups))
+    let meaning = same-roomier old new roomier (last' ∙ ap (λ (v : ChainsValue). v.last) view ∙ last) in (
+      meaning,
+      λ active base history. stands-same old active base history new meaning roomier (groups' ∙ ap (λ (v : ChainsValue). v.groups) view ∙ groups)
+          (held' ∙ ap (λ (v : ChainsValue). v.held) view ∙ held),
+    )
 
 pub loop-i-init : goal.loop-i-init
 loop-i-init c = search (rules, roomier-refl)
@@ -42,11 +46,13 @@ loop-i-preserved c =
       ◌∙◌,
       e.rooms,
       e.last,
+      e.held,
       e.groups,
       e.listed_spare,
       e.groups_spare,
       inv.pages,
       inv.last,
+      inv.held,
       inv.groups,
       inv.listed_spare,
       inv.groups_spare,
@@ -66,7 +72,7 @@ returns-in_err-make_room-clause-stands c = λ active base history.
     let more = c.make_room.ensures.roomier in
     stands-same c.args.self.now active base history _ (returns-in_err-make_room-clause-same c)
     (roomier-trans c.args.self.now.chains c.loop-i.self.chains c.make_room.new.self.chains c.loop-i.invariant.roomier more.chains)
-    (more.groups ∙ c.loop-i.invariant.groups)
+    (more.groups ∙ c.loop-i.invariant.groups) (more.held ∙ c.loop-i.invariant.held)
 
 pub returns-in_err-make_room-clause-known : goal.returns-in_err-make_room-clause-known
 returns-in_err-make_room-clause-known c = λ p.
@@ -84,34 +90,34 @@ returns-in_err-make_room-clause-known c = λ p.
 
 pub returns-in_err-reserve_list-clause-same : goal.returns-in_err-reserve_list-clause-same
 returns-in_err-reserve_list-clause-same c =
-    (reserved c.args.self.now c.loop-i.self _ _ c.loop-i.invariant.roomier c.loop-i.invariant.last c.loop-i.invariant.groups c.self.view_is refl
-    refl refl).0
+    (reserved c.args.self.now c.loop-i.self _ _ c.loop-i.invariant.roomier c.loop-i.invariant.last c.loop-i.invariant.groups
+    c.loop-i.invariant.held c.self.view_is refl refl refl refl).0
 
 pub returns-in_err-reserve_list-clause-stands : goal.returns-in_err-reserve_list-clause-stands
 returns-in_err-reserve_list-clause-stands c =
-    (reserved c.args.self.now c.loop-i.self _ _ c.loop-i.invariant.roomier c.loop-i.invariant.last c.loop-i.invariant.groups c.self.view_is refl
-    refl refl).1
+    (reserved c.args.self.now c.loop-i.self _ _ c.loop-i.invariant.roomier c.loop-i.invariant.last c.loop-i.invariant.groups
+    c.loop-i.invariant.held c.self.view_is refl refl refl refl).1
 
 pub returns-in_err-reserve-clause-same : goal.returns-in_err-reserve-clause-same
 returns-in_err-reserve-clause-same c =
-    (reserved c.args.self.now c.loop-i.self _ _ c.loop-i.invariant.roomier c.loop-i.invariant.last c.loop-i.invariant.groups c.self.view_is refl
-    refl c.reserve.ensures.items).0
+    (reserved c.args.self.now c.loop-i.self _ _ c.loop-i.invariant.roomier c.loop-i.invariant.last c.loop-i.invariant.groups
+    c.loop-i.invariant.held c.self.view_is refl refl c.reserve.ensures.items refl).0
 
 pub returns-in_err-reserve-clause-stands : goal.returns-in_err-reserve-clause-stands
 returns-in_err-reserve-clause-stands c =
-    (reserved c.args.self.now c.loop-i.self _ _ c.loop-i.invariant.roomier c.loop-i.invariant.last c.loop-i.invariant.groups c.self.view_is refl
-    refl c.reserve.ensures.items).1
+    (reserved c.args.self.now c.loop-i.self _ _ c.loop-i.invariant.roomier c.loop-i.invariant.last c.loop-i.invariant.groups
+    c.loop-i.invariant.held c.self.view_is refl refl c.reserve.ensures.items refl).1
 
 -- ---- all room is there
 
 pub returns-clause-same : goal.returns-clause-same
 returns-clause-same c = (reserved c.args.self.now c.loop-i.self _ _ c.loop-i.invariant.roomier c.loop-i.invariant.last c.loop-i.invariant.groups
-    c.self.view_is refl refl c.reserve.ensures.items).0
+    c.loop-i.invariant.held c.self.view_is refl refl c.reserve.ensures.items refl).0
 
 pub returns-clause-stands : goal.returns-clause-stands
 returns-clause-stands c =
-    (reserved c.args.self.now c.loop-i.self _ _ c.loop-i.invariant.roomier c.loop-i.invariant.last c.loop-i.invariant.groups c.self.view_is refl
-    refl c.reserve.ensures.items).1
+    (reserved c.args.self.now c.loop-i.self _ _ c.loop-i.invariant.roomier c.loop-i.invariant.last c.loop-i.invariant.groups
+    c.loop-i.invariant.held c.self.view_is refl refl c.reserve.ensures.items refl).1
 
 pub returns-clause-prepared : goal.returns-clause-prepared
 returns-clause-prepared c =

@@ -11,6 +11,7 @@ invariant-loop-i l = record {
   roomier : AreRoomier l.initial.self.chains l.self.chains;
   pages : (q : Bytes) → room_at q l.initial.self.pages ≤ room_at q l.self.pages;
   last : l.self.last ≡ l.initial.self.last;
+  held : l.self.held ≡ l.initial.self.held;
   groups : l.self.groups ≡ l.initial.self.groups;
   apart : AreApart l.initial.self.pages l.self.pages;
   prepared : (j : ℕ) → j < l.i → IsPlaced l.self.chains l.self.pages (drop j l.writes);

@@ -1,7 +1,12 @@
 use Rattle.versions.proofs.versions.Versions.reclaim.Goals as goal
-use Rattle.std.proofs.Common.{rules}
+use Rattle.std.proofs.Common.{◌≡◌, ℕ, Bool, false, arith}
+use Rattle.std.proofs.lemmas.Bool.Decides.{nat_tests}
+use Rattle.std.specs.Prelude.{nat_lt}
 use Rattle.versions.proofs.Histories.{stands-itself, stands-on, classified-on}
 use Rattle.versions.proofs.Stores.{seen-itself, seen-on, reclaimed-on}
+
+no_garbage : (r : Bool) (n : ℕ) → r ≡ nat_lt 0 n → r ≡ false → n ≡ 0
+no_garbage r n is none = grind (arith, nat_tests)
 
 pub steps-init : goal.steps-init
 steps-init c = record { seen = seen-itself c.args.self.now c.args.begins.now; stands = stands-itself c.args.begins.now c.args.self.now }
@@ -17,7 +22,8 @@ steps-preserved c =
 
 pub returns-clause-reclaimed : goal.returns-clause-reclaimed
 returns-clause-reclaimed c =
-    reclaimed-on c.args.self.now c.steps.self c.reclaim_step.new.self c.args.begins.now c.steps.invariant.seen (c.reclaim_step.ensures.all (search rules))
+    reclaimed-on c.args.self.now c.steps.self c.reclaim_step.new.self c.args.begins.now c.steps.invariant.seen
+    (c.reclaim_step.ensures.reclaimed.all (no_garbage _ _ c.reclaim_step.ensures.still c.steps-test.false))
 
 pub returns-clause-classified : goal.returns-clause-classified
 returns-clause-classified c =

@@ -1,15 +1,17 @@
 use Rattle.versions.proofs.versions.Versions.reclaim_step.Goals as goal
-use Rattle.std.proofs.Common.{ℕ, Bool, false, List, ◌≡◌, ◌-◌, ◌&&◌, subst, sym, ap, ◌∙◌, refl, arith}
-use Rattle.std.proofs.lemmas.Bool.Decides.{nat_tests}
-use Rattle.std.specs.Prelude.{nat_lt, option_map}
+use Rattle.std.proofs.Common.{ℕ, List, ◌≡◌, ◌-◌, ◌&&◌, subst, sym, ap, ◌∙◌, refl, arith}
+use Rattle.std.specs.Prelude.{option_map}
 use Rattle.model.specs.Map.{Bytes}
+use Rattle.sorted_pages.specs.Pages.{Page, PagesValue, entries}
 use Rattle.versions.proofs.Histories.{stands-reclaimed}
+use Rattle.versions.proofs.Pages.{held-known}
 use Rattle.versions.proofs.Stores.{reclaimed-part}
 use Rattle.versions.proofs.UnderPins.{groups-classified, under-reclaimed}
-use Rattle.versions.specs.Chains.{IsKept, find_chain, reclaimed, ChainsValue}
-use Rattle.versions.specs.Listings.{IsPartReclaimed}
-use Rattle.versions.specs.Meaning.{garbage_of, lists_a_step, IsReclaimedInPart, is_among}
+use Rattle.versions.specs.Chains.{ChainValue, IsKept, find_chain, reclaimed, ChainsValue}
+use Rattle.versions.specs.Listings.{IsAllReclaimed, IsPartReclaimed}
+use Rattle.versions.specs.Meaning.{garbage_of, lists_a_step, IsReclaimedInPart, is_among, is_known}
 use Rattle.versions.specs.Pins.{AreUnderPins}
+use Rattle.versions.specs.Reclaiming.{ReclaimsChains, ReclaimsPages}
 
 whole : (old inside new : ChainsValue) (bs : List ℕ) → inside ≡ old → IsKept inside.chains inside.last → IsKept new.chains new.last → new.last ≡ inside.last
     → garbage_of bs new ≡ garbage_of bs inside - lists_a_step → IsPartReclaimed bs inside.chains new.chains
@@ -17,10 +19,20 @@ whole : (old inside new : ChainsValue) (bs : List ℕ) → inside ≡ old → Is
 whole old inside new bs same kept kept' last garbage part all =
     subst (λ (v : ChainsValue). IsReclaimedInPart v new bs) same (reclaimed-part inside new bs kept kept' last garbage part all)
 
+-- what was done to the chains, as they were before the numbers were taken in
+since : (bs : List ℕ) (old mid new : PagesValue ChainValue) → mid.pages ≡ old.pages → ReclaimsPages bs mid new
+    → ReclaimsChains bs (entries old.pages) (entries new.pages)
+since bs old mid new same h = subst (λ (ps : List (Page ChainValue)). ReclaimsChains bs (entries ps) (entries new.pages)) same h.chains
+
+all_since : (bs : List ℕ) (old mid new : PagesValue ChainValue) → mid.pages ≡ old.pages → IsAllReclaimed bs (entries mid.pages) (entries new.pages)
+    → IsAllReclaimed bs (entries old.pages) (entries new.pages)
+all_since bs old mid new same h = subst (λ (ps : List (Page ChainValue)). IsAllReclaimed bs (entries ps) (entries new.pages)) same h
+
 pub invariant_of-self : goal.invariant_of-self
 invariant_of-self c =
-    let e = c.reclaim_versions.ensures in (
-      e.step.chains.kept c.self.inside.last c.self.invariant.0,
+    let e = c.reclaim_versions.ensures in
+    let chains = since c.args.begins.now c.self.inside.chains c.hold.new.self c.reclaim_versions.new.chains c.hold.ensures.pages e.step.pages in (
+      chains.kept c.self.inside.last c.self.invariant.0,
       e.groups.listed,
       c.self.invariant.2,
       record {
@@ -28,32 +40,36 @@ invariant_of-self c =
         ready = c.self.invariant.3.ready;
         fits = c.self.invariant.3.fits;
       },
+      omega (arith, e.step.pages.held.last, c.hold.ensures.last, c.self.invariant.4),
     )
 
 pub returns-clause-reclaimed : goal.returns-clause-reclaimed
 returns-clause-reclaimed c =
+    let bs = c.args.begins.now in
     let step = c.reclaim_versions.ensures.step in
-    whole c.args.self.now _ _ c.args.begins.now c.self.view_is c.self.invariant.0 (step.chains.kept c.self.inside.last c.self.invariant.0) refl
-    step.garbage step.chains.part step.all
-
-no_garbage : (r : Bool) (n : ℕ) → r ≡ nat_lt 0 n → r ≡ false → n ≡ 0
-no_garbage r n is none = grind (arith, nat_tests)
-
-pub returns-clause-all : goal.returns-clause-all
-returns-clause-all c = λ none. (returns-clause-reclaimed c).all (no_garbage _ _ c.reclaim_versions.ensures.still none)
+    let chains = since bs c.self.inside.chains c.hold.new.self c.reclaim_versions.new.chains c.hold.ensures.pages step.pages in
+    whole c.args.self.now _ _ bs c.self.view_is c.self.invariant.0 (chains.kept c.self.inside.last c.self.invariant.0) refl
+    step.garbage chains.part
+    (λ none. all_since bs c.self.inside.chains c.hold.new.self c.reclaim_versions.new.chains c.hold.ensures.pages (step.all none))
 
 pub returns-clause-stands : goal.returns-clause-stands
 returns-clause-stands c = λ active base history s.
+    let bs = c.args.begins.now in
     let e = c.reclaim_versions.ensures in
-    stands-reclaimed c.args.self.now active base history _ c.args.begins.now (returns-clause-reclaimed c).seen
-    (λ h. e.groups.each active (λ n. active n && is_among c.args.begins.now n) _ _ (under-reclaimed active c.args.begins.now _ _ e.step.chains.part refl)
+    let chains = since bs c.self.inside.chains c.hold.new.self c.reclaim_versions.new.chains c.hold.ensures.pages e.step.pages in
+    stands-reclaimed c.args.self.now active base history _ bs (returns-clause-reclaimed c).seen
+    (λ n t known. ap (λ l. is_among l n) e.step.pages.held.held
+    ∙ held-known bs c.self.inside.chains c.hold.new.self n c.self.inside.last c.hold.ensures.held c.self.invariant.4 t
+    (ap (is_known n) c.self.view_is ∙ known))
+    (λ h. e.groups.each active (λ n. active n && is_among bs n) _ _ (under-reclaimed active bs _ _ chains.part refl)
     (subst (λ (v : ChainsValue). AreUnderPins active v v.groups) (sym c.self.view_is) h)) s
 
 pub returns-clause-classified : goal.returns-clause-classified
 returns-clause-classified c = λ active base history s all.
     let bs = c.args.begins.now in
     let e = c.reclaim_versions.ensures in
+    let chains = since bs c.self.inside.chains c.hold.new.self c.reclaim_versions.new.chains c.hold.ensures.pages e.step.pages in
     groups-classified bs (λ n. active n && is_among bs n) _ c.self.inside.last
     (λ n t. ap (λ b. b && is_among bs n) (all n t)
-    ∙ t) (e.step.chains.kept c.self.inside.last c.self.invariant.0) c.reclaim_versions.new.groups.items
+    ∙ t) (chains.kept c.self.inside.last c.self.invariant.0) c.reclaim_versions.new.groups.items
     e.groups.active (returns-clause-stands c active base history s).pinned e.groups.unclassified e.groups.truly

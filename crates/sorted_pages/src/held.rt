@@ -1,0 +1,183 @@
+//! The numbers that are held: those at which readers began who may still ask. Each stands in a slot, and has the bit of that slot in what
+//! is known of a page.
+ghost use Rattle.std.specs.Prelude.{◌≡◌, ◌&&◌, ◌≤◌, ℕ, true, nat_le, nat_lt, false, if◌then◌else◌};
+ghost use Rattle.sorted_pages.specs.Held.{AreApart, AreBits, AreHeldFrom, AreHeldOf, IsHeldLate, IsReader, is_among};
+ghost use Rattle.sorted_pages.specs.Held.{with_number};
+ghost use Rattle.sorted_pages.specs.Summaries.{are_hidden};
+
+use crate::versioned::Versioned;
+use model::Key;
+use std::marker::Model;
+
+/// The most numbers that are held: a page has a bit for each.
+pub const HELD_MAX: usize = 64;
+
+// What stands in a slot of no number. No value changes with a number above it.
+const FREE: u64 = u64::MAX;
+
+// One who reads: the number at which it began, and the bit of its slot, or none where the number isn't held.
+#[derive(Clone, Copy)]
+pub(crate) struct Reader {
+    pub(crate) number: u64,
+    pub(crate) bit: u64,
+}
+
+// The numbers that are held, by their slots. A clause sees what stands in each slot.
+#[derive(Drop)]
+pub(crate) struct Held {
+    slots: [u64; HELD_MAX],
+}
+
+impl Model for Held {
+    ghost use Rattle.std.specs.Prelude.{ℕ, List};
+    ghost use Rattle.sorted_pages.specs.Held.{AreApart};
+
+    ghost Value = { List ℕ };
+
+    ghost view = { λ h. h.slots };
+
+    ghost invariant = { λ h. AreApart h.slots };
+}
+
+impl Held {
+    ghost use Rattle.std.specs.Prelude.{◌<◌, ◌==◌, IfSome, length, position};
+    ghost use Rattle.sorted_pages.specs.declared.held.TheConstants.{HELD_MAX};
+
+    // No number is held.
+    pub(crate) fn none() -> Held {
+        Held {
+            slots: [FREE; HELD_MAX],
+        }
+    }
+
+    // The first slot of the number.
+    fn slot_of(&self, number: u64) -> Option<usize>
+        ensures first { result ≡ position (λ n. n == number) self.now }
+        ensures within { IfSome result (λ slot. slot < HELD_MAX) }
+    {
+        self.slots.iter().position(|held| *held == number)
+    }
+
+    // One who began at the number.
+    pub(crate) fn reader(&self, number: u64) -> Reader
+        ensures number { result.number ≡ number }
+        ensures slot { IsReader self.now result }
+        ensures known { is_among self.now number ≡ true → 0 < result.bit }
+    {
+        let bit = match self.slot_of(number) {
+            Some(slot) => 1 << slot,
+            None => 0,
+        };
+        Reader { number, bit }
+    }
+
+    // The bits of the numbers from `low` on and below `high`.
+    pub(crate) fn bits_between(&self, low: u64, high: u64) -> u64
+        ensures bits { AreBits (λ n. nat_le low n && nat_lt n high) self.now result }
+        ensures places { length self.now ≡ HELD_MAX }
+    {
+        let mut bits = 0;
+        for slot in 0..HELD_MAX {
+            let number = self.slots[slot];
+            if is_between(number, low, high) {
+                bits |= 1 << slot;
+            }
+        }
+        bits
+    }
+
+    // The bits of the numbers below `high` that see nothing of the entries.
+    pub(crate) fn bits_hiding<V: Versioned>(&self, entries: &[(Key, V)], high: u64) -> u64
+        ensures { AreBits (λ n. nat_lt n high && are_hidden (V.hides n) entries.now) self.now result }
+    {
+        let mut bits = 0;
+        for slot in 0..HELD_MAX {
+            let number = self.slots[slot];
+            if hides_all_below(entries, number, high) {
+                bits |= 1 << slot;
+            }
+        }
+        bits
+    }
+
+    // Releases all numbers but these.
+    fn release_others(&mut self, numbers: &[u64])
+        ensures kept { AreHeldOf numbers.now self.old self.new }
+        ensures places { length self.new ≡ HELD_MAX }
+        ensures apart { AreApart self.new }
+    {
+        for slot in 0..HELD_MAX {
+            self.slots[slot] = kept(self.slots[slot], numbers);
+        }
+    }
+
+    // Holds the number, where a slot is free.
+    fn add(&mut self, number: u64)
+        requires { is_among self.old number ≡ false }
+        ensures { self.new ≡ with_number number self.old }
+    {
+        if let Some(slot) = self.slot_of(FREE) {
+            self.slots[slot] = number;
+        }
+    }
+
+    // Holds the number too, where it isn't below `last`.
+    fn add_late(&mut self, number: u64, last: u64)
+        ensures { IsHeldLate last number self.old self.new }
+    {
+        if number < last {
+            return;
+        }
+        match self.slot_of(number) {
+            Some(_) => {}
+            None => self.add(number),
+        }
+    }
+
+    // Holds these numbers alone: those that were held, and those that aren't below `last`.
+    pub(crate) fn hold(&mut self, numbers: &[u64], last: u64)
+        requires { length numbers.now ≤ HELD_MAX }
+        ensures slots { AreHeldFrom last self.old self.new }
+        ensures among { (n : ℕ) → is_among self.new n ≡ true → n < last → is_among numbers.now n ≡ true }
+        ensures held { (n : ℕ) → is_among numbers.now n ≡ true → n < last → is_among self.old n ≡ true
+            → is_among self.new n ≡ true }
+        ensures added { (n : ℕ) → is_among numbers.now n ≡ true → last ≤ n → is_among self.new n ≡ true }
+    {
+        self.release_others(numbers);
+        for number in numbers {
+            self.add_late(*number, last);
+        }
+    }
+}
+
+// What stands in the number's slot when only these are held.
+fn kept(number: u64, numbers: &[u64]) -> u64
+    ensures { result ≡ (if is_among numbers.now number then number else FREE) }
+{
+    if number == FREE || numbers.contains(&number) {
+        number
+    } else {
+        FREE
+    }
+}
+
+// Is the number at least `low`, and below `high`?
+fn is_between(number: u64, low: u64, high: u64) -> bool
+    ensures { result ≡ (nat_le low number && nat_lt number high) }
+{
+    low <= number && number < high
+}
+
+// Is the number below `high`, and does it see nothing of the entries?
+fn hides_all_below<V: Versioned>(entries: &[(Key, V)], number: u64, high: u64) -> bool
+    ensures { result ≡ (nat_lt number high && are_hidden (V.hides number) entries.now) }
+{
+    number < high && hides_all(entries, number)
+}
+
+// Does the number see nothing of the entries?
+fn hides_all<V: Versioned>(entries: &[(Key, V)], number: u64) -> bool
+    ensures { result ≡ are_hidden (V.hides number) entries.now }
+{
+    entries.iter().all(|entry| entry.1.hides(number))
+}
