@@ -27,6 +27,7 @@ QUEUE, STEP = 1_000, 32
 SMALL_COMMITS = 50
 # Transactions that write one key each: at most so many leave lists of older versions, so many follow, and so many are pipelined.
 SINGLE_WRITES, SAME_KEY, AT_ONCE = 20_000, 5_000, 20
+REFILLED, FRONT = 8, 50_000    # how often keys are deleted and set again, and how many but for the first time
 # In two scenes so many times as many keys are written. Of transactions of three requests a turn serves so many of a session.
 TIMES, THREES = 4, 21
 # So many clients read and so many write where a sync takes so long.
@@ -460,17 +461,21 @@ def half_deleted(options):
 
 
 def refilled(options):
-    """While an older transaction that sees all keys is open, one begins once they are deleted. It looks for the first of them when all are set again."""
-    keys = map_keys(scattered, 0, options.keys)
-    with Scene(options, options.keys, 2 * (options.keys // COMMIT_WRITES) + 8) as scene:
-        older, reader, client = scene.client(), scene.client(), scene.client()
+    """While an older transaction that sees all keys is open, one begins once they are deleted. It looks for the first of them when all are set again. So
+    do others, for each of whom the keys at the front were deleted and are set again once more."""
+    keys = sorted(map_keys(scattered, 0, options.keys))
+    front = keys[:FRONT]
+    with Scene(options, options.keys, 2 * (options.keys // COMMIT_WRITES + REFILLED * (len(front) // COMMIT_WRITES + 1)) + 8) as scene:
+        older, client, readers = scene.client(), scene.client(), [scene.client() for _ in range(REFILLED)]
         opened(older)
-        delete_all(client, keys)
-        reader.ask(BEGIN)
-        set_all(client, scattered, options.keys)
+        for reader, again in zip(readers, [keys] + [front] * (REFILLED - 1)):
+            delete_all(client, again)
+            reader.ask(BEGIN)
+            commit_ahead(client, again)
         with scene.part("ranges of 1 over keys that were deleted at the begin and are set again"):
-            reader.socket.sendall(AT_ONCE * frame(b"RANGE", b"0", b"g", b"1"))
-            if any(reader.reply() for _ in range(AT_ONCE)):
+            for reader, end in zip(readers, [b"g"] + [front[-1]] * (REFILLED - 1)):
+                reader.socket.sendall(AT_ONCE * frame(b"RANGE", b"0", end, b"1"))
+            if any(reader.reply() for reader in readers for _ in range(AT_ONCE)):
                 raise Failure("a range isn't empty")
     return scene
 
