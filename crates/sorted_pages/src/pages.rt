@@ -210,7 +210,7 @@ impl<V: Versioned + Drop> SortedPages<V> {
         ensures known { n ≤ room_at key.entry.bytes.now self.old.pages → IsOk result }
         ensures split { OnOk result
             (IsCrowded key.entry.bytes.now n self.old.pages
-                → SplitsPage key.entry.bytes.now self.old.pages self.new.pages) }
+            → SplitsPage key.entry.bytes.now self.old.pages self.new.pages) }
         ensures pages { MakesOnePage key.entry.bytes.now n self.old.pages self.new.pages }
     {
         changing::reserve(&mut self.pages, at, key, n)

@@ -98,8 +98,8 @@ fn collect_first(
     requires next { IfSome next (λ n. IsTrue (is_among begins.now n)) }
     ensures one { length lists.new ≡ 1 }
     ensures chains { ReclaimsPages begins.now chains.old chains.new }
-    ensures versions { DropsUnseen begins.now (entries chains.new.pages) (versions_in lists.old) (versions_in lists.new)
-        }
+    ensures versions { DropsUnseen begins.now (entries chains.new.pages)
+        (versions_in lists.old) (versions_in lists.new) }
 {
     match lists.front_mut() {
         Some(list) => drop_unseen(chains, list, begins, next),
@@ -119,8 +119,8 @@ fn collect_lists(
     ensures fewer { length lists.new ≤ length lists.old }
     ensures filled { ListsAreFilled lists.new }
     ensures chains { ReclaimsPages begins.now chains.old chains.new }
-    ensures versions { DropsUnseen begins.now (entries chains.new.pages) (versions_in lists.old) (versions_in lists.new)
-        }
+    ensures versions { DropsUnseen begins.now (entries chains.new.pages)
+        (versions_in lists.old) (versions_in lists.new) }
 {
     let alloc = *lists.allocator();
     let mut rest = mem::replace(lists, LinkedList::new(alloc));

@@ -21,7 +21,7 @@ mark_page-requires c =
     let r = c.args.range in
     let same = looked-rows t c.args.versions.now r c.new-pairs.result c.look.new.self _ _ c.look.ensures.writes c.look.ensures.pairs c.new-pairs.ensures
     (c.within-writes.ensures
-        ∙ ap (where_key (slice_cmp nat_cmp) (is_in_range (key_bytes r.lo) (end_bytes r.hi))) c.entries.ensures.writes) c.range.ensures.pairs in
+    ∙ ap (where_key (slice_cmp nat_cmp) (is_in_range (key_bytes r.lo) (end_bytes r.hi))) c.entries.ensures.writes) c.range.ensures.pairs in
     page_above t c.args.self.now c.args.versions.now r c.args.limit (merged_pairs c.look.new.self) c.self.view_is same
 
 -- as many pairs as were found are there still
@@ -37,7 +37,7 @@ returns-in-Ok c =
     let t : View = record { begin = c.self.inside.begin; writes = c.self.inside.buffer; marks = c.self.inside.marks } in
     let same = looked-rows t v r c.new-pairs.result c.look.new.self _ _ c.look.ensures.writes c.look.ensures.pairs c.new-pairs.ensures
     (c.within-writes.ensures
-        ∙ ap (where_key (slice_cmp nat_cmp) (is_in_range (key_bytes r.lo) (end_bytes r.hi))) c.entries.ensures.writes) c.range.ensures.pairs in
+    ∙ ap (where_key (slice_cmp nat_cmp) (is_in_range (key_bytes r.lo) (end_bytes r.hi))) c.entries.ensures.writes) c.range.ensures.pairs in
     let room = sym (page_now t now v r c.args.limit all c.self.view_is same is_full_for_page) ∙ room_of c.in-Ok.ensures.faults.full in
     let after = after_now t now v r c.args.limit all c.self.view_is same c.mark_page.new.marks c.in-Ok.ensures.ok in
     let page = c.new.ensures ∙ ap (λ n. take n all) c.in-Ok.ensures.len ∙ taken_length c.args.limit all in
@@ -62,7 +62,7 @@ returns-in-Err c =
     let t : View = record { begin = c.self.inside.begin; writes = c.self.inside.buffer; marks = c.self.inside.marks } in
     let same = looked-rows t v r c.new-pairs.result c.look.new.self _ _ c.look.ensures.writes c.look.ensures.pairs c.new-pairs.ensures
     (c.within-writes.ensures
-        ∙ ap (where_key (slice_cmp nat_cmp) (is_in_range (key_bytes r.lo) (end_bytes r.hi))) c.entries.ensures.writes) c.range.ensures.pairs in
+    ∙ ap (where_key (slice_cmp nat_cmp) (is_in_range (key_bytes r.lo) (end_bytes r.hi))) c.entries.ensures.writes) c.range.ensures.pairs in
     let faults = c.in-Err.ensures.faults in
     let full = subst (IsFullWhen {A = ℕ} (Err c.in-Err.fault)) (page_now t now v r c.args.limit all c.self.view_is same is_full_for_page) faults.full
     in (
