@@ -194,14 +194,16 @@ module _ {D : Type 0} {g : Ghosts D} (old new : Hub D g) (h : HubState) (e : Hub
         | inr y ↦ (_, y.2, inl (hub-failed h e n up stop, (y.0, y.1, refl)))
       ]
 
+  -- a store that was stopped is left alone, and another leaves what is found after the event
+  now_from : (b : Bool) → h.machine.stopped ≡ b → (c : List (List ℕ)) → g.may_leave (device new) c
+      → ((h.machine.stopped ≡ false) × HoldsFound h one (suc zero) c) ⊎ ((h.machine.stopped ≡ true) × g.may_leave (device old) c)
+  now_from false up c left = inl (up, now_after (hub_step h e n).0.machine.stopped refl up c left)
+  now_from true stop c left = inr (stop, subst (λ (d : D). g.may_leave d c) (steps.still (sym stands.engine.stopped ∙ stop)) left)
+
   pub one_event : Survives old new h one
-  one_event = grind (
-    arith,
-    common_steps,
-    weaker,
-    during,
-    steps.still,
-    steps.crash keeps h stands,
-    stands.engine.stopped,
-    now_after (hub_step h e n).0.machine.stopped refl,
-  )
+  one_event = record {
+    still = λ stop. steps.still (sym stands.engine.stopped ∙ stop);
+    leaves = λ up. weaker g.moment g.left_since (device old) (device new) (HoldsBeforeOrAfter h e) (HoldsFound h one zero) during
+        (steps.crash keeps h stands up);
+    now = now_from h.machine.stopped refl;
+  }

@@ -1,4 +1,6 @@
 //! Pages of entries: what a range yields to numbers that are held and to others, and of how many values it asks.
+ghost use Rattle.std.specs.Prelude.{◌≡◌, ◌==◌};
+
 use crate::helpers::key;
 use model::{Key, KeyRef, RangeRef};
 use sorted_pages::{SortedPages, Versioned};
@@ -26,18 +28,18 @@ struct Watched<'a> {
 }
 
 impl Watched<'_> {
-    ghost use Rattle.std.specs.Prelude.{◌≡◌, bool_eq};
+    ghost use Rattle.std.specs.Prelude.{◌≡◌, not, if◌then◌else◌};
 
     // Is there room for a change more?
     fn has_room(&self) -> bool
-        ensures { result ≡ bool_eq self.now.was self.now.did }
+        ensures { result ≡ (if self.now.was then self.now.did else not self.now.did) }
     {
-        self.was == self.did
+        if self.was { self.did } else { !self.did }
     }
 }
 
 impl Versioned for Watched<'_> {
-    ghost use Rattle.std.specs.Prelude.{◌≡◌, ◌&&◌, ◌==◌, nat_le, false, not, if◌then◌else◌, bool_eq};
+    ghost use Rattle.std.specs.Prelude.{◌≡◌, nat_le, false, not, if◌then◌else◌};
 
     type Version = Change;
 
@@ -51,7 +53,7 @@ impl Versioned for Watched<'_> {
       shows = c.shows;
     } };
 
-    ghost room = { λ v. if bool_eq v.was v.did then 1 else 0 };
+    ghost room = { λ v. if (if v.was then v.did else not v.did) then 1 else 0 };
 
     ghost is_roomier = { λ old new. new ≡ old };
 
@@ -107,19 +109,26 @@ impl Versioned for Watched<'_> {
         self.second
     }
 
-    fn change_number(version: &Change) -> u64 {
+    fn change_number(version: &Change) -> u64
+        ensures { result ≡ version.now.number }
+    {
         version.number
     }
 }
 
 // A value that numbers from this one on see.
-fn set_at(number: u64, asked: &Cell<u64>) -> Watched<'_> {
+fn set_at(number: u64, asked: &Cell<u64>) -> Watched<'_>
+    ensures first { result.first ≡ number }
+    ensures second { result.second ≡ number }
+    ensures was { result.was ≡ (number == 0) }
+{
+    let to_all = number == 0;
     Watched {
         asked,
         first: number,
         second: number,
-        was: false,
-        did: false,
+        was: to_all,
+        did: to_all,
         shows: true,
     }
 }
@@ -280,7 +289,7 @@ fn a_range_ends_at_the_page_of_its_end(rt: HostRuntime) {
     change_one(&rt, &mut pages, b"\x04\0", 6, true);
     assert!(rt; looks(&pages, 6, &asked) == (1, true));
     assert!(rt; looks_up_to(&pages, Some(key(b"\0\x01")), 6, &asked) == (0, false));
-    assert!(rt; looks_up_to(&pages, Some(key(b"\x04\0")), 6, &asked) == (0, false));
+    assert!(rt; looks_up_to(&pages, Some(key(b"\x04\0")), 6, &asked) == (1, false));
     assert!(rt; looks_up_to(&pages, Some(key(b"\x05\0")), 6, &asked) == (1, true));
 }
 
@@ -306,13 +315,17 @@ fn a_value_without_room_is_refused_it(rt: HostRuntime) {
     let asked = Cell::new(0);
     let mut pages = filled(&rt, &asked);
     change_one(&rt, &mut pages, b"\0\0", 5, false);
+    change_one(&rt, &mut pages, b"\0\0", 9, true);
     let at = key(b"\0\0");
     match pages.find(at) {
         Ok(place) => {
             assert!(rt; pages.reserve_value(place, at).is_err());
-            assert!(rt; !pages.value(place, at).hides(4) && pages.value(place, at).hides(5));
         }
         Err(_) => panic!(rt; "a key is missing"),
+    }
+    match pages.get(at) {
+        Some(value) => assert!(rt; !value.hides(4) && value.hides(5) && !value.hides(9)),
+        None => panic!(rt; "a key is missing"),
     }
 }
 
