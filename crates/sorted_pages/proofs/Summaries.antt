@@ -1,16 +1,17 @@
 -- The summaries of pages: what changes of pages leave of them.
 use Rattle.std.proofs.Common.{◌≡◌, ℕ, ◌+◌, ◌<◌, ◌≤◌, Bool, true, false, List, [], ◌∷◌, ◌++◌, length, take, drop}
 use Rattle.std.proofs.Common.{get_or, set, refl, sym, ap, subst, ◌∙◌, arith, zero, suc, max, inl, inr}
-use Rattle.std.proofs.lemmas.Bool.{lt-ltb}
+use Rattle.std.proofs.lemmas.Bool.{and_from, and_parts, lt-ltb}
+use Rattle.std.specs.Int.{bit_at}
 use Rattle.std.proofs.lemmas.List.{length-append, length-set, take-append-drop}
 use Rattle.std.proofs.lemmas.List.Edits.{length-insert}
 use Rattle.std.specs.List.{AllByRecursion, insert}
-use Rattle.std.specs.Prelude.{nat_lt, not, ◌&&◌, ◌||◌}
+use Rattle.std.specs.Prelude.{nat_lt, not, slice_get, ◌&&◌, ◌||◌, Some}
 use Rattle.model.proofs.Elements.{all-append, all-back, all-each, all-get, all-set, all-take}
 use Rattle.model.specs.Map.{Bytes}
 use Rattle.sorted_pages.specs.Held.{AreBits, AreHeldFrom, bit_of}
 use Rattle.sorted_pages.specs.Pages.{Page, PagesValue}
-use Rattle.sorted_pages.specs.Summaries.{AreOver, AreSummaries, HaveSummaries, IsRaised, IsSummary}
+use Rattle.sorted_pages.specs.Summaries.{AreOver, AreSummaries, BitsHide, HaveSummaries, IsRaised, IsSummary}
 use Rattle.sorted_pages.specs.Summaries.{RaisesSummaries, are_hidden, is_any_shown}
 use Rattle.sorted_pages.specs.Values.{IsOver}
 use Rattle.sorted_pages.specs.declared.summary.Summary.{Summary}
@@ -32,6 +33,26 @@ module _ {X : Type 0} (hides : ℕ → X → Bool) (shows : X → Bool) (last : 
   pub over-drop : (k at : ℕ) (es : List (Bytes × X)) → AreOver hides shows last k es → AreOver hides shows last k (drop at es)
   over-drop k at es h = all-back (λ e. IsOver hides shows last k e.1) (take at es) (drop at es)
       (subst (AreOver hides shows last k) (sym (take-append-drop at es)) h)
+
+  hidden-front : (h : X → Bool) (xs ys : List (Bytes × X)) → are_hidden h (xs ++ ys) ≡ true → are_hidden h xs ≡ true × are_hidden h ys ≡ true
+  hidden-front h [] ys t = (refl, t)
+  hidden-front h (x ∷ xs) ys t =
+      let p = and_parts (h x.1) (are_hidden h (xs ++ ys)) t in
+      let q = hidden-front h xs ys p.1 in
+      (and_from (h x.1) (are_hidden h xs) p.0 q.0, q.1)
+
+  set_bit : (b : Bool) → bit_of b ≡ 1 → b ≡ true
+  set_bit true e = refl
+  set_bit false e = absurd (omega arith)
+
+  -- what sees nothing of entries sees nothing of their parts
+  pub hidden-parts : (held : List ℕ) (es : List (Bytes × X)) (s : Summary) (at : ℕ) → IsSummary hides shows last held es s
+      → BitsHide hides held s.last (take at es) s.hidden × BitsHide hides held s.last (drop at es) s.hidden
+  hidden-parts held es s at is =
+      let both = λ (i m : ℕ) (there : slice_get held i ≡ Some m) (lt : m < s.last) (bit : bit_at s.hidden i ≡ 1).
+      hidden-front (hides m) (take at es) (drop at es)
+      (ap (are_hidden (hides m)) (take-append-drop at es) ∙ set_bit (are_hidden (hides m) es) (sym (is.before i m there lt) ∙ bit)) in
+      (λ i m there lt bit. (both i m there lt bit).0, λ i m there lt bit. (both i m there lt bit).1)
 
   -- what `of` gives
   pub summary-of : (held : List ℕ) (es : List (Bytes × X)) (s : Summary) → AreOver hides shows last s.last es → s.shows ≡ is_any_shown shows es

@@ -15,6 +15,11 @@ use Rattle.sorted_pages.specs.declared.summary.Summary.{Summary}
 abbrev pub are_hidden : {X : Type 0} → (X → Bool) → List (Bytes × X) → Bool
 are_hidden hides es = list_all (λ e. hides e.1) es
 
+-- the held numbers below n whose bits are set see nothing of the entries
+abbrev pub BitsHide : {X : Type 0} → (ℕ → X → Bool) → List ℕ → ℕ → List (Bytes × X) → ℕ → Type 0
+BitsHide hides held n es bits = (i m : ℕ) → slice_get held i ≡ Some m → m < n → bit_at bits i ≡ 1
+    → are_hidden (hides m) es ≡ true
+
 -- one of the values shows
 abbrev pub is_any_shown : {X : Type 0} → (X → Bool) → List (Bytes × X) → Bool
 is_any_shown shows es = list_any (λ e. shows e.1) es

@@ -1,9 +1,10 @@
 //! The numbers that are held: those at which readers began who may still ask. Each stands in a slot, and has the bit of that slot in what
 //! is known of a page.
-ghost use Rattle.std.specs.Prelude.{◌≡◌, ◌&&◌, ◌≤◌, ℕ, true, nat_le, nat_lt, false, if◌then◌else◌};
+ghost use Rattle.std.specs.Prelude.{◌≡◌, ◌==◌, ◌&&◌, ◌≤◌, ◌<◌, ℕ, true, nat_le, nat_lt, false, if◌then◌else◌};
 ghost use Rattle.sorted_pages.specs.Held.{AreApart, AreBits, AreHeldFrom, AreHeldOf, IsHeldLate, IsReader, is_among};
 ghost use Rattle.sorted_pages.specs.Held.{with_number};
-ghost use Rattle.sorted_pages.specs.Summaries.{are_hidden};
+ghost use Rattle.std.specs.Int.{bit_at};
+ghost use Rattle.sorted_pages.specs.Summaries.{BitsHide, are_hidden};
 
 use crate::versioned::Versioned;
 use model::Key;
@@ -86,14 +87,21 @@ impl Held {
         bits
     }
 
-    // The bits of the numbers below `high` that see nothing of the entries.
-    pub(crate) fn bits_hiding<V: Versioned>(&self, entries: &[(Key, V)], high: u64) -> u64
+    // The bits of the numbers below `high` that see nothing of the entries. Of those whose bits are in `known` none is asked, since they
+    // see nothing.
+    pub(crate) fn bits_hiding<V: Versioned>(
+        &self,
+        entries: &[(Key, V)],
+        high: u64,
+        known: u64,
+    ) -> u64
+        requires { BitsHide V.hides self.now high entries.now known }
         ensures { AreBits (λ n. nat_lt n high && are_hidden (V.hides n) entries.now) self.now result }
     {
         let mut bits = 0;
         for slot in 0..HELD_MAX {
             let number = self.slots[slot];
-            if hides_all_below(entries, number, high) {
+            if is_hidden(entries, number, high, has_bit(known, slot)) {
                 bits |= 1 << slot;
             }
         }
@@ -168,11 +176,20 @@ fn is_between(number: u64, low: u64, high: u64) -> bool
     low <= number && number < high
 }
 
-// Is the number below `high`, and does it see nothing of the entries?
-fn hides_all_below<V: Versioned>(entries: &[(Key, V)], number: u64, high: u64) -> bool
+// Is the bit of this slot among these?
+fn has_bit(bits: u64, slot: usize) -> bool
+    requires { slot < HELD_MAX }
+    ensures { result ≡ (bit_at bits slot == 1) }
+{
+    (bits >> slot) % 2 == 1
+}
+
+// Is the number below `high`, and does it see nothing of the entries? It isn't asked where that is known.
+fn is_hidden<V: Versioned>(entries: &[(Key, V)], number: u64, high: u64, known: bool) -> bool
+    requires { known ≡ true → number < high → are_hidden (V.hides number) entries.now ≡ true }
     ensures { result ≡ (nat_lt number high && are_hidden (V.hides number) entries.now) }
 {
-    number < high && hides_all(entries, number)
+    number < high && (known || hides_all(entries, number))
 }
 
 // Does the number see nothing of the entries?

@@ -218,7 +218,7 @@ impl<V: Versioned + Drop> PageList<V> {
         ensures refused { OnErr result (KeepsHeld self.old self.new) }
     {
         self.summaries.reserve(1)?;
-        let summary = Summary::of(&self.held, &page, number);
+        let summary = Summary::of(&self.held, &page, number, 0);
         self.pages.push(page)?;
         self.summaries.push_reserved(summary);
         self.last = number;
@@ -236,10 +236,11 @@ impl<V: Versioned + Drop> PageList<V> {
     {
         self.summaries.reserve(1)?;
         self.pages.reserve(1)?;
-        let last = self.summaries[i].last;
+        // What sees nothing of the page sees nothing of its parts.
+        let Summary { last, hidden, .. } = self.summaries[i];
         let upper = self.pages[i].split_off(at, n)?;
-        self.summaries[i] = Summary::of(&self.held, &self.pages[i], last);
-        let summary = Summary::of(&self.held, &upper, last);
+        self.summaries[i] = Summary::of(&self.held, &self.pages[i], last, hidden);
+        let summary = Summary::of(&self.held, &upper, last, hidden);
         match self.pages.insert(i + 1, upper) {
             Ok(()) => {}
             Err(_) => unreachable!(),

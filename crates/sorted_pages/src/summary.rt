@@ -1,6 +1,6 @@
 //! The summary of a page: which of the numbers that may ask see nothing of it.
 ghost use Rattle.std.specs.Prelude.{◌≡◌, max};
-ghost use Rattle.sorted_pages.specs.Summaries.{AreOver, IsRaised, IsSummary, is_passed};
+ghost use Rattle.sorted_pages.specs.Summaries.{AreOver, BitsHide, IsRaised, IsSummary, is_passed};
 
 use crate::held::{Held, Reader};
 use crate::page::Page;
@@ -16,16 +16,18 @@ pub(crate) struct Summary {
 }
 
 impl Summary {
-    // The summary of a page, of whose values none has changed after the number.
-    pub(crate) fn of<V: Versioned>(held: &Held, page: &Page<V>, last: u64) -> Summary
-        requires { AreOver V.hides V.shows V.last last page.now.0 }
+    // The summary of a page, of whose values none has changed after the number `last`. The numbers below it whose bits are in `known` see
+    // nothing of the page.
+    pub(crate) fn of<V: Versioned>(held: &Held, page: &Page<V>, last: u64, known: u64) -> Summary
+        requires over { AreOver V.hides V.shows V.last last page.now.0 }
+        requires known { BitsHide V.hides held.now last page.now.0 known }
         ensures summary { IsSummary V.hides V.shows V.last held.now page.now.0 result }
         ensures last { result.last ≡ last }
     {
         Summary {
             last,
             shows: page.shows(),
-            hidden: held.bits_hiding(page.entries(), last),
+            hidden: held.bits_hiding(page.entries(), last, known),
         }
     }
 

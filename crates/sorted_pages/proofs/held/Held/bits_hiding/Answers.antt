@@ -3,15 +3,15 @@ use Rattle.std.specs.Prelude.{nat_lt, ◌&&◌}
 use Rattle.sorted_pages.proofs.Slots.{AreBitsTo, bits-all, bits-left, bits-set}
 use Rattle.sorted_pages.specs.Held.{AreBits}
 use Rattle.sorted_pages.specs.Summaries.{are_hidden}
-use Rattle.sorted_pages.proofs.held.Held.bits_hiding.Goals.{then-hides_all_below, else-hides_all_below}
+use Rattle.sorted_pages.proofs.held.Held.bits_hiding.Goals.{then-is_hidden, else-is_hidden}
 use Rattle.sorted_pages.proofs.held.Held.bits_hiding.Goals as goal
 
 pub loop-slot-preserved : goal.loop-slot-preserved
-loop-slot-preserved g c = elim c.if-hides_all_below.branch [
-  | then-hides_all_below w ↦ subst (AreBitsTo _ _ _) (sym w.bits-is)
-      (bits-set _ _ _ _ 0 c.loop-slot.invariant (omega arith) (omega arith) (sym c.hides_all_below.ensures ∙ w.if-hides_all_below.true))
-  | else-hides_all_below w ↦ subst (AreBitsTo _ _ _) (sym w.bits-is)
-      (bits-left _ _ _ _ 0 c.loop-slot.invariant (omega arith) (sym c.hides_all_below.ensures ∙ w.if-hides_all_below.false))
+loop-slot-preserved g c = elim c.if-is_hidden.branch [
+  | then-is_hidden w ↦ subst (AreBitsTo _ _ _) (sym w.bits-is)
+      (bits-set _ _ _ _ 0 c.loop-slot.invariant (omega arith) (omega arith) (sym c.is_hidden.ensures ∙ w.if-is_hidden.true))
+  | else-is_hidden w ↦ subst (AreBitsTo _ _ _) (sym w.bits-is)
+      (bits-left _ _ _ _ 0 c.loop-slot.invariant (omega arith) (sym c.is_hidden.ensures ∙ w.if-is_hidden.false))
 ]
 
 pub returns : goal.returns

@@ -1,7 +1,7 @@
 use Rattle.std.proofs.Common.{◌≡◌, ◌∙◌, ◌+◌, ◌<◌, List, ap, arith, drop, get_or, length, set, subst, sym, take}
 use Rattle.std.proofs.lemmas.List.{get_or_default, get_or-set_same}
 use Rattle.std.specs.List.{insert}
-use Rattle.sorted_pages.proofs.Summaries.{have-read, have-split, over-drop, over-take}
+use Rattle.sorted_pages.proofs.Summaries.{have-read, have-split, hidden-parts, over-drop, over-take}
 use Rattle.sorted_pages.specs.Pages.{Page, PagesValue}
 use Rattle.sorted_pages.specs.Rooms.{HasRoomFor}
 use Rattle.sorted_pages.specs.Summaries.{IsSummary}
@@ -20,7 +20,11 @@ of-requires g c =
     let read : c.index-2.result.now ≡ lower =
     c.index-2.ensures ∙ get_or-set_same c.reserve-2.new.self.items c.args.i lower c.index-2.result.now
     (subst (λ (l : List (Page g.row.V.Denot)). c.args.i < length l) (sym c.in_ok-reserve-2.ensures.items) within) in
-    rw (read, c.in_ok-upper.ensures.lower.entries) (over-take v.hides v.shows v.last c.index.result.now.last c.args.at old.0 known.0.over)
+    let parts = hidden-parts v.hides v.shows v.last s.held old.0 c.index.result.now c.args.at known.0 in
+    rw (read, c.in_ok-upper.ensures.lower.entries) (record {
+      over = over-take v.hides v.shows v.last c.index.result.now.last c.args.at old.0 known.0.over;
+      known = parts.0;
+    })
 
 pub of-summary-requires : goal.of-summary-requires
 of-summary-requires g c =
@@ -31,7 +35,11 @@ of-summary-requires g c =
     let known = have-read v.hides v.shows v.last s.pages.items s.held s.last s.summaries.items c.self.invariant c.reserve-2.new.self.items
     c.reserve.new.self.items c.args.i old c.index.result.now c.in_ok-reserve-2.ensures.items c.in_ok-reserve.ensures.items within
     c.index_mut.ensures.value c.index.ensures in
-    rw c.in_ok-upper.ensures.upper.entries (over-drop v.hides v.shows v.last c.index.result.now.last c.args.at old.0 known.0.over)
+    let parts = hidden-parts v.hides v.shows v.last s.held old.0 c.index.result.now c.args.at known.0 in
+    rw c.in_ok-upper.ensures.upper.entries (record {
+      over = over-drop v.hides v.shows v.last c.index.result.now.last c.args.at old.0 known.0.over;
+      known = parts.1;
+    })
 
 pub invariant_of-self-2 : goal.invariant_of-self-2
 invariant_of-self-2 g c =
