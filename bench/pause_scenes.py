@@ -189,6 +189,10 @@ class Scene:
         while self.turns.count() < before + 2:
             self.watcher.ask(PING)
 
+    def descriptors(self):
+        """How many the server has open, each connection among them."""
+        return len(os.listdir(f"/proc/{self.store.process.pid}/fd"))
+
     def wait_until_idle(self):
         """Waits for a poll that was to wait, since the figures began: the turns have freed what no transaction needs."""
         while not self.turns.is_idle():
@@ -592,6 +596,8 @@ def coming_and_going(options):
     with Scene(options, options.keys, 8) as scene:
         # The one that sends PING and the one that waits for turns are there too.
         others = SESSIONS - 2
+        scene.settle()
+        alone = scene.descriptors()
         with scene.part("128 connections coming and going"):
             end = time.monotonic() + options.seconds
             while time.monotonic() < end:
@@ -601,8 +607,9 @@ def coming_and_going(options):
                 for client in some:
                     client.reply()
                     client.socket.close()
-                # The server has seen them leave, so that no newcomer is one too many.
-                scene.settle()
+                # The server has seen all of them leave, so that no newcomer is one too many.
+                while scene.descriptors() > alone:
+                    scene.settle()
     return scene
 
 
