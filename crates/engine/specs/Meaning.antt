@@ -129,6 +129,10 @@ has_engine_written e s = has_writes (entry_of s e)
 abbrev pub engine_records : {D : Type 0} {g : Ghosts D} → Engine D g → ℕ
 engine_records e = record_count e.log
 
+-- how many pages its ranges have looked at
+abbrev pub pages_looked_at : {D : Type 0} {g : Ghosts D} → Engine D g → ℕ
+pages_looked_at e = e.pages_looked_at
+
 -- the versions that are kept, and what is kept to check later commits
 abbrev pub versions_of : {D : Type 0} {g : Ghosts D} → Engine D g → ChainsValue
 versions_of e = e.history.versions

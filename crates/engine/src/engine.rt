@@ -28,6 +28,8 @@ pub struct Engine<D: Sectors> {
     pub(crate) history: History,
     pub(crate) running: BTreeMap<u64, Transaction>,
     pub(crate) alloc: Global,
+    /// How many pages its ranges have looked at.
+    pub(crate) pages_looked_at: u64,
 }
 
 impl<D: Sectors> Engine<D> {
@@ -45,6 +47,7 @@ impl<D: Sectors> Engine<D> {
     ghost use Rattle.engine.specs.Recovery.{LeavesCommitted};
     ghost use Rattle.engine.specs.Meaning.{StandsFor, Leads, IsReadOnly, KeepsStates, response_to, device_of, log_of};
     ghost use Rattle.engine.specs.Meaning.{has_engine_stopped, has_engine_written, engine_records, versions_of};
+    ghost use Rattle.engine.specs.Meaning.{pages_looked_at};
     ghost use Rattle.engine.specs.Meaning.{committed_of, facts_of, open_begins, HasForgottenOld};
 
     /// Begins a transaction of the session, over the map that is committed now.
@@ -222,6 +225,14 @@ impl<D: Sectors> Engine<D> {
         self.log.records()
     }
 
+    /// How many pages of keys its ranges have looked at since it was opened, behind the first of each range: what a range costs beside the
+    /// pairs that it gives. It stays at 2^64 - 1. Takes no memory.
+    pub fn pages_looked_at(&self) -> u64
+        ensures { result ≡ pages_looked_at self.now }
+    {
+        self.pages_looked_at
+    }
+
     /// How many versions of the key are kept. Takes no memory.
     pub fn kept_versions(&self, key: KeyRef<'_>) -> usize
         ensures { result ≡ versions_kept (versions_of self.now) key.entry.bytes.now }
@@ -253,6 +264,7 @@ impl<D: Sectors> Engine<D> {
             history: _,
             running: _,
             alloc: _,
+            pages_looked_at: _,
         } = self;
         log.into_device()
     }

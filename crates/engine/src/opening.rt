@@ -41,6 +41,7 @@ impl<D: Sectors> Engine<D> {
                 history,
                 running: BTreeMap::new(alloc),
                 alloc,
+                pages_looked_at: 0,
             }),
             Err(_) => Err(Unopened {
                 fault: LogFault::Memory,

@@ -11,7 +11,7 @@ use Rattle.commit_log.specs.LogState.{sync_count}
 use Rattle.commit_log.specs.declared.faults.Unopened.{Unopened}
 use Rattle.commit_log.specs.declared.log.Log.{Log}
 use Rattle.engine.specs.Meaning.{StandsFor as EngineStandsFor, device_of, failures_of, has_engine_stopped}
-use Rattle.engine.specs.Meaning.{has_engine_written, log_of, engine_records}
+use Rattle.engine.specs.Meaning.{has_engine_written, log_of, engine_records, pages_looked_at}
 use Rattle.sessions.specs.Calls.{is_memory, has_failed}
 use Rattle.sessions.specs.SessionStreams.{Status, Outcome, HubState, SessionState, SessionStream, HubEvent, Joins}
 use Rattle.sessions.specs.SessionStreams.{Receives, Serves, Sends, Leaves, Choice, IsPossible, hub_step, room}
@@ -70,6 +70,10 @@ has_written hub s = has_engine_written hub.engine s
 -- how many records the log of the hub's engine has
 abbrev pub records_of : {D : Type 0} {g : Ghosts D} → Hub D g → ℕ
 records_of hub = engine_records hub.engine
+
+-- how many pages the ranges of its sessions have looked at
+abbrev pub pages_looked_at_of : {D : Type 0} {g : Ghosts D} → Hub D g → ℕ
+pages_looked_at_of hub = pages_looked_at hub.engine
 
 -- The event serves a request of a session whose transaction has written, and adds one record to the log. The session's
 -- transaction has then ended: it has none that has written.

@@ -14,6 +14,7 @@ ghost use Rattle.sessions.specs.Readings.{RunsHaveOneReading};
 ghost use Rattle.sessions.specs.SessionStreams.{HubState, is_above, hub_over, Joins, Receives, Serves, Sends, Leaves};
 ghost use Rattle.sessions.specs.StandsFor.{HubLeads, StandsFor, event_of, status_of, room_of, pending_of, device};
 ghost use Rattle.sessions.specs.StandsFor.{AsksDevice, CountsRecords, failures, has_written, log, records_of};
+ghost use Rattle.sessions.specs.StandsFor.{pages_looked_at_of};
 
 use crate::events::{Event, Outcome, SESSIONS_MAX, SessionView, Status};
 use crate::present::Present;
@@ -136,6 +137,14 @@ impl<D: Sectors> Hub<D> {
         ensures { result ≡ records_of self.now }
     {
         self.engine.records()
+    }
+
+    /// How many pages of keys the ranges of its sessions have looked at since the store was opened (`Engine::pages_looked_at`). Takes no
+    /// memory.
+    pub fn pages_looked_at(&self) -> u64
+        ensures { result ≡ pages_looked_at_of self.now }
+    {
+        self.engine.pages_looked_at()
     }
 
     /// The device of the engine, lent. Takes no memory.
