@@ -734,19 +734,44 @@ def old_commits(options):
     return scene
 
 
-def sparse_ranges(options):
+def few_are_left(options, client):
+    """Of all keys, by rising order, one in so many stays."""
     keys = sorted(map(scattered, range(options.keys)))
+    delete_all(client, [key for number, key in enumerate(keys) if number % LEFT_ONE_IN])
+
+
+def ask_for_few(options, scene, clients, before):
+    """Each asks in one piece for the pairs of the keys that were left, again and again, and all of them stand ready in one turn."""
+    with scene.stopped():
+        for client in clients:
+            client.socket.sendall(before + THREES * frame(b"RANGE", b"0", b"g", b"%d" % PAIRS) + COMMIT)
+    for client in clients:
+        replies = [client.reply() for _ in range(before.count(BEGIN) + THREES + 1)]
+        if len(replies[-2]) != 2 * min(PAIRS, -(-options.keys // LEFT_ONE_IN)):
+            raise Failure("a range has other keys than were left")
+
+
+def sparse_ranges(options):
     with Scene(options, options.keys, options.keys // COMMIT_WRITES + 8) as scene:
-        delete_all(scene.client(), [key for number, key in enumerate(keys) if number % LEFT_ONE_IN])
+        few_are_left(options, scene.client())
         clients = [scene.client() for _ in range(FLOODING)]
         scene.settle()
         with scene.part("60 clients with 21 RANGEs of 128 over keys of which one in 384 is left, all in one turn"):
-            with scene.stopped():
-                for client in clients:
-                    client.socket.sendall(BEGIN + THREES * frame(b"RANGE", b"0", b"g", b"%d" % PAIRS) + COMMIT)
-            for client in clients:
-                if len([client.reply() for _ in range(THREES + 2)][1]) != 2 * min(PAIRS, -(-options.keys // LEFT_ONE_IN)):
-                    raise Failure("a range has other keys than were left")
+            ask_for_few(options, scene, clients, BEGIN)
+    return scene
+
+
+def old_sparse_ranges(options):
+    """The readers began when few were left. The keys are there again, and none of these shows them."""
+    with Scene(options, options.keys, 2 * options.keys // COMMIT_WRITES + 16) as scene:
+        few_are_left(options, scene.client())
+        clients = [scene.client() for _ in range(FLOODING)]
+        for client in clients:
+            client.ask(BEGIN)
+        set_all(scene.client(), scattered, options.keys)
+        scene.settle()
+        with scene.part("60 clients with 21 RANGEs of 128 of which each sees one key in 384, the others set again since, all in one turn"):
+            ask_for_few(options, scene, clients, b"")
     return scene
 
 
@@ -756,7 +781,7 @@ SCENES = {
     "largest_ranges": largest_ranges, "middle_ranges": middle_ranges, "coming_and_going": coming_and_going,
     "first_long_reply": first_long_reply, "beside_writers": beside_writers, "whole_transactions": whole_transactions,
 }
-CROWDS = {"large_commits": large_commits, "old_commits": old_commits, "sparse_ranges": sparse_ranges}
+CROWDS = {"large_commits": large_commits, "old_commits": old_commits, "sparse_ranges": sparse_ranges, "old_sparse_ranges": old_sparse_ranges}
 # One that lasts.
 AGAIN = {"random_again": random_again}
 
