@@ -4,3 +4,5 @@ pub mod MadeRuns
 pub mod Moves
 pub mod NextNumbers
 mod SweptRuns
+pub mod RunsAtRest
+mod Examples

@@ -1,4 +1,5 @@
 -- What contracts say of runs that are merged.
+pub mod AtRest
 pub mod Contents
 pub mod MadeRuns
 pub mod Next

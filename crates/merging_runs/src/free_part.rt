@@ -1,9 +1,6 @@
 //! Frees elements in bounded steps, since each may have memory of its own.
 ghost use Rattle.std.specs.Prelude.{◌≡◌, ◌≤◌, ◌<◌, ◌+◌, ℕ};
 ghost use Rattle.std.specs.Vec.{vec_len};
-ghost use Rattle.std.specs.VecDeque.{deque_len};
-
-use std::collections::VecDeque;
 
 /// Elements of which nothing is asked any more. Each may have memory of its own, so that they aren't dropped at once.
 pub trait FreePart: Drop {
@@ -25,16 +22,6 @@ impl<T: Drop> FreePart for Vec<T> {
         let count = self.len().min(most);
         self.truncate(self.len() - count);
         self.shrink_to_fit();
-        most - count
-    }
-}
-
-impl<T: Drop> FreePart for VecDeque<T> {
-    ghost left = { deque_len };
-
-    fn free_part(&mut self, most: usize) -> usize {
-        let count = self.len().min(most);
-        self.truncate(self.len() - count);
         most - count
     }
 }

@@ -15,7 +15,7 @@ mod runs;
 mod sweeps;
 
 pub use free_part::FreePart;
-pub use laws::law_merge_limits;
+pub use laws::{law_merge_limits, law_runs_hold_little};
 pub use next::next_of;
 pub use run::Run;
 pub use runs::Runs;

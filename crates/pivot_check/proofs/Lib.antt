@@ -14,3 +14,5 @@ pub mod Joined
 pub mod Sweeps
 pub mod Redundancy
 pub mod FewPostings
+pub mod FewKept
+mod Examples

@@ -1,4 +1,5 @@
-//! The law of how few postings of a key a merge leaves: the contract of a function that does nothing.
+//! The laws of how few postings merges leave: contracts of functions that do nothing.
+ghost use Rattle.pivot_check.specs.FewKept.{FewKeptLaw, RunsKeepLittleLaw};
 ghost use Rattle.pivot_check.specs.Redundant.{FewPostingsLaw};
 
 /// Does nothing, and takes no memory. Its contract says: of the postings of one key by rising number, none of which makes the next
@@ -6,4 +7,13 @@ ghost use Rattle.pivot_check.specs.Redundant.{FewPostingsLaw};
 /// redundant.
 pub fn law_few_postings()
     ensures { FewPostingsLaw }
+{}
+
+/// Does nothing, and takes no memory. Its contract bounds what is kept of K written keys, however many commits there were. A run of which
+/// no posting makes the next redundant, for those who began at B numbers, has at most (2 * B + 2) * K postings (`run`). All runs together
+/// have at most 2 * (2 * B + 1) times as many once they are finished and no two beside one another become one (`runs`). There each may have
+/// been merged for others who were active then, at B numbers at most.
+pub fn law_few_kept()
+    ensures run { FewKeptLaw }
+    ensures runs { RunsKeepLittleLaw }
 {}

@@ -23,5 +23,5 @@ mod verdict;
 mod written;
 
 pub use committed::Committed;
-pub use laws::law_few_postings;
+pub use laws::{law_few_kept, law_few_postings};
 pub use verdict::{Cleared, Verdict};

@@ -1,0 +1,41 @@
+-- Worked examples: runs at rest, and runs that hold more, since two are to become one.
+use Rattle.std.proofs.Common.{◌≡◌, ℕ, zero, suc, true, false, List, [], ◌∷◌, refl, arith}
+use Rattle.std.specs.List.{list_all}
+use Rattle.std.specs.List.Sorted.{IsStrictlyIncreasing}
+use Rattle.merging_runs.specs.AtRest.{AreAtRest, made_in}
+use Rattle.merging_runs.specs.RunSizes.{RunSize, become_one, has_alike, is_finished, lasts_of}
+
+-- a finished run of so many elements, with that last number
+abbrev run : ℕ → ℕ → RunSize
+run n count = record { last = n; left = 0; made = count; room = 0 }
+
+rises_twice : IsStrictlyIncreasing (0 ∷ 2 ∷ 5 ∷ [])
+rises_twice zero lt = omega arith
+rises_twice (suc zero) lt = omega arith
+rises_twice (suc (suc k)) lt = absurd (omega arith)
+
+rises_thrice : IsStrictlyIncreasing (0 ∷ 2 ∷ 5 ∷ 7 ∷ [])
+rises_thrice zero lt = omega arith
+rises_thrice (suc zero) lt = omega arith
+rises_thrice (suc (suc zero)) lt = omega arith
+rises_thrice (suc (suc (suc k))) lt = absurd (omega arith)
+
+-- two long runs, between the numbers of which somebody began
+are_parted : AreAtRest (3 ∷ []) 0 (run 2 20000 ∷ run 5 20000 ∷ [])
+are_parted = record { finished = refl; rising = rises_twice; unlike = refl }
+
+-- each run is more than twice as long as the next
+get_shorter : AreAtRest [] 0 (run 2 10 ∷ run 5 4 ∷ run 7 1 ∷ [])
+get_shorter = record { finished = refl; rising = rises_thrice; unlike = refl }
+
+-- three runs of one element each
+abbrev ones : List RunSize
+ones = run 2 1 ∷ run 5 1 ∷ run 7 1 ∷ []
+
+-- Where nobody may ask they hold more than 2 * 1 * (2 * 0 + 1), since two are to become one.
+two_become_one : (has_alike (become_one [] 0) 0 ones ≡ true) × (made_in ones ≡ 3)
+two_become_one = (refl, refl)
+
+-- If no two ever became one, they would be at rest.
+without_become_one : (list_all is_finished ones ≡ true) × IsStrictlyIncreasing (0 ∷ lasts_of ones) × (has_alike (λ before r s. false) 0 ones ≡ false)
+without_become_one = (refl, rises_thrice, refl)

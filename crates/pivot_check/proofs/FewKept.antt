@@ -1,0 +1,189 @@
+-- How many postings are kept, by how many keys there are and how many may ask.
+use Rattle.std.proofs.Common.{◌≡◌, ◌+◌, ◌*◌, ◌≤◌, ℕ, length, Bool, true, false, ◌&&◌, ◌||◌, List, [], ◌∷◌, ◌++◌, map}
+use Rattle.std.proofs.Common.{refl, sym, ap, ◌∙◌, subst, arith, inl, inr, length-append, length-drop}
+use Rattle.std.proofs.Math.Nat.{mul-le-mul_left, mul-le-mul_right}
+use Rattle.std.proofs.lemmas.Bool.{and_parts, cases_Bool}
+use Rattle.std.proofs.lemmas.Bool.Decides.{nat_tests}
+use Rattle.std.proofs.lemmas.Grind.{common_steps}
+use Rattle.std.proofs.lemmas.List.{append-nil}
+use Rattle.std.specs.List.{AllByRecursion, filter, list_all, list_any}
+use Rattle.std.specs.Ordering.{is_le, is_lt}
+use Rattle.std.specs.Prelude.{not, nat_le, if◌then◌else◌}
+use Rattle.merging_runs.proofs.RunSteps.{finished_left}
+use Rattle.merging_runs.proofs.RunsAtRest.{runs_hold_little}
+use Rattle.merging_runs.specs.AtRest.{made_in}
+use Rattle.merging_runs.specs.RunSizes.{is_finished}
+use Rattle.model.proofs.Elements.{all-filter}
+use Rattle.model.proofs.KeyOrder.{itself, lt_le_trans, same_keys, turned_greater, turned_less}
+use Rattle.model.specs.Map.{Bytes, is_same_key, key_cmp}
+use Rattle.pivot_check.proofs.FewPostings.{few_postings}
+use Rattle.pivot_check.proofs.Joined.{none_left}
+use Rattle.pivot_check.specs.FewKept.{FewKeptLaw, RunsKeepLittleLaw, WasMergedFor, numbers_rise}
+use Rattle.pivot_check.specs.Inside.{in_run, postings_in, written_run_size}
+use Rattle.pivot_check.specs.Kept.{Reach}
+use Rattle.pivot_check.specs.Parts.{left, remaining}
+use Rattle.pivot_check.specs.Postings.{Posting, keys_rise}
+use Rattle.pivot_check.specs.Redundant.{are_of_one_key, are_spaced, is_redundant}
+use Rattle.pivot_check.specs.declared.run.WrittenRun.{WrittenRun}
+
+-- ---- the postings of one key
+
+abbrev is_of : Bytes → Posting → Bool
+is_of k p = is_same_key p.key k
+
+abbrev those_of : Bytes → List Posting → List Posting
+those_of k ps = filter (is_of k) ps
+
+-- a key that isn't below another, and isn't the same, is above it
+apart : (k j : Bytes) → is_le (key_cmp k j) ≡ true → is_same_key j k ≡ false → is_lt (key_cmp k j) ≡ true
+apart k j le not_same = grind (arith, common_steps, turned_less j k, turned_greater j k, same_keys k j, itself k)
+
+-- no posting is of a key below all others
+none_of : (k : Bytes) (ps : List Posting) → list_all (λ q. is_lt (key_cmp k q.key)) ps ≡ true → those_of k ps ≡ []
+none_of k [] h = refl
+none_of k (q ∷ ps) h = grind (arith, common_steps, turned_less k q.key, none_of k ps)
+
+all_above : (k j : Bytes) (ps : List Posting) → is_lt (key_cmp k j) ≡ true → list_all (λ q. is_le (key_cmp j q.key)) ps ≡ true
+    → list_all (λ q. is_lt (key_cmp k q.key)) ps ≡ true
+all_above k j [] lt h = refl
+all_above k j (q ∷ ps) lt h =
+    let parts = and_parts (is_le (key_cmp j q.key)) (list_all (λ q. is_le (key_cmp j q.key)) ps) h in
+    grind (arith, lt_le_trans k j q.key lt parts.0, all_above k j ps lt parts.1)
+
+-- behind a posting of another key, which isn't below this one, none is of this key
+none_behind : (k : Bytes) (q : Posting) (ps : List Posting) → is_le (key_cmp k q.key) ≡ true → is_of k q ≡ false → keys_rise (q ∷ ps) ≡ true
+    → those_of k (q ∷ ps) ≡ []
+none_behind k q ps le not_same rise =
+    let above = apart k q.key le not_same in
+    let parts = and_parts (list_all (λ r. is_le (key_cmp q.key r.key)) ps) (keys_rise ps) rise in
+    none_of k (q ∷ ps) (grind (arith, above, all_above k q.key ps above parts.0))
+
+-- postings of one key by rising number, none of which makes the next redundant
+abbrev AreOfOne : Reach → List Posting → Type 0
+AreOfOne reach ps = (are_of_one_key ps ≡ true) × (are_spaced reach ps ≡ true)
+
+same_of : (k : Bytes) (p q : Posting) → is_of k p ≡ true → is_of k q ≡ true → is_same_key p.key q.key ≡ true
+same_of k p q h g = grind (arith, common_steps, same_keys p.key k, same_keys q.key k, itself k)
+
+le_of : (k : Bytes) (p q : Posting) → is_of k p ≡ true → is_le (key_cmp p.key q.key) ≡ true → is_le (key_cmp k q.key) ≡ true
+le_of k p q h le = grind (arith, common_steps, same_keys p.key k)
+
+-- one posting more before others
+one_before : (same order redundant one_key spaced : Bool) → same ≡ true → (not same || order) ≡ true → not redundant ≡ true → one_key ≡ true → spaced ≡ true
+    → ((same && (order && one_key)) ≡ true) × ((not redundant && spaced) ≡ true)
+one_before same order redundant one_key spaced s o r k h = (grind (arith, nat_tests), grind (arith, nat_tests))
+
+from_first : (reach : Reach) (k : Bytes) (p : Posting) (ps : List Posting) → is_of k p ≡ true → keys_rise (p ∷ ps) ≡ true → numbers_rise (p ∷ ps) ≡ true
+    → are_spaced reach (p ∷ ps) ≡ true → AreOfOne reach (p ∷ those_of k ps)
+from_first reach k p [] here keys numbers spaced = (refl, refl)
+from_first reach k p (q ∷ ps) here keys numbers spaced =
+    let rise = and_parts (list_all (λ r. is_le (key_cmp p.key r.key)) (q ∷ ps)) (keys_rise (q ∷ ps)) keys in
+    let low = and_parts (is_le (key_cmp p.key q.key)) (list_all (λ r. is_le (key_cmp p.key r.key)) ps) rise.0 in
+    let orders = and_parts (not (is_same_key p.key q.key) || nat_le p.number q.number) (numbers_rise (q ∷ ps)) numbers in
+    let needed = and_parts (not (is_redundant reach p q)) (are_spaced reach (q ∷ ps)) spaced in
+    elim (cases_Bool (is_of k q)) [
+      | inl is ↦
+          let rest = from_first reach k q ps is rise.1 orders.1 needed.1 in
+          let two = one_before (is_same_key p.key q.key) (nat_le p.number q.number) (is_redundant reach p q) (are_of_one_key (q ∷ those_of k ps))
+          (are_spaced reach (q ∷ those_of k ps)) (same_of k p q here is) orders.0 needed.0 rest.0 rest.1 in
+          let found : those_of k (q ∷ ps) ≡ q ∷ those_of k ps = grind (arith, is) in
+          subst (λ l. AreOfOne reach (p ∷ l)) (sym found) two
+      | inr isnt ↦
+          let none = none_behind k q ps (le_of k p q here low.0) isnt rise.1 in
+          subst (λ l. AreOfOne reach (p ∷ l)) (sym none) (refl, refl)
+    ]
+
+numbers_behind : (p : Posting) (ps : List Posting) → numbers_rise (p ∷ ps) ≡ true → numbers_rise ps ≡ true
+numbers_behind p [] h = refl
+numbers_behind p (q ∷ ps) h = (and_parts (not (is_same_key p.key q.key) || nat_le p.number q.number) (numbers_rise (q ∷ ps)) h).1
+
+spaced_behind : (reach : Reach) (p : Posting) (ps : List Posting) → are_spaced reach (p ∷ ps) ≡ true → are_spaced reach ps ≡ true
+spaced_behind reach p [] h = refl
+spaced_behind reach p (q ∷ ps) h = (and_parts (not (is_redundant reach p q)) (are_spaced reach (q ∷ ps)) h).1
+
+-- the postings of one key stand beside one another, so none of them makes the next redundant
+of_one : (reach : Reach) (k : Bytes) (ps : List Posting) → keys_rise ps ≡ true → numbers_rise ps ≡ true → are_spaced reach ps ≡ true
+    → AreOfOne reach (those_of k ps)
+of_one reach k [] keys numbers spaced = (refl, refl)
+of_one reach k (p ∷ ps) keys numbers spaced =
+    let rise = and_parts (list_all (λ r. is_le (key_cmp p.key r.key)) ps) (keys_rise ps) keys in
+    elim (cases_Bool (is_of k p)) [
+      | inl is ↦
+          let found : those_of k (p ∷ ps) ≡ p ∷ those_of k ps = grind (arith, is) in
+          subst (AreOfOne reach) (sym found) (from_first reach k p ps is keys numbers spaced)
+      | inr isnt ↦
+          let gone : those_of k (p ∷ ps) ≡ those_of k ps = grind (arith, isnt) in
+          subst (AreOfOne reach) (sym gone) (of_one reach k ps rise.1 (numbers_behind p ps numbers) (spaced_behind reach p ps spaced))
+    ]
+
+-- ---- the postings of all keys
+
+-- how many there are of each key, together
+abbrev count_of : List Bytes → List Posting → ℕ
+count_of [] ps = 0
+count_of (k ∷ ks) ps = length (those_of k ps) + count_of ks ps
+
+one_counted : (keys : List Bytes) (p : Posting) (ps : List Posting)
+    → count_of keys ps + (if list_any (is_same_key p.key) keys then 1 else 0) ≤ count_of keys (p ∷ ps)
+one_counted [] p ps = grind arith
+one_counted (k ∷ ks) p ps = grind (arith, nat_tests, one_counted ks p ps)
+
+all_counted : (keys : List Bytes) (ps : List Posting) → AllByRecursion (λ p. list_any (is_same_key p.key) keys ≡ true) ps → length ps ≤ count_of keys ps
+all_counted keys [] h = omega arith
+all_counted keys (p ∷ ps) h = let here = h.0 in grind (arith, nat_tests, here, one_counted keys p ps, all_counted keys ps h.1)
+
+few_of_each : (most : ℕ) (keys : List Bytes) (ps : List Posting) → ((k : Bytes) → length (those_of k ps) ≤ most) → count_of keys ps ≤ most * length keys
+few_of_each most [] ps h = omega arith
+few_of_each most (k ∷ ks) ps h = grind (arith, h k, few_of_each most ks ps h)
+
+pub few_kept : FewKeptLaw
+few_kept reach keys ps rise kept =
+    let most = 2 * length reach.begins + 2 in
+    let each = few_of_each most keys ps (λ k.
+    let of = of_one reach k ps rise kept.numbers kept.spaced in
+    few_postings reach (those_of k ps) of.0 (all-filter (λ p. p.number ≤ reach.since) (is_of k) ps kept.upto) of.1) in
+    let all = all_counted keys ps kept.among in
+    omega (arith, each, all)
+
+-- ---- the postings of all runs
+
+-- of a finished run nothing is left of the two that it was made of
+in_made : (r : WrittenRun) → is_finished (written_run_size r) ≡ true → in_run r ≡ remaining r.made
+in_made r is =
+    let none = finished_left (written_run_size r) is in
+    let first = none_left r.first (omega (arith, none)) in
+    let second = none_left r.second (omega (arith, none)) in
+    (λ i. remaining r.made ++ (first i ++ second i)) ∙ append-nil (remaining r.made)
+
+length_of : (r : WrittenRun) → is_finished (written_run_size r) ≡ true → length (in_run r) ≡ left r.made
+length_of r is = ap length (in_made r is) ∙ length-drop r.made.start r.made.written.items
+
+length_in : (rs : List WrittenRun) → list_all is_finished (map written_run_size rs) ≡ true → length (postings_in rs) ≡ made_in (map written_run_size rs)
+length_in [] done = refl
+length_in (r ∷ rs) done =
+    let parts = and_parts (is_finished (written_run_size r)) (list_all is_finished (map written_run_size rs)) done in
+    omega (arith, length-append (in_run r) (postings_in rs), length_of r parts.0, length_in rs parts.1)
+
+-- a finished run holds few postings
+few_in_run : (active : ℕ) (keys : List Bytes) (r : WrittenRun) → is_finished (written_run_size r) ≡ true → WasMergedFor active keys r
+    → left r.made ≤ (2 * active + 2) * length keys
+few_in_run active keys r is was =
+    let rise = subst (λ l. keys_rise l ≡ true) (sym (in_made r is)) r.made.rising in
+    let few = few_kept was.reach keys (in_run r) rise was.kept in
+    let fewer = mul-le-mul_right {m = 2 * length was.reach.begins + 2} {n = 2 * active + 2} (length keys) (omega (arith, was.few)) in
+    omega (arith, few, fewer, length_of r is)
+
+few_in_runs : (active : ℕ) (keys : List Bytes) (rs : List WrittenRun) → list_all is_finished (map written_run_size rs) ≡ true
+    → AllByRecursion (WasMergedFor active keys) rs
+    → AllByRecursion (λ s. s.made ≤ (2 * active + 2) * length keys) (map written_run_size rs)
+few_in_runs active keys [] done were = tt
+few_in_runs active keys (r ∷ rs) done were =
+    let parts = and_parts (is_finished (written_run_size r)) (list_all is_finished (map written_run_size rs)) done in
+    (few_in_run active keys r parts.0 were.0, few_in_runs active keys rs parts.1 were.1)
+
+pub runs_keep_little : RunsKeepLittleLaw
+runs_keep_little begins oldest active keys rs few rest were =
+    let most = (2 * active + 2) * length keys in
+    let held = runs_hold_little begins oldest most (map written_run_size rs) rest (few_in_runs active keys rs rest.finished were) in
+    let fewer = mul-le-mul_left {m = 2 * length begins + 1} {n = 2 * active + 1} (2 * most) (omega arith) in
+    omega (arith, held, fewer, length_in rs rest.finished)
