@@ -1,4 +1,5 @@
 pub mod StepLaws
+pub mod Falling
 pub mod Cuts
 pub mod MergeLaws
 pub mod RunLaws

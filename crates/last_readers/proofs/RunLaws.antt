@@ -4,7 +4,6 @@ use Rattle.std.proofs.Common.{arith}
 use Rattle.std.proofs.lemmas.Bool.{and_from, and_parts}
 use Rattle.std.proofs.lemmas.List.{nil_from_length}
 use Rattle.std.specs.Prelude.{max}
-use Rattle.std.specs.VecDeque.{deque_len}
 use Rattle.model.specs.Map.{Bytes}
 use Rattle.last_readers.proofs.StepLaws.{at_rest}
 use Rattle.last_readers.specs.Agreeing.{ReadersAgree, from_more, greatest-append}
@@ -18,12 +17,12 @@ pub greatest_added : (rs : List ReadRun) (r : ReadRun) (k : Bytes)
 greatest_added rs r k = omega (arith, greatest-append rs (r ∷ []) k)
 
 -- a run at rest
-resting : (r : ReadRun) (k : Bytes) → deque_len r.first + deque_len r.second ≡ 0 → number_in (run_of r) k ≡ number_at r.made.items k
-resting r k none = at_rest r.first.items r.second.items r.made.items k (omega (arith, r.first.ok.0)) (omega (arith, r.second.ok.0))
+resting : (r : ReadRun) (k : Bytes) → length r.first.items + length r.second.items ≡ 0 → number_in (run_of r) k ≡ number_at r.made.items k
+resting r k none = at_rest r.first.items r.second.items r.made.items k (omega arith) (omega arith)
 
 -- two runs at rest, of which nothing was made yet
-pub joined_runs : (first second : ReadRun) (xs made : List StepValue) (k : Bytes) → deque_len first.first + deque_len first.second ≡ 0
-    → deque_len second.first + deque_len second.second ≡ 0 → xs ≡ first.made.items → length made ≡ 0
+pub joined_runs : (first second : ReadRun) (xs made : List StepValue) (k : Bytes) → length first.first.items + length first.second.items ≡ 0
+    → length second.first.items + length second.second.items ≡ 0 → xs ≡ first.made.items → length made ≡ 0
     → merged_at xs second.made.items made k ≡ max (number_in (run_of first) k) (number_in (run_of second) k)
 joined_runs first second xs made k rest rests is none =
     grind (arith, nil_from_length made none, resting first k rest, resting second k rests)

@@ -1,9 +1,9 @@
 -- Steps by rising key, and the numbers at keys below, between and above them.
-use Rattle.std.proofs.Common.{◌≡◌, ◌≤◌, ◌<◌, ◌-◌, ℕ, zero, suc, true, false, cond, ◌&&◌, List, [], ◌∷◌, ◌++◌, length}
+use Rattle.std.proofs.Common.{◌≡◌, ◌≤◌, ◌<◌, ℕ, zero, suc, true, false, cond, ◌&&◌, List, [], ◌∷◌, ◌++◌, length}
 use Rattle.std.proofs.Common.{get_or, take, drop, map, ◌+◌, refl, sym, ap, ◌∙◌, arith}
 use Rattle.std.proofs.lemmas.Bool.{and_parts}
 use Rattle.std.proofs.lemmas.Bool.Decides.{nat_tests}
-use Rattle.std.proofs.lemmas.List.{take-append-drop, take_all, take_more, append-nil, nil_from_length, get_or-drop}
+use Rattle.std.proofs.lemmas.List.{take-append-drop, take_more, append-nil, nil_from_length, get_or-drop}
 use Rattle.std.proofs.lemmas.List.{length-drop}
 use Rattle.std.proofs.lemmas.List.Folds.{list_all-append, list_all-map}
 use Rattle.std.proofs.lemmas.List.Sums.{list_all-from_AllPass, AllPass-from_list_all}
@@ -86,12 +86,6 @@ number_push b (x ∷ xs) w k h =
     grind (arith, number_push x.above xs w k, less (key_cmp x.key w.key), less_trans k x.key w.key, nat_list_cmp_total.congr k x.key w.key)
 
 -- ---- the last step
-
--- the last of a queue of n steps, behind the others
-pub back_is : (xs : List StepValue) (n : ℕ) (w : StepValue) → n ≡ length xs → 0 < n → w ≡ get_or xs (n - 1) w → xs ≡ take (n - 1) xs ++ w ∷ []
-back_is xs n w len some is =
-    let all : n ≡ n - 1 + 1 = omega arith in
-    sym (take_all n xs (omega arith)) ∙ ap (λ m. take m xs) all ∙ take_more xs (n - 1) w (omega arith) ∙ ap (λ v. take (n - 1) xs ++ v ∷ []) (sym is)
 
 pub end_is : (xs init : List StepValue) (w : StepValue) → xs ≡ init ++ w ∷ [] → w.above ≡ end_of xs
 end_is xs init w is = sym (ap end_of is ∙ end_push 0 init w)

@@ -1,6 +1,5 @@
 -- What a `LastReaders` holds as contracts see it.
-use Rattle.std.specs.Prelude.{ℕ, ◌+◌, List, Option, map, option_map}
-use Rattle.std.specs.VecDeque.{deque_len}
+use Rattle.std.specs.Prelude.{ℕ, ◌+◌, List, Option, length, map, option_map}
 use Rattle.merging_runs.specs.RunSizes.{RunSize}
 use Rattle.last_readers.specs.Steps.{StepValue, RunValue}
 use Rattle.last_readers.specs.declared.run.ReadRun.{ReadRun}
@@ -17,13 +16,13 @@ ready_steps ready = option_map (λ r. r.steps.items) ready
 
 -- how many steps it holds
 abbrev pub steps_count : ReadRun → ℕ
-steps_count r = deque_len r.first + deque_len r.second + deque_len r.made
+steps_count r = length r.first.items + length r.second.items + length r.made.items
 
 -- how far a run is merged
 abbrev pub read_run_size : ReadRun → RunSize
 read_run_size r = record {
   last = r.last;
-  left = deque_len r.first + deque_len r.second;
-  made = deque_len r.made;
+  left = length r.first.items + length r.second.items;
+  made = length r.made.items;
   room = r.room;
 }

@@ -2,7 +2,7 @@
 use Rattle.std.specs.List.{list_all, list_any}
 use Rattle.std.specs.Ordering.{is_lt, is_le}
 use Rattle.std.specs.Prelude.{◌≡◌, ℕ, max, nat_lt, nat_le, Bool, true, false, ◌&&◌, ◌||◌, ◌==◌, if◌then◌else◌, List}
-use Rattle.std.specs.Prelude.{[], ◌∷◌, Option, Some, None}
+use Rattle.std.specs.Prelude.{[], ◌∷◌, ◌++◌, Option, Some, None}
 use Rattle.std.specs.declared.cmp.Ordering.{Ordering}
 use Rattle.std.specs.declared.cmp.Ordering.TheVariants.{Less, Equal, Greater}
 use Rattle.model.specs.Map.{Bytes, key_cmp}
@@ -12,6 +12,15 @@ pub record StepValue : Type 0 where
   pub key : Bytes
   pub at : ℕ
   pub above : ℕ
+
+-- steps by rising key, and how many have room where they stand
+pub record StepsValue : Type 0 where
+  pub items : List StepValue
+  pub capacity : ℕ
+
+-- the last of the steps
+abbrev pub IsLast : StepValue → List StepValue → Type 0
+IsLast s ss = (init : List StepValue) × (ss ≡ init ++ s ∷ [])
 
 -- the number at a key that stands so to a step: it is below the step, at it, or above it
 abbrev pub by_order : Ordering → ℕ → ℕ → ℕ → ℕ

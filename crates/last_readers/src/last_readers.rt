@@ -27,7 +27,7 @@ use std::marker::Model;
 /// runs of a like size are merged: where both have read a key, the greater number alone is left. So the runs are few, and what they hold
 /// is bounded by the keys and the ends of ranges that were read. A merge goes on a few steps with each commit, and answers meanwhile as
 /// both runs do, so that no commit is long. It takes the places of both runs until it has ended. From then on the memory of the two is
-/// released, for 4,096 steps of the longer one with each commit.
+/// released, for 4,096 steps of the longer one with each commit. The memory of a run that is forgotten is released with its steps.
 #[derive(Drop)]
 pub struct LastReaders {
     runs: Runs<ReadRun>,

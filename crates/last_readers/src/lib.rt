@@ -12,6 +12,7 @@ mod naming;
 mod run;
 mod runs;
 mod step;
+mod steps;
 mod sweeping;
 
 pub use last_readers::LastReaders;

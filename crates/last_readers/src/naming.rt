@@ -5,8 +5,8 @@ ghost use Rattle.merging_runs.specs.Next.{IsNext};
 ghost use Rattle.last_readers.specs.Steps.{names};
 
 use crate::step::Step;
+use crate::steps::Steps;
 use merging_runs::next_of;
-use std::collections::VecDeque;
 
 // The number above `n` that was found, or the least that the step names, where that is less.
 fn next_in(step: &Step, found: Option<u64>, n: u64) -> Option<u64>
@@ -16,13 +16,13 @@ fn next_in(step: &Step, found: Option<u64>, n: u64) -> Option<u64>
 }
 
 // The number above `n` that was found, or the least that one of the steps names, where that is less.
-pub(crate) fn next_named(steps: &VecDeque<Step>, found: Option<u64>, n: u64) -> Option<u64>
+pub(crate) fn next_named(steps: &Steps, found: Option<u64>, n: u64) -> Option<u64>
     ensures { (p : ℕ → Bool) → IsNext p n found
         → IsNext (λ k. p k || list_any (λ s. names s k) steps.now.items) n result }
 {
     let mut found = found;
     for i in 0..steps.len() {
-        found = next_in(&steps[i], found, n);
+        found = next_in(steps.at(i), found, n);
     }
     found
 }

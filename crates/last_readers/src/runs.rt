@@ -1,6 +1,5 @@
 //! Sorted runs of last readers, as `merging_runs` merges, frees and sweeps them.
-ghost use Rattle.std.specs.Prelude.{◌≡◌, ◌≤◌, ◌<◌, ◌+◌, ◌++◌, [], ◌∷◌, IsTrue, max, true};
-ghost use Rattle.std.specs.VecDeque.{deque_len, deque_capacity};
+ghost use Rattle.std.specs.Prelude.{◌≡◌, ◌≤◌, ◌<◌, ◌+◌, ◌++◌, [], ◌∷◌, IsTrue, length, max, true};
 ghost use Rattle.last_readers.specs.Readers.{IsWithRun, greatest_at};
 ghost use Rattle.last_readers.specs.Steps.{cut, is_named_in, is_run_from};
 ghost use Rattle.last_readers.specs.Inside.{run_of, runs_in, steps_count, read_run_size};
@@ -11,13 +10,12 @@ ghost use Rattle.std.proofs.Common.{refl, ◌∙◌};
 use crate::merging::{are_empty, move_greatest};
 use crate::naming::next_named;
 use crate::run::ReadRun;
-use crate::step::Step;
+use crate::steps::Steps;
 use crate::sweeping::{number_in_force, sweep};
 use arrayvec::ArrayVec;
 use merging_runs::{Run, Runs};
 use model::KeyRef;
 use std::alloc::Global;
-use std::collections::VecDeque;
 use std::mem;
 
 /// The most begin numbers that are named.
@@ -47,9 +45,9 @@ pub(crate) fn add_run(runs: &mut Runs<ReadRun>, run: ReadRun)
 }
 
 impl Run for ReadRun {
-    type Places = VecDeque<Step>;
+    type Places = Steps;
 
-    type Stale = (VecDeque<Step>, VecDeque<Step>, VecDeque<Step>);
+    type Stale = (Steps, Steps, Steps);
 
     // the numbers with which active transactions began
     type Active = ArrayVec<u64, BEGINS_MAX>;
@@ -64,9 +62,9 @@ impl Run for ReadRun {
 
     ghost has = { λ r. is_named_in (run_of r) };
 
-    ghost capacity = { λ r. deque_capacity r.first + deque_capacity r.second };
+    ghost capacity = { λ r. r.first.capacity + r.second.capacity };
 
-    ghost fit = { λ n places. (deque_len places ≡ 0) × (n ≤ deque_capacity places) };
+    ghost fit = { λ n places. (length places.items ≡ 0) × (n ≤ places.capacity) };
 
     // one step, or two of one key
     ghost each = { 2 };
@@ -118,14 +116,14 @@ impl Run for ReadRun {
         are_empty(&self.first, &self.second)
     }
 
-    fn places_for(alloc: Global, first: &ReadRun, second: &ReadRun) -> Option<VecDeque<Step>> {
-        match VecDeque::with_capacity(alloc, first.made.len().saturating_add(second.made.len())) {
+    fn places_for(alloc: Global, first: &ReadRun, second: &ReadRun) -> Option<Steps> {
+        match Steps::with_capacity(alloc, first.made.len().saturating_add(second.made.len())) {
             Ok(places) => Some(places),
             Err(_) => None,
         }
     }
 
-    fn join(&mut self, second: ReadRun, places: VecDeque<Step>) {
+    fn join(&mut self, second: ReadRun, places: Steps) {
         let ReadRun {
             last,
             earliest,
@@ -158,7 +156,7 @@ impl Run for ReadRun {
         self.earliest = oldest + 1;
     }
 
-    fn into_stale(self) -> (VecDeque<Step>, VecDeque<Step>, VecDeque<Step>) {
+    fn into_stale(self) -> (Steps, Steps, Steps) {
         let ReadRun {
             first,
             second,

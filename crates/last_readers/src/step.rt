@@ -1,12 +1,10 @@
 //! A step: the reader at a key, and the one at the keys above it up to the next step.
-ghost use Rattle.std.specs.Prelude.{◌≡◌, ◌≤◌, IsTrue, true, if◌then◌else◌};
+ghost use Rattle.std.specs.Prelude.{◌≡◌, if◌then◌else◌};
 ghost use Rattle.std.specs.Ordering.{is_eq};
 ghost use Rattle.model.specs.Map.{key_cmp};
-ghost use Rattle.last_readers.specs.Steps.{StepValue, cut, cut_step, is_level, number_from, end_of, steps_rise};
-ghost use Rattle.last_readers.specs.Steps.{in_place_of, renumbered};
+ghost use Rattle.last_readers.specs.Steps.{StepValue, cut, cut_step, is_level, in_place_of, renumbered};
 
 use model::{Key, KeyRef};
-use std::collections::VecDeque;
 use std::marker::Model;
 
 /// The number at a key, and the one at the keys above it up to the next step.
@@ -109,26 +107,4 @@ fn in_place_of(was: u64, number: u64) -> u64
     ensures { result ≡ in_place_of number was }
 {
     if was == 0 { 0 } else { number }
-}
-
-// The number at the keys above all steps.
-pub(crate) fn end_of(steps: &VecDeque<Step>) -> u64
-    ensures { result ≡ end_of steps.now.items }
-{
-    match steps.back() {
-        None => 0,
-        Some(step) => step.number_above(),
-    }
-}
-
-// The number at the key, where `below` is the one below all steps. A binary search.
-pub(crate) fn number_from(steps: &VecDeque<Step>, below: u64, key: KeyRef<'_>) -> u64
-    requires { IsTrue (steps_rise steps.now.items) }
-    ensures { result ≡ number_from below steps.now.items key.entry.bytes.now }
-{
-    let end = steps.partition_point(|step| step.key().order(key).is_le());
-    if end == 0 {
-        return below;
-    }
-    steps[end - 1].number(key)
 }

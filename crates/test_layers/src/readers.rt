@@ -39,10 +39,9 @@ impl Commits {
         number
     }
 
-    fn forget_step(&mut self, oldest: u64) {
-        if oldest <= self.last {
-            self.readers.forget_step(oldest);
-        }
+    // A step of forgetting the numbers up to that one: whether more are needed.
+    fn forget_step(&mut self, oldest: u64) -> bool {
+        oldest <= self.last && self.readers.forget_step(oldest)
     }
 
     fn forget(&mut self, oldest: u64) {
@@ -153,5 +152,75 @@ fn partial_runs_of_readers_are_swept(rt: HostRuntime) {
         assert!(rt; commits.readers.steps() <= 8);
         assert!(rt; commits.readers.last(key(&[1, 42]), 0).is_none());
         assert!(rt; commits.readers.last(key(&[1, 43]), 0) == Some(300));
+    }
+}
+
+// The bytes of a key for each of 65,536 numbers, in their order.
+fn bytes_of(n: u64) -> [u8; 2] {
+    [(n / 256 % 256) as u8, (n % 256) as u8]
+}
+
+// One more commit, which has read the keys of 256 numbers.
+fn commit_keys<R: Abort + AllocGlobal>(rt: &R, commits: &mut Commits, from: u64) {
+    let mut marks = Marks::new(rt.alloc());
+    for i in 0..256u64 {
+        let bytes = bytes_of(from.wrapping_add(i));
+        mark(&mut marks, 5, &bytes, &bytes).expect(rt, "marked");
+    }
+    commits.commit(rt, &marks);
+}
+
+// The last of `count` commits that has read the key of this number, where each has read 56 keys of the one before it.
+fn last_of(count: u64, n: u64) -> Option<u64> {
+    if count == 0 {
+        return None;
+    }
+    let commit = (n / 200).min(count.saturating_sub(1));
+    if n < commit.saturating_mul(200).saturating_add(256) {
+        Some(commit.saturating_add(1))
+    } else {
+        None
+    }
+}
+
+// Are the last readers those of so many commits, and of a later one that has read the key of 60,000?
+fn are_readers(commits: &Commits, count: u64, later: u64) -> bool {
+    for i in 0..2_000u64 {
+        let n = i.saturating_mul(13);
+        if commits.readers.last(key(&bytes_of(n)), 0) != last_of(count, n) {
+            return false;
+        }
+    }
+    commits.readers.last(key(&bytes_of(60_000)), 0) == Some(later)
+}
+
+/// Long runs are freed in steps, whether merges have begun, are far on or have ended, and the last readers are right meanwhile.
+#[test]
+fn long_runs_are_freed_in_steps(rt: HostRuntime) {
+    for count in [16u64, 33, 60, 61, 62, 63, 64, 100, 127, 128] {
+        let mut commits = Commits::new(rt.alloc());
+        for i in 0..count {
+            commit_keys(&rt, &mut commits, i.saturating_mul(200));
+        }
+        let mut marks = Marks::new(rt.alloc());
+        let bytes = bytes_of(60_000);
+        mark(&mut marks, 5, &bytes, &bytes).expect(&rt, "marked");
+        let later = commits.commit(&rt, &marks);
+        assert!(rt; are_readers(&commits, count, later), "{count} commits");
+        let mut calls = 0u64;
+        for _ in 0..64 {
+            if commits.forget_step(count) {
+                calls = calls.saturating_add(1);
+            }
+            assert!(rt;
+                are_readers(&commits, 0, later),
+                "{count} commits, call {calls}"
+            );
+        }
+        assert!(rt;
+            calls >= count.saturating_mul(200) / 1_024 && calls < 64,
+            "{count} commits, {calls} calls"
+        );
+        assert!(rt; commits.readers.steps() <= 4, "{count} commits");
     }
 }

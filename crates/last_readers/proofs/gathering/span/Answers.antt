@@ -16,4 +16,4 @@ returns-in-Equal-clause-span c =
 
 pub returns-in-Greater-clause-span : goal.returns-in-Greater-clause-span
 returns-in-Greater-clause-span c =
-    λ k. ap (λ l. number_at l k) c.new.ensures.items ∙ no_step c.args.lo.bytes.now c.args.end.bytes.now c.args.at k (sym c.order.ensures ∙ c.in-Greater.is)
+    λ k. ap (λ l. number_at l k) c.new.ensures ∙ no_step c.args.lo.bytes.now c.args.end.bytes.now c.args.at k (sym c.order.ensures ∙ c.in-Greater.is)

@@ -7,11 +7,13 @@ pub returns-clause-joined : goal.returns-clause-joined
 returns-clause-joined c =
     let o = c.args.oldest in
     let x = c.in-Some.x in
-    let y = c.in-Some-pop_back.y in
+    let y = c.in-Some-take_greatest.y in
     let at : c.later-at.result ≡ later o x.at y.at = c.later-at.ensures ∙ (λ i. later o (c.at.ensures i) (c.at-2.ensures i)) in
     let above : c.later-above.result ≡ later o x.above y.above =
     c.later-above.ensures ∙ (λ i. later o (c.number_above.ensures i) (c.number_above-2.ensures i)) in
-    joined_both o c.args.first.now.items c.pop_back.new.self.items c.args.second.now.items c.pop_back-2.new.self.items x y c.new.result c.in-Some.ensures.items
-    c.in-Some-pop_back.ensures.items c.requires.first c.requires.second
-    (c.requires.ends.same c.pop_back.new.self.items c.pop_back-2.new.self.items x y c.in-Some.ensures.items c.in-Some-pop_back.ensures.items)
+    let first = c.take_greatest.new.self.items in
+    let second = c.take_greatest-2.new.self.items in
+    joined_both o c.args.first.now.items first c.args.second.now.items second x y c.new.result c.in-Some.ensures.items
+    c.in-Some-take_greatest.ensures.items c.requires.first c.requires.second
+    (c.requires.ends.same first second x y c.in-Some.ensures.items c.in-Some-take_greatest.ensures.items)
     (c.new.ensures ∙ (λ i. record { key = c.into_key.ensures i; at = at i; above = above i }))

@@ -12,6 +12,6 @@ returns-clause-joined c =
     let at : c.later-at.result ≡ later o step.at (end_of c.args.second.now.items) = c.later-at.ensures ∙ (λ i. later o (c.at.ensures i) (beyond i)) in
     let above : c.later-above.result ≡ later o step.above (end_of c.args.second.now.items) =
     c.later-above.ensures ∙ (λ i. later o (c.number_above.ensures i) (beyond i)) in
-    joined_one o c.args.first.now.items c.pop_back.new.self.items c.args.second.now.items step c.new.result c.in-Some.ensures.items c.requires.first
-    (c.requires.ends.over c.pop_back.new.self.items step c.in-Some.ensures.items)
+    joined_one o c.args.first.now.items c.take_greatest.new.self.items c.args.second.now.items step c.new.result c.in-Some.ensures.items c.requires.first
+    (c.requires.ends.over c.take_greatest.new.self.items step c.in-Some.ensures.items)
     (c.new.ensures ∙ (λ i. record { key = c.into_key.ensures i; at = at i; above = above i }))

@@ -8,8 +8,8 @@ loop-i-init c p is = first_none names c.args.steps.now.items p c.args.n c.args.f
 
 pub loop-i-preserved : goal.loop-i-preserved
 loop-i-preserved c p is =
-    first_more names c.args.steps.now.items c.loop-i.i (c.loop-i.i + 1) c.index.result.now p c.args.n c.next_in-found.result (omega arith)
-    (omega arith) c.index.ensures
+    first_more names c.args.steps.now.items c.loop-i.i (c.loop-i.i + 1) c.at.result.now p c.args.n c.next_in-found.result (omega arith)
+    (omega arith) c.at.ensures
     (c.next_in-found.ensures _ (c.loop-i.invariant p is))
 
 pub returns : goal.returns

@@ -19,5 +19,5 @@ pub returns-clause-makes : goal.returns-clause-makes
 returns-clause-makes c = λ active o.
     let was = c.args.self.now in
     made_of_none o c.shrink_to.new.self.items c.shrink_to-2.new.self.items was.made.items
-    (omega (arith, ap length c.shrink_to.ensures.items, was.first.ok.0, c.requires.rest))
-    (omega (arith, ap length c.shrink_to-2.ensures.items, was.second.ok.0, c.requires.rest))
+    (omega (arith, ap length c.shrink_to.ensures.items, c.requires.rest))
+    (omega (arith, ap length c.shrink_to-2.ensures.items, c.requires.rest))

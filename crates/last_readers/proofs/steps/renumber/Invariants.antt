@@ -1,4 +1,4 @@
-use Rattle.last_readers.proofs.run.renumber.Given as goal
+use Rattle.last_readers.proofs.steps.renumber.Given as goal
 use Rattle.std.proofs.Common.{◌≡◌, ◌++◌, take, drop, map}
 use Rattle.last_readers.specs.Steps.{renumbered}
 

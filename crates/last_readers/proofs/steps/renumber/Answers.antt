@@ -1,4 +1,4 @@
-use Rattle.last_readers.proofs.run.renumber.Goals as goal
+use Rattle.last_readers.proofs.steps.renumber.Goals as goal
 use Rattle.std.proofs.Common.{ap, arith, ◌∙◌}
 use Rattle.std.proofs.Math.ListN.{set}
 use Rattle.std.proofs.lemmas.List.Edits.{map_over_more}
