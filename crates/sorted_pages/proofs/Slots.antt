@@ -21,8 +21,8 @@ use Rattle.std.specs.Int.{bit_at, bit_not}
 use Rattle.std.specs.Int.Bits.{bit_and}
 use Rattle.std.specs.List.{AllByRecursion, IsDistinct, position_from}
 use Rattle.std.specs.Prelude.{position, slice_get, nat_eq, nat_le, nat_lt, ◌&&◌, ◌==◌, ◌||◌, ◌⊎◌}
-use Rattle.sorted_pages.specs.Held.{AreApart, AreBits, AreHeldFrom, AreHeldOf, IsHeldLate, bit_of, is_among}
-use Rattle.sorted_pages.specs.Held.{with_number}
+use Rattle.sorted_pages.specs.Held.{AreApart, AreBits, AreBounded, AreHeldFrom, AreHeldOf, IsHeldLate, bit_of}
+use Rattle.sorted_pages.specs.Held.{is_among, with_number}
 use Rattle.sorted_pages.specs.declared.held.TheConstants.{FREE}
 
 -- ---- bits, as far as a loop has come
@@ -32,8 +32,10 @@ pub record AreBitsTo (p : ℕ → Bool) (ns : List ℕ) (k m : ℕ) : Type 0 whe
   pub below : (i n : ℕ) → i < k → slice_get ns i ≡ Some n → bit_at m i ≡ bit_of (p n)
   pub above : (i : ℕ) → k ≤ i → bit_at m i ≡ 0
 
-pub bits-none : (p : ℕ → Bool) (ns : List ℕ) → AreBitsTo p ns 0 0
-bits-none p ns = record { below = λ i n lt at. absurd (omega arith); above = λ i le. bit_at-zero i }
+-- where p holds of none of the numbers, no bit is set
+bits_zero : (p : ℕ → Bool) (ns : List ℕ) → ((n : ℕ) → is_among ns n ≡ true → p n ≡ false) → AreBits p ns 0
+bits_zero p ns none i n at =
+    bit_at-zero i ∙ sym (ap bit_of (none n (any_passes_from_place (λ x. x == n) ns i n at (eq-eqb n n refl))))
 
 module _ (p : ℕ → Bool) (ns : List ℕ) (k m d : ℕ) where
   same_number : (n : ℕ) → k < length ns → slice_get ns k ≡ Some n → get_or ns k d ≡ n
@@ -69,6 +71,37 @@ module _ (p : ℕ → Bool) (ns : List ℕ) (k m d : ℕ) where
   -- all of them
   pub bits-all : AreBitsTo p ns k m → length ns ≤ k → AreBits p ns m
   bits-all b le i n at = let lt = slice_get_within ns i n at in b.below i n (omega arith) at
+
+-- ---- the bound of the numbers that are held
+
+raised_above : (d more n : ℕ) → (n == FREE) ≡ false → d ≤ FREE → min (d + 1) FREE ≤ more → d ≡ n → n < more
+raised_above d more n f within above same = elim (cases_eq n FREE) [
+  | inl e ↦ absurd (eqb-false n FREE f e)
+  | inr other ↦ omega (arith, same, above, within)
+]
+
+-- no held number is at least `low` where that is at least the bound
+pub none_between : (bound low high : ℕ) (ns : List ℕ) → AreBounded bound ns → bound ≤ low → high ≤ FREE → AreBits (λ n. nat_le low n && nat_lt n high) ns 0
+none_between bound low high ns below le within = bits_zero _ ns (λ n here. elim (cases_Bool (n == FREE)) [
+  | inl f ↦ (let is = eqb-true n FREE f in grind (arith, nat_tests))
+  | inr f ↦ (let lt = below n f here in grind (arith, nat_tests))
+])
+
+-- none is below `high` where the bound is 0
+pub none_below : (high : ℕ) (q : ℕ → Bool) (ns : List ℕ) → AreBounded 0 ns → high ≤ FREE → AreBits (λ n. nat_lt n high && q n) ns 0
+none_below high q ns below within = bits_zero _ ns (λ n here. elim (cases_Bool (n == FREE)) [
+  | inl f ↦ (let is = eqb-true n FREE f in grind (arith, nat_tests))
+  | inr f ↦ absurd (let lt = below n f here in omega arith)
+])
+
+-- a number more, and a bound above it
+pub bounded_more : (ns : List ℕ) (k d bound more : ℕ) → AreBounded bound (take k ns) → k < length ns → d ≡ get_or ns k 0 → d ≤ FREE → bound ≤ more
+    → min (d + 1) FREE ≤ more → AreBounded more (take (k + 1) ns)
+bounded_more ns k d bound more below lt at within le above n f here =
+    elim (or_cases (is_among (take k ns) n) (d == n) (ap (λ x. is_among (take k ns) n || (x == n)) at ∙ sym (list_any_more (λ x. x == n) ns k 0 lt) ∙ here)) [
+      | inl t ↦ (let old = below n f t in omega arith)
+      | inr t ↦ raised_above d more n f within above (eqb-true d n t)
+    ]
 
 -- ---- the first place of a number
 
@@ -283,14 +316,15 @@ module _ (ns : List ℕ) where
 
 -- ---- the numbers that are held once it is done for some of them
 
--- of the numbers, the first k are held where they aren't below `last`, and those that were held still are
+-- only numbers that were held or aren't below `last` are held, and of these only the given ones; where these fit, the first k are held that
+-- aren't below `last`, and those that were held still are
 pub record HoldsSo (last : ℕ) (numbers : List ℕ) (k : ℕ) (old now : List ℕ) : Type 0 where
   pub long : length now ≡ 64
   pub apart : AreApart now
   pub from : AreHeldFrom last old now
   pub within : (n : ℕ) → (n == FREE) ≡ false → is_among now n ≡ true → is_among numbers n ≡ true
-  pub held : (n : ℕ) → is_among numbers n ≡ true → is_among old n ≡ true → is_among now n ≡ true
-  pub added : (n : ℕ) → is_among (take k numbers) n ≡ true → last ≤ n → is_among now n ≡ true
+  pub held : length numbers ≤ 64 → (n : ℕ) → is_among numbers n ≡ true → is_among old n ≡ true → is_among now n ≡ true
+  pub added : length numbers ≤ 64 → (n : ℕ) → is_among (take k numbers) n ≡ true → last ≤ n → is_among now n ≡ true
 
 -- by counting, a place is free
 member_among : (ns : List ℕ) (q : ℕ) → is_among ns q ≡ is_member nat_eq ns q
@@ -325,17 +359,17 @@ overfull numbers now e few long a within has not_there full =
 
 module _ (last : ℕ) (numbers : List ℕ) (k d : ℕ) (old now : List ℕ) where
   -- a number more, which comes in
-  hold-with : HoldsSo last numbers k old now → length numbers ≤ 64 → k < length numbers → d ≡ get_or numbers k 0
+  hold-with : HoldsSo last numbers k old now → k < length numbers → d ≡ get_or numbers k 0
       → is_among now d ≡ false → last ≤ d → HoldsSo last numbers (k + 1) old (with_number d now)
-  hold-with h few lt at new late = record {
+  hold-with h lt at new late = record {
     long = long;
     apart = apart;
     from = λ i n e. elim (stands_with d now i n e) [ inl s ↦ h.from i n s | inr s ↦ inr (omega arith) ];
     within = within;
-    held = λ n m o. stays n m (h.held n m o);
-    added = λ n m l. elim (or_cases (is_among (take k numbers) n) (d == n) (split n m)) [
-      | inl t ↦ stays n (earlier n t) (h.added n t l)
-      | inr t ↦ subst (λ x. is_among (with_number d now) x ≡ true) (eqb-true d n t) comes
+    held = λ few n m o. stays few n m (h.held few n m o);
+    added = λ few n m l. elim (or_cases (is_among (take k numbers) n) (d == n) (split n m)) [
+      | inl t ↦ stays few n (earlier n t) (h.added few n t l)
+      | inr t ↦ subst (λ x. is_among (with_number d now) x ≡ true) (eqb-true d n t) (comes few)
     ];
   }
     where
@@ -351,11 +385,11 @@ module _ (last : ℕ) (numbers : List ℕ) (k d : ℕ) (old now : List ℕ) wher
       within : (n : ℕ) → (n == FREE) ≡ false → is_among (with_number d now) n ≡ true → is_among numbers n ≡ true
       within n f e = elim (among_with d now n e) [ inl s ↦ subst (λ x. is_among numbers x ≡ true) (sym s) has | inr s ↦ h.within n f s ]
 
-      comes : is_among (with_number d now) d ≡ true
-      comes = comes_in d now (true_from_ne_false _ (λ full. overfull numbers now d few h.long h.apart h.within has new full))
+      comes : length numbers ≤ 64 → is_among (with_number d now) d ≡ true
+      comes few = comes_in d now (true_from_ne_false _ (λ full. overfull numbers now d few h.long h.apart h.within has new full))
 
-      stays : (n : ℕ) → is_among numbers n ≡ true → is_among now n ≡ true → is_among (with_number d now) n ≡ true
-      stays n m e = elim (cases_Bool (n == FREE)) [
+      stays : length numbers ≤ 64 → (n : ℕ) → is_among numbers n ≡ true → is_among now n ≡ true → is_among (with_number d now) n ≡ true
+      stays few n m e = elim (cases_Bool (n == FREE)) [
         | inl f ↦ true_from_ne_false _ (λ gone. overfull numbers (with_number d now) n few long apart within m gone
             (subst (λ x. is_among (with_number d now) x ≡ false) (eqb-true n FREE f) gone))
         | inr f ↦ among_before d now n f e
@@ -379,8 +413,8 @@ module _ (last : ℕ) (numbers : List ℕ) (k d : ℕ) (old now : List ℕ) wher
     from = h.from;
     within = h.within;
     held = h.held;
-    added = λ n m l. elim (or_cases (is_among (take k numbers) n) (d == n) (split n m)) [
-      | inl t ↦ h.added n t l
+    added = λ few n m l. elim (or_cases (is_among (take k numbers) n) (d == n) (split n m)) [
+      | inl t ↦ h.added few n t l
       | inr t ↦ by n l (eqb-true d n t) out
     ];
   }
@@ -393,10 +427,10 @@ module _ (last : ℕ) (numbers : List ℕ) (k d : ℕ) (old now : List ℕ) wher
       by n l same (inr there) = subst (λ x. is_among now x ≡ true) same there
 
   -- a number more
-  pub hold-more : (next : List ℕ) → HoldsSo last numbers k old now → length numbers ≤ 64 → k < length numbers → d ≡ get_or numbers k 0
+  pub hold-more : (next : List ℕ) → HoldsSo last numbers k old now → k < length numbers → d ≡ get_or numbers k 0
       → IsHeldLate last d now next → HoldsSo last numbers (k + 1) old next
-  hold-more next h few lt at (inl (late, new, is)) = subst (HoldsSo last numbers (k + 1) old) (sym is) (hold-with h few lt at new late)
-  hold-more next h few lt at (inr (out, is)) = subst (HoldsSo last numbers (k + 1) old) (sym is) (hold-without h lt at out)
+  hold-more next h lt at (inl (late, new, is)) = subst (HoldsSo last numbers (k + 1) old) (sym is) (hold-with h lt at new late)
+  hold-more next h lt at (inr (out, is)) = subst (HoldsSo last numbers (k + 1) old) (sym is) (hold-without h lt at out)
 
 module _ (last : ℕ) (numbers old now : List ℕ) where
   kept_stands : (ms : List ℕ) (i n : ℕ) → last ≤ FREE → slice_get (map (kept_of numbers) ms) i ≡ Some n → (slice_get ms i ≡ Some n) ⊎ (last ≤ n)
@@ -441,9 +475,23 @@ module _ (last : ℕ) (numbers old now : List ℕ) where
     apart = apart;
     from = λ i n e. kept_stands old i n le (ap (λ l. slice_get l i) (sym is) ∙ e);
     within = λ n f e. kept_within old n f (ap (λ l. is_among l n) (sym is) ∙ e);
-    held = λ n m o. ap (λ l. is_among l n) is ∙ kept_held old n m o;
-    added = λ n m l. absurd (both_ways false refl m);
+    held = λ few n m o. ap (λ l. is_among l n) is ∙ kept_held old n m o;
+    added = λ few n m l. absurd (both_ways false refl m);
   }
+
+-- ---- the bound of what is held
+
+-- what is left is below a bound of the given numbers
+pub bounded_kept : (numbers old : List ℕ) (bound : ℕ) → AreBounded bound numbers → AreBounded bound (map (kept_of numbers) old)
+bounded_kept numbers old bound below n f here = below n f (kept_within 0 numbers old old old n f here)
+
+-- and so is one more, with a bound above it
+pub bounded_with : (now : List ℕ) (d bound more : ℕ) → AreBounded bound now → d ≤ FREE → bound ≤ more → min (d + 1) FREE ≤ more
+    → AreBounded more (with_number d now)
+bounded_with now d bound more below within le above n f here = elim (among_with d now n here) [
+  | inl s ↦ raised_above d more n f within above (sym s)
+  | inr s ↦ (let old = below n f s in omega arith)
+]
 
 -- ---- the bits of a summary that is raised
 

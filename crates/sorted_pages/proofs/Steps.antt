@@ -1,18 +1,18 @@
 -- A step of a range: what it passes over, and what is left.
-use Rattle.std.proofs.Common.{◌≡◌, ℕ, zero, suc, ◌+◌, ◌<◌, ◌≤◌, Bool, true, false, not, cond, List, [], ◌∷◌, ◌++◌}
-use Rattle.std.proofs.Common.{drop}
+use Rattle.std.proofs.Common.{◌≡◌, ℕ, zero, suc, ◌+◌, ◌-◌, ◌<◌, ◌≤◌, Bool, true, false, not, cond, List, [], ◌∷◌}
+use Rattle.std.proofs.Common.{◌++◌, drop}
 use Rattle.std.proofs.Common.{get_or, length, min, Option, refl, sym, ap, ◌∙◌, arith}
 use Rattle.std.proofs.Math.Seq.{drop-nil}
 use Rattle.std.proofs.lemmas.Bool.Decides.{nat_tests}
 use Rattle.std.proofs.lemmas.Grind.{common_steps}
-use Rattle.std.proofs.lemmas.List.{drop-drop}
+use Rattle.std.proofs.lemmas.List.{drop-drop, length-drop}
 use Rattle.std.proofs.lemmas.List.Recursion.{is_position_or_len}
 use Rattle.std.specs.List.{position}
 use Rattle.std.specs.Prelude.{unwrap_or}
 use Rattle.model.specs.Map.{Bytes, is_below}
 use Rattle.sorted_pages.proofs.Seen.{shown-append}
 use Rattle.sorted_pages.specs.Pages.{Page, entries}
-use Rattle.sorted_pages.specs.Ranges.{IsFirstShown, entries_from, looked_at, not_passed, shown, up_to}
+use Rattle.sorted_pages.specs.Ranges.{IsFirstShown, LooksAhead, entries_from, looked_at, not_passed, shown, up_to}
 use Rattle.sorted_pages.specs.Summaries.{is_passed}
 use Rattle.sorted_pages.specs.declared.held.Reader.{Reader}
 use Rattle.sorted_pages.specs.declared.summary.Summary.{Summary}
@@ -74,12 +74,39 @@ module _ {X : Type 0} where
   from_first r [] ss = refl
   from_first r (p ∷ ps) ss = refl
 
-  -- of those that were left to look at some at the front are taken
-  pub goes_on : (r : Reader) (page : Page X) (ps rest qs all : List (Page X)) (ss ts : List Summary) (m : ℕ) → ps ≡ page ∷ rest
-      → looked_at r qs ts ≡ not_passed r rest (drop 1 ss) → not_passed r (drop 1 ps) (drop 1 ss) ≡ drop m all
-      → not_passed r (drop 1 qs) (drop 1 ts) ≡ drop (m + 1) all
-  goes_on r page ps rest qs all ss ts m next behind before =
-      behind_looked r qs ts ∙ ap (drop 1) (behind ∙ ap (λ (l : List (Page X)). not_passed r (drop 1 l) (drop 1 ss)) (sym next) ∙ before) ∙ drop-drop 1 m all
+  -- the page behind, where there is one, is the next of those that were left to look at
+  pub goes_on : (r : Reader) (page : Page X) (ps rest qs all : List (Page X)) (ss ts : List Summary) (count counted new : ℕ) → ps ≡ page ∷ rest
+      → looked_at r qs ts ≡ not_passed r rest (drop 1 ss) → new ≡ counted + min (length qs) 1
+      → LooksAhead all (not_passed r (drop 1 ps) (drop 1 ss)) count counted → LooksAhead all (not_passed r (drop 1 qs) (drop 1 ts)) count new
+  goes_on r page ps rest qs all ss ts count counted new next behind is before =
+      let here = behind ∙ ap (λ (l : List (Page X)). not_passed r (drop 1 l) (drop 1 ss)) (sym next) ∙ before.left in
+      by qs is here (ap length here ∙ length-drop before.n all)
+    where
+      by : (qs : List (Page X)) → new ≡ counted + min (length qs) 1 → looked_at r qs ts ≡ drop before.n all
+          → length (looked_at r qs ts) ≡ length all - before.n
+          → LooksAhead all (not_passed r (drop 1 qs) (drop 1 ts)) count new
+      by [] is here long = record {
+        n = before.n;
+        within = before.within;
+        left = here;
+        counted = omega (arith, is, before.counted);
+      }
+      by (q ∷ qs) is here long = record {
+        n = before.n + 1;
+        within = omega (arith, long, before.within);
+        left = ap (drop 1) here ∙ drop-drop 1 before.n all;
+        counted = omega (arith, is, before.counted);
+      }
+
+-- it goes on, and once more
+pub looks_twice : {X : Type 0} (old mid new : List X) (count counted later : ℕ) → LooksAhead old mid count counted → LooksAhead mid new counted later
+    → LooksAhead old new count later
+looks_twice old mid new count counted later first then = record {
+  n = first.n + then.n;
+  within = omega (arith, first.within, then.within, ap length first.left, length-drop first.n old);
+  left = then.left ∙ ap (drop then.n) first.left ∙ drop-drop then.n first.n old;
+  counted = omega (arith, first.counted, then.counted);
+}
 
 -- ---- a step
 

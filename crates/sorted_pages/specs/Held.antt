@@ -44,3 +44,7 @@ abbrev pub IsHeldLate : ℕ → ℕ → List ℕ → List ℕ → Type 0
 IsHeldLate last n old new =
     ((last ≤ n) × (is_among old n ≡ false) × (new ≡ with_number n old))
     ⊎ (((n < last) ⊎ (is_among old n ≡ true)) × (new ≡ old))
+
+-- each of the numbers, but for what stands in free places, is below the bound
+abbrev pub AreBounded : ℕ → List ℕ → Type 0
+AreBounded bound ns = (n : ℕ) → (n == FREE) ≡ false → is_among ns n ≡ true → n < bound

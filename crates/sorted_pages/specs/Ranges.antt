@@ -4,7 +4,7 @@ use Rattle.std.specs.Cmp.Lexicographic.{slice_cmp}
 use Rattle.std.specs.FinMap.Entries.{where_key}
 use Rattle.std.specs.List.{AllByRecursion}
 use Rattle.std.specs.Ordering.{nat_cmp, is_le}
-use Rattle.std.specs.Prelude.{◌≡◌, ℕ, ◌<◌, ◌≤◌, ◌⊎◌, Bool, true, false, List, [], ◌∷◌, ◌++◌, drop}
+use Rattle.std.specs.Prelude.{◌≡◌, ℕ, ◌<◌, ◌≤◌, ◌⊎◌, ◌+◌, Bool, true, false, List, [], ◌∷◌, ◌++◌, drop, length}
 use Rattle.std.specs.Prelude.{if◌then◌else◌, Option, Some, None, ⊤}
 use Rattle.model.specs.KeyBytes.{key_bytes, end_bytes}
 use Rattle.model.specs.Map.{Bytes, key_cmp, is_below, is_in_range}
@@ -37,7 +37,7 @@ looked_at r [] ss = []
 looked_at r (p ∷ ps) ss = p ∷ not_passed r ps (drop 1 ss)
 
 -- those of them that are behind the first
-abbrev pub pages_ahead : {X Y : Type 0} → Entries X Y → List (Page X)
+abbrev pub pages_ahead : {X Y : Type 0} {g : _} → Entries X Y g → List (Page X)
 pages_ahead r = not_passed r.reader (drop 1 r.pages.now) (drop 1 r.summaries.now)
 
 -- the entries of the pages that a range looks at, from a place of the first on
@@ -46,7 +46,7 @@ entries_from r at [] ss = []
 entries_from r at (p ∷ ps) ss = drop at p.0 ++ entries (not_passed r ps (drop 1 ss))
 
 -- the entries that are left
-abbrev pub entries_left : {X Y : Type 0} → (ℕ → X → Bool) → Entries X Y → List (Bytes × X)
+abbrev pub entries_left : {X Y : Type 0} {g : _} → (ℕ → X → Bool) → Entries X Y g → List (Bytes × X)
 entries_left hides r = up_to (end_bytes r.hi)
     (shown (hides r.reader.number) (entries_from r.reader r.at r.pages.now r.summaries.now))
 
@@ -94,6 +94,13 @@ IsCutAlike {X} ps hi qs bound =
 abbrev pub KnowsPages : Reader → List Summary → Type 0
 KnowsPages r ss = (0 < r.bit) ⊎ AllByRecursion (λ s. s.last ≤ r.number) ss
 
--- the pages that are left to look at are those that were, without some at the front
-abbrev pub GoesOn : {X Y : Type 0} → Entries X Y → Entries X Y → Type 0
-GoesOn old new = (n : ℕ) × (pages_ahead new ≡ drop n (pages_ahead old))
+-- the first n of the pages that were ahead were looked at: those behind them are left, and the count has risen by n
+pub record LooksAhead {X : Type 0} (old new : List X) (before after : ℕ) : Type 0 where
+  pub n : ℕ
+  pub within : n ≤ length old
+  pub left : new ≡ drop n old
+  pub counted : after ≡ before + n
+
+-- the pages that are left to look at are those that were, without the first, and each of these is counted
+abbrev pub GoesOn : {X Y : Type 0} {g : _} → Entries X Y g → Entries X Y g → Type 0
+GoesOn old new = LooksAhead (pages_ahead old) (pages_ahead new) old.pages_looked_at new.pages_looked_at

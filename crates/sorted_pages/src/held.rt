@@ -1,8 +1,8 @@
 //! The numbers that are held: those at which readers began who may still ask. Each stands in a slot, and has the bit of that slot in what
 //! is known of a page.
 ghost use Rattle.std.specs.Prelude.{◌≡◌, ◌==◌, ◌&&◌, ◌≤◌, ◌<◌, ℕ, true, nat_le, nat_lt, false, if◌then◌else◌};
-ghost use Rattle.sorted_pages.specs.Held.{AreApart, AreBits, AreHeldFrom, AreHeldOf, IsHeldLate, IsReader, is_among};
-ghost use Rattle.sorted_pages.specs.Held.{with_number};
+ghost use Rattle.sorted_pages.specs.Held.{AreApart, AreBits, AreBounded, AreHeldFrom, AreHeldOf, IsHeldLate};
+ghost use Rattle.sorted_pages.specs.Held.{IsReader, is_among, with_number};
 ghost use Rattle.std.specs.Int.{bit_at};
 ghost use Rattle.sorted_pages.specs.Summaries.{BitsHide, are_hidden};
 
@@ -27,17 +27,19 @@ pub(crate) struct Reader {
 #[derive(Drop)]
 pub(crate) struct Held {
     slots: [u64; HELD_MAX],
+    // each held number is below it; 0 where none is held
+    bound: u64,
 }
 
 impl Model for Held {
     ghost use Rattle.std.specs.Prelude.{ℕ, List};
-    ghost use Rattle.sorted_pages.specs.Held.{AreApart};
+    ghost use Rattle.sorted_pages.specs.Held.{AreApart, AreBounded};
 
     ghost Value = { List ℕ };
 
     ghost view = { λ h. h.slots };
 
-    ghost invariant = { λ h. AreApart h.slots };
+    ghost invariant = { λ h. AreApart h.slots × AreBounded h.bound h.slots };
 }
 
 impl Held {
@@ -48,6 +50,7 @@ impl Held {
     pub(crate) fn none() -> Held {
         Held {
             slots: [FREE; HELD_MAX],
+            bound: 0,
         }
     }
 
@@ -77,6 +80,9 @@ impl Held {
         ensures bits { AreBits (λ n. nat_le low n && nat_lt n high) self.now result }
         ensures places { length self.now ≡ HELD_MAX }
     {
+        if self.bound <= low {
+            return 0;
+        }
         let mut bits = 0;
         for slot in 0..HELD_MAX {
             let number = self.slots[slot];
@@ -98,6 +104,9 @@ impl Held {
         requires { BitsHide V.hides self.now high entries.now known }
         ensures { AreBits (λ n. nat_lt n high && are_hidden (V.hides n) entries.now) self.now result }
     {
+        if self.bound == 0 {
+            return 0;
+        }
         let mut bits = 0;
         for slot in 0..HELD_MAX {
             let number = self.slots[slot];
@@ -117,6 +126,7 @@ impl Held {
         for slot in 0..HELD_MAX {
             self.slots[slot] = kept(self.slots[slot], numbers);
         }
+        self.bound = bound_of(numbers);
     }
 
     // Holds the number, where a slot is free.
@@ -126,6 +136,7 @@ impl Held {
     {
         if let Some(slot) = self.slot_of(FREE) {
             self.slots[slot] = number;
+            self.bound = self.bound.max(number.saturating_add(1));
         }
     }
 
@@ -142,20 +153,34 @@ impl Held {
         }
     }
 
-    // Holds these numbers alone: those that were held, and those that aren't below `last`.
+    // Holds these numbers alone: those that were held, and those that aren't below `last`, as many as fit.
     pub(crate) fn hold(&mut self, numbers: &[u64], last: u64)
-        requires { length numbers.now ≤ HELD_MAX }
         ensures slots { AreHeldFrom last self.old self.new }
         ensures among { (n : ℕ) → is_among self.new n ≡ true → n < last → is_among numbers.now n ≡ true }
-        ensures held { (n : ℕ) → is_among numbers.now n ≡ true → n < last → is_among self.old n ≡ true
-            → is_among self.new n ≡ true }
-        ensures added { (n : ℕ) → is_among numbers.now n ≡ true → last ≤ n → is_among self.new n ≡ true }
+        ensures held { length numbers.now ≤ HELD_MAX
+            → (n : ℕ) → is_among numbers.now n ≡ true → is_among self.old n ≡ true → is_among self.new n ≡ true }
+        ensures added { length numbers.now ≤ HELD_MAX
+            → (n : ℕ) → is_among numbers.now n ≡ true → last ≤ n → is_among self.new n ≡ true }
     {
+        if self.bound == 0 && numbers.is_empty() {
+            return;
+        }
         self.release_others(numbers);
         for number in numbers {
             self.add_late(*number, last);
         }
     }
+}
+
+// One more than the greatest of the numbers; 0 where there is none.
+fn bound_of(numbers: &[u64]) -> u64
+    ensures { AreBounded result numbers.now }
+{
+    let mut bound: u64 = 0;
+    for number in numbers {
+        bound = bound.max(number.saturating_add(1));
+    }
+    bound
 }
 
 // What stands in the number's slot when only these are held.

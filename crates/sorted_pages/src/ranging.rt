@@ -35,6 +35,7 @@ pub(crate) fn within<'a, V: Versioned>(
     ensures entries { entries_left V.hides result
         ≡ shown_in (V.hides reader.number) pages.now lo.entry.bytes.now (end_bytes hi.entry) }
     ensures ahead { KnowsPages reader summaries.now → AreSeen (V.hides reader.number) (pages_ahead result) }
+    ensures looked_at { result.pages_looked_at ≡ 0 }
 {
     if pages.is_empty() {
         return Entries {
@@ -43,6 +44,7 @@ pub(crate) fn within<'a, V: Versioned>(
             summaries,
             hi,
             reader,
+            pages_looked_at: 0,
         };
     }
     let i = place(pages, lo);
@@ -52,6 +54,7 @@ pub(crate) fn within<'a, V: Versioned>(
         summaries: &summaries[i..],
         hi,
         reader,
+        pages_looked_at: 0,
     }
 }
 

@@ -4,9 +4,8 @@ use Rattle.std.proofs.Common.{refl, ap, ◌∙◌, arith, inl, inr}
 use Rattle.std.proofs.lemmas.Bool.{cond_both, both_ways, or_cases, or_right}
 use Rattle.std.proofs.lemmas.Bool.Decides.{nat_tests}
 use Rattle.std.specs.List.{AllByRecursion, list_any}
-use Rattle.std.specs.Prelude.{IfSome, nat_le, nat_lt, if◌then◌else◌, ◌==◌, is_none, is_some, not}
+use Rattle.std.specs.Prelude.{IfSome, nat_le, nat_lt, if◌then◌else◌, ◌==◌, is_none}
 use Rattle.model.proofs.Elements.{all-append, all-each}
-use Rattle.model.specs.Map.{Bytes}
 use Rattle.sorted_pages.specs.Values.{IsChangedAt, IsTrimmed}
 use Rattle.versions.specs.Chains.{CanAddVersion, Stamped, ChainValue, last_at, version_at, value_of, seen, seen_in}
 use Rattle.versions.specs.Chains.{added, number_of_first, is_between, seen_by, reclaimed, IsRisingTo, IsRisingChain}
@@ -38,14 +37,6 @@ seen-added m None v room = grind (arith, nat_tests)
 seen-added m (Some c) v room = grind (arith, nat_tests, last_at-push m None c.older c.newest)
 
 -- ---- which numbers see something of a chain
-
-none_some : (v : Option Bytes) → is_none v ≡ not (is_some v)
-none_some None = refl
-none_some (Some x) = refl
-
--- the newest version is what its number and those above see
-pub hides-newest : (n : ℕ) (c : ChainValue) → c.newest.number ≤ n → hides n c ≡ not (shows c)
-hides-newest n c le = grind (arith, nat_tests, none_some c.newest.value)
 
 -- numbers below a new version's see what they saw
 pub changed-longer : (c : ChainValue) (v : Stamped) (room : ℕ) → IsChangedAt hides (λ c. c.newest.number) v.number c (longer_chain c v room)

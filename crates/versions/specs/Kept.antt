@@ -8,4 +8,4 @@ use Rattle.versions.specs.declared.chain.Kept.TheVariants.{Value, Deletion, More
 abbrev pub kept_chain : Kept → ChainValue
 kept_chain (Value number value) = fresh_chain (stamped number (Some value)) 0
 kept_chain (Deletion number) = fresh_chain (stamped number None) 0
-kept_chain (More several) = several.value
+kept_chain (More versions) = versions

@@ -5,6 +5,7 @@ ghost use Rattle.versions.specs.Chains.{IsRoomierChain, seen, hides, shows, long
 ghost use Rattle.versions.specs.Kept.{kept_chain};
 ghost use Rattle.versions.specs.Listings.{has_version};
 
+use crate::boxed::BoxedVersions;
 use crate::several::{Several, Version};
 use crate::value::KeptValue;
 use sorted_pages::Versioned;
@@ -21,7 +22,7 @@ enum Kept {
     // one version, a deletion
     Deletion(u64),
     // several, or room for them
-    More(Box<Several>),
+    More(BoxedVersions),
 }
 
 /// The newest version of a key, and those before it by rising number.
@@ -65,7 +66,7 @@ impl Chain {
         match &self.kept {
             Kept::Value(number, _) => *number,
             Kept::Deletion(number) => *number,
-            Kept::More(several) => several.as_ref().number(),
+            Kept::More(boxed) => boxed.number(),
         }
     }
 
@@ -76,7 +77,7 @@ impl Chain {
         match &self.kept {
             Kept::Value(_, _) => 1,
             Kept::Deletion(_) => 1,
-            Kept::More(several) => several.as_ref().len(),
+            Kept::More(boxed) => boxed.len(),
         }
     }
 
@@ -89,7 +90,7 @@ impl Chain {
             Kept::Value(number, value) if *number <= n => Some(value.as_slice()),
             Kept::Value(_, _) => None,
             Kept::Deletion(_) => None,
-            Kept::More(several) => several.as_ref().seen(n),
+            Kept::More(boxed) => boxed.seen(n),
         }
     }
 
@@ -101,8 +102,8 @@ impl Chain {
         if count == 1 {
             return;
         }
-        if let Kept::More(several) = &mut self.kept {
-            several.as_mut().reclaim(begins);
+        if let Kept::More(boxed) = &mut self.kept {
+            boxed.reclaim(begins);
         }
         if self.len() == 1 {
             self.free_spare();
@@ -115,7 +116,7 @@ impl Chain {
         ensures { self.new ≡ fresh_chain self.old.newest 0 }
     {
         match mem::replace(&mut self.kept, Kept::Deletion(0)) {
-            Kept::More(several) => *self = Chain::new(Box::into_inner(several).newest),
+            Kept::More(boxed) => *self = Chain::new(boxed.into_newest()),
             kept => self.kept = kept,
         }
     }
@@ -153,7 +154,7 @@ impl Versioned for Chain {
     // Adds a version in the room that was made for it.
     fn add(&mut self, version: Version) {
         match &mut self.kept {
-            Kept::More(several) => several.as_mut().add(version),
+            Kept::More(boxed) => boxed.add(version),
             _ => unreachable!(),
         }
     }
@@ -165,7 +166,7 @@ impl Versioned for Chain {
     // Is there a version of this number before the newest?
     fn has(&self, number: u64) -> bool {
         match &self.kept {
-            Kept::More(several) => several.as_ref().has(number),
+            Kept::More(boxed) => boxed.has(number),
             _ => false,
         }
     }
@@ -180,7 +181,7 @@ impl Versioned for Chain {
         match &self.kept {
             Kept::Value(_, _) => true,
             Kept::Deletion(_) => false,
-            Kept::More(several) => several.as_ref().shows(),
+            Kept::More(boxed) => boxed.shows(),
         }
     }
 
@@ -204,10 +205,10 @@ fn with_room(alloc: Global, kept: Kept) -> (Kept, Result<(), AllocError>)
     ensures known { 0 < (kept_chain kept).room → IsOk result.1 }
 {
     match kept {
-        Kept::More(several) => {
-            let mut several = several;
-            let result = several.as_mut().reserve();
-            (Kept::More(several), result)
+        Kept::More(boxed) => {
+            let mut boxed = boxed;
+            let result = boxed.reserve();
+            (Kept::More(boxed), result)
         }
         Kept::Value(number, value) => grown(
             alloc,
@@ -239,7 +240,7 @@ fn grown(alloc: Global, newest: Version) -> (Kept, Result<(), AllocError>)
         Err(fault) => return (Chain::new(newest).kept, Err(fault)),
     }
     match Box::new(alloc, Several { newest, older }) {
-        Ok(several) => (Kept::More(several), Ok(())),
+        Ok(several) => (Kept::More(BoxedVersions::new(several)), Ok(())),
         Err(failed) => (Chain::new(failed.value.newest).kept, Err(AllocError)),
     }
 }

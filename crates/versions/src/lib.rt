@@ -4,6 +4,7 @@
 //! long as that number is active. Old versions are collected where no active number sees them.
 #![tactic(auto)]
 
+mod boxed;
 mod chain;
 mod installing;
 mod laws;

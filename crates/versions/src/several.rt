@@ -1,5 +1,6 @@
 //! A key that has several versions, or room for more than one.
-ghost use Rattle.std.specs.Prelude.{◌≡◌, ◌==◌, ◌+◌, ◌<◌, ◌≤◌, ℕ, true, length, IfSome, IsOk, OnOk, Some};
+ghost use Rattle.std.specs.List.{AllByRecursion};
+ghost use Rattle.std.specs.Prelude.{◌≡◌, ◌==◌, ◌+◌, ◌<◌, ◌≤◌, ℕ, true, false, length, IfSome, IsOk, None, OnOk, Some};
 ghost use Rattle.std.specs.Prelude.{option_copied};
 ghost use Rattle.model.specs.Key.{IsValue};
 ghost use Rattle.versions.specs.Chains.{is_between, seen, shows, longer_chain, thinned};
@@ -127,6 +128,15 @@ impl Several {
         // Shows the view of the newest version, which the chain's view contains.
         let _ = &self.newest;
         self.older.iter().any(|version| version.number == number)
+    }
+
+    // Is one of the versions before the newest a value?
+    pub(crate) fn shows_before(&self) -> bool
+        ensures { result ≡ false → AllByRecursion (λ v. v.value ≡ None) self.now.older }
+    {
+        // Shows the view of the newest version, which the chain's view contains.
+        let _ = &self.newest;
+        self.older.iter().any(|version| version.value.is_some())
     }
 
     // Is the newest version a value?

@@ -15,10 +15,10 @@ ghost use Rattle.sorted_pages.specs.Pages.{places_in};
 ghost use Rattle.std.specs.List.{AllByRecursion};
 ghost use Rattle.versions.specs.Listings.{IsTrulyUnclassified};
 ghost use Rattle.versions.specs.Installing.{HasMoreRoom};
-ghost use Rattle.versions.specs.Lent.{pages_ahead, range_pairs};
+ghost use Rattle.versions.specs.Lent.{pages_ahead, pages_looked_at, range_pairs};
 ghost use Rattle.versions.specs.StandsFor.{StandForSame, StandWithCommit, StandWhereAmong, StandsFor};
 ghost use Rattle.versions.specs.StandsFor.{AreHeldWhereKnown, ClassifiedWhereActive};
-ghost use Rattle.sorted_pages.specs.Summaries.{AreSeen};
+ghost use Rattle.sorted_pages.specs.Summaries.{AreSeen, HoldsAmong, HoldsKnown};
 ghost use Rattle.sorted_pages.specs.declared.held.TheConstants.{HELD_MAX};
 
 use crate::chain::Chain;
@@ -48,6 +48,16 @@ pub struct Versions {
     listed: LinkedList<Vec<OldVersion>>,
     // the greatest number that was installed
     last: u64,
+}
+
+// Holds these numbers alone: what is known of each page is what they see.
+fn hold(chains: &mut SortedPages<Chain>, begins: &[u64])
+    ensures pages { chains.new.pages ≡ chains.old.pages }
+    ensures last { chains.new.last ≡ chains.old.last }
+    ensures among { HoldsAmong begins.now chains.new }
+    ensures held { length begins.now ≤ HELD_MAX → HoldsKnown begins.now chains.old chains.new }
+{
+    chains.hold(begins);
 }
 
 impl Model for Versions {
@@ -114,6 +124,7 @@ impl Versions {
         ensures pairs { range_pairs result
             ≡ pairs_in_range (map_seen self.now n) range.entry.lo.bytes.now (end_bytes range.entry.hi) }
         ensures ahead { is_known n self.now ≡ true → AreSeen (hides n) (pages_ahead result) }
+        ensures looked_at { pages_looked_at result ≡ 0 }
     {
         Pairs::new(self.chains.range(range, n), n)
     }
@@ -191,15 +202,14 @@ impl Versions {
         Ok(())
     }
 
-    /// From now on these numbers alone are active, 64 at most, so what they see of each page is held, as far as it was known. Nothing else
-    /// changes. Its time grows with the square of how many there are. Takes no memory.
+    /// From now on these numbers alone are active, so what they see of each page is held, as far as it was known. Where they are more than
+    /// 64, that of some isn't. Nothing else changes. Its time grows with the square of how many there are. Takes no memory.
     pub fn keep_active(&mut self, begins: &[u64])
-        requires { length begins.now ≤ HELD_MAX }
         ensures kept { self.new ≡ record self.old { held = self.new.held } }
-        ensures held { AreHeldWhereKnown begins.now self.old self.new }
-        ensures stands { StandWhereAmong begins.now self.old self.new }
+        ensures held { length begins.now ≤ HELD_MAX → AreHeldWhereKnown begins.now self.old self.new }
+        ensures stands { length begins.now ≤ HELD_MAX → StandWhereAmong begins.now self.old self.new }
     {
-        self.chains.hold(begins);
+        hold(&mut self.chains, begins);
     }
 
     /// Installs the writes of commit `n` in the room that `prepare` made for them: one version more for each. No number below `n` sees
@@ -230,7 +240,7 @@ impl Versions {
     /// those that `reclaim` leaves it.
     ///
     /// What each commit superseded is a list, of at most as many versions as it wrote, under a number that sees them, its pin. Once the pin
-    /// is none of these numbers, 64 at most, the list is garbage, and a call looks at 2 garbage lists, from the last group on: so a new
+    /// is none of these numbers, the list is garbage, and a call looks at 2 garbage lists, from the last group on: so a new
     /// list need not wait for those that an old number left. For each version in a list it walks the key's chain once, against the numbers
     /// themselves, and called again with the same numbers it ends. Takes no memory: where the lists of two commits come under one pin,
     /// they are linked. The lists under one pin are one group, so there are no more groups than numbers and one. Lists that are needed
@@ -239,32 +249,30 @@ impl Versions {
     ///
     /// From then on these numbers alone are active, as after `keep_active`.
     pub fn reclaim_step(&mut self, begins: &[u64]) -> bool
-        requires { length begins.now ≤ HELD_MAX }
         ensures reclaimed { IsReclaimedInPart self.old self.new begins.now }
         ensures still { result ≡ nat_lt 0 (garbage_of begins.now self.new) }
         ensures few { groups_of self.new ≤ length begins.now + 1 }
         ensures unclassified { AllByRecursion (IsTrulyUnclassified begins.now) self.new.groups }
         ensures classified { ClassifiedWhereActive begins.now self.old self.new }
-        ensures stands { StandWhereAmong begins.now self.old self.new }
+        ensures stands { length begins.now ≤ HELD_MAX → StandWhereAmong begins.now self.old self.new }
     {
-        self.chains.hold(begins);
+        hold(&mut self.chains, begins);
         reclaim_versions(&mut self.chains, &mut self.groups, begins)
     }
 
-    /// Drops the versions that are neither the newest of their keys nor seen from one of the numbers, 64 at most; there may be no number. A
-    /// deletion that is the newest version of its key stays.
+    /// Drops the versions that are neither the newest of their keys nor seen from one of the numbers; there may be no number. A deletion
+    /// that is the newest version of its key stays.
     ///
     /// It takes the steps of `reclaim_step` until no list is garbage. So its time grows with the versions in the garbage lists, for each of
     /// which it walks its key's chain against the numbers, and where lists are unclassified, with the versions in them for each step. Takes
     /// no memory.
     pub fn reclaim(&mut self, begins: &[u64])
-        requires { length begins.now ≤ HELD_MAX }
         ensures reclaimed { IsReclaimed self.old self.new begins.now }
         ensures no_garbage { garbage_of begins.now self.new ≡ 0 }
         ensures few { groups_of self.new ≤ length begins.now + 1 }
         ensures unclassified { AllByRecursion (IsTrulyUnclassified begins.now) self.new.groups }
-        ensures classified { ClassifiedWhereActive begins.now self.old self.new }
-        ensures stands { StandWhereAmong begins.now self.old self.new }
+        ensures classified { length begins.now ≤ HELD_MAX → ClassifiedWhereActive begins.now self.old self.new }
+        ensures stands { length begins.now ≤ HELD_MAX → StandWhereAmong begins.now self.old self.new }
     {
         'steps: while self.reclaim_step(begins) {}
     }

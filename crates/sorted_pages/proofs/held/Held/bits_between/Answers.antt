@@ -1,6 +1,6 @@
 use Rattle.std.proofs.Common.{◌∙◌, ℕ, List, arith, sym, subst}
 use Rattle.std.specs.Prelude.{nat_le, nat_lt, ◌&&◌}
-use Rattle.sorted_pages.proofs.Slots.{AreBitsTo, bits-all, bits-left, bits-set}
+use Rattle.sorted_pages.proofs.Slots.{AreBitsTo, bits-all, bits-left, bits-set, none_between}
 use Rattle.sorted_pages.specs.Held.{AreBits}
 use Rattle.sorted_pages.proofs.held.Held.bits_between.Goals.{then-is_between, else-is_between}
 use Rattle.sorted_pages.proofs.held.Held.bits_between.Goals as goal
@@ -18,3 +18,9 @@ returns-clause-bits c =
     let p = λ (n : ℕ). nat_le c.args.low n && nat_lt n c.args.high in
     subst (λ (ns : List ℕ). AreBits p ns c.loop-slot.bits) c.self.view_is
     (bits-all p c.self.inside.slots c.loop-slot.slot c.loop-slot.bits 0 c.loop-slot.invariant (omega arith))
+
+pub returns-then-self-low-clause-bits : goal.returns-then-self-low-clause-bits
+returns-then-self-low-clause-bits c =
+    let p = λ (n : ℕ). nat_le c.args.low n && nat_lt n c.args.high in
+    subst (λ (ns : List ℕ). AreBits p ns 0) c.self.view_is
+    (none_between c.self.inside.bound c.args.low c.args.high c.self.inside.slots c.self.invariant.1 (omega arith) (omega arith))

@@ -1,7 +1,9 @@
-use Rattle.std.proofs.Common.{◌∙◌, ℕ, List, arith, sym, subst}
-use Rattle.std.specs.Prelude.{nat_lt, ◌&&◌}
-use Rattle.sorted_pages.proofs.Slots.{AreBitsTo, bits-all, bits-left, bits-set}
-use Rattle.sorted_pages.specs.Held.{AreBits}
+use Rattle.std.proofs.Common.{◌∙◌, ◌≡◌, ℕ, List, Some, get_or, arith, sym, subst}
+use Rattle.std.proofs.lemmas.Bool.{eqb-true}
+use Rattle.std.proofs.lemmas.Option.{slice_get-get_or}
+use Rattle.std.specs.Prelude.{nat_lt, slice_get, ◌&&◌}
+use Rattle.sorted_pages.proofs.Slots.{AreBitsTo, bits-all, bits-left, bits-set, none_below}
+use Rattle.sorted_pages.specs.Held.{AreBits, AreBounded}
 use Rattle.sorted_pages.specs.Summaries.{are_hidden}
 use Rattle.sorted_pages.proofs.held.Held.bits_hiding.Goals.{then-is_hidden, else-is_hidden}
 use Rattle.sorted_pages.proofs.held.Held.bits_hiding.Goals as goal
@@ -19,3 +21,19 @@ returns g c =
     let p = λ (n : ℕ). nat_lt n c.args.high && are_hidden (g.V.Versioned.hides n) c.args.entries.now in
     subst (λ (ns : List ℕ). AreBits p ns c.loop-slot.bits) c.self.view_is
     (bits-all p c.self.inside.slots c.loop-slot.slot c.loop-slot.bits 0 c.loop-slot.invariant (omega arith))
+
+-- its bit is known to be right
+pub is_hidden-requires : goal.is_hidden-requires
+is_hidden-requires g c = λ known below.
+    let number = get_or c.self.inside.slots c.loop-slot.slot 0 in
+    let at = slice_get-get_or c.self.inside.slots c.loop-slot.slot 0 (omega arith) in
+    let there = subst (λ (ns : List ℕ). slice_get ns c.loop-slot.slot ≡ Some number) c.self.view_is at in
+    c.requires c.loop-slot.slot number there below (eqb-true _ _ (sym c.has_bit.ensures ∙ known))
+
+pub returns-then-self-eq0 : goal.returns-then-self-eq0
+returns-then-self-eq0 g c =
+    let none : c.self.inside.bound ≡ 0 = omega arith in
+    let below = subst (λ b. AreBounded b c.self.inside.slots) none c.self.invariant.1 in
+    let hidden = λ (n : ℕ). are_hidden (g.V.Versioned.hides n) c.args.entries.now in
+    subst (λ (ns : List ℕ). AreBits (λ n. nat_lt n c.args.high && hidden n) ns 0) c.self.view_is
+    (none_below c.args.high hidden c.self.inside.slots below (omega arith))

@@ -8,4 +8,4 @@ loop-number-init c = hold-first c.args.last c.args.numbers.now c.args.self.now c
 
 pub loop-number-preserved : goal.loop-number-preserved
 loop-number-preserved c = hold-more c.args.last c.args.numbers.now c.loop-number.number-index _ c.args.self.now c.loop-number.self c.add_late.new.self
-    c.loop-number.invariant (omega arith) (omega arith) refl c.add_late.ensures
+    c.loop-number.invariant (omega arith) refl c.add_late.ensures

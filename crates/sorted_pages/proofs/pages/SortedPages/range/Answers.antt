@@ -31,6 +31,7 @@ returns-in-None g c =
     record {
       entries = rw (sym n, sym same, c.in-None.is) c.within.ensures.entries;
       ahead = λ known. rw (sym n) (c.within.ensures.ahead (knows (rw c.self.view_is known)));
+      looked_at = c.within.ensures.looked_at;
     }
 
 pub returns-in-Some : goal.returns-in-Some
@@ -43,4 +44,5 @@ returns-in-Some g c =
     record {
       entries = rw (sym n, sym same, c.in-Some.is) (c.within-in-Some.ensures.entries ∙ c.up_to.ensures.same hides c.args.range.lo.bytes.now);
       ahead = λ known. rw (sym n) (c.within-in-Some.ensures.ahead (knows (rw c.self.view_is known)));
+      looked_at = c.within-in-Some.ensures.looked_at;
     }

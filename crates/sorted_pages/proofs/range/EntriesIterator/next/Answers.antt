@@ -1,5 +1,5 @@
 use Rattle.sorted_pages.proofs.range.EntriesIterator.next.Goals as goal
-use Rattle.std.proofs.Common.{◌≡◌, ◌+◌, ◌<◌, ◌≤◌, ◌∷◌, ap, sym, ◌∙◌, arith, drop, false, true, get_or, length, refl}
+use Rattle.std.proofs.Common.{◌≡◌, ◌<◌, ◌≤◌, ◌∷◌, ap, sym, ◌∙◌, arith, drop, false, true, get_or, length, refl}
 use Rattle.std.proofs.lemmas.Grind.{common_steps}
 use Rattle.std.proofs.lemmas.List.{take_rest}
 use Rattle.model.specs.KeyBytes.{end_bytes}
@@ -68,5 +68,5 @@ loop-page-preserved g c =
     record {
       left = next_page hides r.reader (end_bytes r.hi) page ps rest r.summaries.now r.at at _ _ next none c.next_seen-self.ensures.shown behind
           ∙ c.loop-page.invariant.left;
-      ahead = (before.0 + 1, goes_on r.reader page ps rest _ _ r.summaries.now _ before.0 next behind before.1);
+      ahead = goes_on r.reader page ps rest _ _ r.summaries.now _ _ _ _ next behind (grind (arith, common_steps)) before;
     }

@@ -10,13 +10,13 @@ pub returns-clause-kept : goal.returns-clause-kept
 returns-clause-kept c = grind (arith, common_steps)
 
 pub returns-clause-held : goal.returns-clause-held
-returns-clause-held c = λ n t known.
-    held-known c.args.begins.now c.self.inside.chains c.hold.new.self n c.self.inside.last c.hold.ensures.held c.self.invariant.4 t
+returns-clause-held c = λ few n t known.
+    held-known c.args.begins.now c.self.inside.chains c.hold.new.chains n c.self.inside.last (c.hold.ensures.held few) c.self.invariant.4 t
     (ap (is_known n) c.self.view_is ∙ known)
 
 pub returns-clause-stands : goal.returns-clause-stands
-returns-clause-stands c =
+returns-clause-stands c = λ few.
     let bs = c.args.begins.now in
     let is = returns-clause-kept c in
     subst (StandWhereAmong bs c.args.self.now) (sym is)
-    (stands-holding bs c.hold.new.self.held c.args.self.now (subst (AreHeldWhereKnown bs c.args.self.now) is (returns-clause-held c)))
+    (stands-holding bs c.hold.new.chains.held c.args.self.now (subst (AreHeldWhereKnown bs c.args.self.now) is (returns-clause-held c few)))

@@ -9,7 +9,7 @@ no_garbage : (r : Bool) (n : ℕ) → r ≡ nat_lt 0 n → r ≡ false → n ≡
 no_garbage r n is none = grind (arith, nat_tests)
 
 pub steps-init : goal.steps-init
-steps-init c = record { seen = seen-itself c.args.self.now c.args.begins.now; stands = stands-itself c.args.begins.now c.args.self.now }
+steps-init c = record { seen = seen-itself c.args.self.now c.args.begins.now; stands = λ few. stands-itself c.args.begins.now c.args.self.now }
 
 pub steps-preserved : goal.steps-preserved
 steps-preserved c =
@@ -17,7 +17,7 @@ steps-preserved c =
     let bs = c.args.begins.now in
     record {
       seen = seen-on old c.steps.self c.reclaim_step.new.self bs c.steps.invariant.seen c.reclaim_step.ensures.reclaimed.seen;
-      stands = stands-on bs old c.steps.self c.reclaim_step.new.self c.steps.invariant.stands c.reclaim_step.ensures.stands;
+      stands = λ few. stands-on bs old c.steps.self c.reclaim_step.new.self (c.steps.invariant.stands few) (c.reclaim_step.ensures.stands few);
     }
 
 pub returns-clause-reclaimed : goal.returns-clause-reclaimed
@@ -26,9 +26,9 @@ returns-clause-reclaimed c =
     (c.reclaim_step.ensures.reclaimed.all (no_garbage _ _ c.reclaim_step.ensures.still c.steps-test.false))
 
 pub returns-clause-classified : goal.returns-clause-classified
-returns-clause-classified c =
-    classified-on c.args.begins.now c.args.self.now c.steps.self c.reclaim_step.new.self c.steps.invariant.stands c.reclaim_step.ensures.classified
+returns-clause-classified c = λ few.
+    classified-on c.args.begins.now c.args.self.now c.steps.self c.reclaim_step.new.self (c.steps.invariant.stands few) c.reclaim_step.ensures.classified
 
 pub returns-clause-stands : goal.returns-clause-stands
-returns-clause-stands c =
-    stands-on c.args.begins.now c.args.self.now c.steps.self c.reclaim_step.new.self c.steps.invariant.stands c.reclaim_step.ensures.stands
+returns-clause-stands c = λ few.
+    stands-on c.args.begins.now c.args.self.now c.steps.self c.reclaim_step.new.self (c.steps.invariant.stands few) (c.reclaim_step.ensures.stands few)

@@ -1,5 +1,5 @@
 use Rattle.versions.proofs.versions.Versions.reclaim_step.Goals as goal
-use Rattle.std.proofs.Common.{ℕ, List, ◌≡◌, ◌-◌, ◌&&◌, subst, sym, ap, ◌∙◌, refl, arith}
+use Rattle.std.proofs.Common.{ℕ, Bool, List, ◌≡◌, ◌-◌, ◌&&◌, subst, sym, ap, ◌∙◌, refl, arith}
 use Rattle.std.specs.Prelude.{option_map}
 use Rattle.model.specs.Map.{Bytes}
 use Rattle.sorted_pages.specs.Pages.{Page, PagesValue, entries}
@@ -7,10 +7,11 @@ use Rattle.versions.proofs.Histories.{stands-reclaimed}
 use Rattle.versions.proofs.Pages.{held-known}
 use Rattle.versions.proofs.Stores.{reclaimed-part}
 use Rattle.versions.proofs.UnderPins.{groups-classified, under-reclaimed}
-use Rattle.versions.specs.Chains.{ChainValue, IsKept, find_chain, reclaimed, ChainsValue}
+use Rattle.versions.specs.Chains.{ChainValue, Chains, IsKept, find_chain, reclaimed, ChainsValue}
+use Rattle.versions.specs.Groups.{GroupValue}
 use Rattle.versions.specs.Listings.{IsAllReclaimed, IsPartReclaimed}
 use Rattle.versions.specs.Meaning.{garbage_of, lists_a_step, IsReclaimedInPart, is_among, is_known}
-use Rattle.versions.specs.Pins.{AreUnderPins}
+use Rattle.versions.specs.Pins.{AreUnderPins, MoveUnderPins}
 use Rattle.versions.specs.Reclaiming.{ReclaimsChains, ReclaimsPages}
 
 whole : (old inside new : ChainsValue) (bs : List ℕ) → inside ≡ old → IsKept inside.chains inside.last → IsKept new.chains new.last → new.last ≡ inside.last
@@ -28,10 +29,18 @@ all_since : (bs : List ℕ) (old mid new : PagesValue ChainValue) → mid.pages 
     → IsAllReclaimed bs (entries old.pages) (entries new.pages)
 all_since bs old mid new same h = subst (λ (ps : List (Page ChainValue)). IsAllReclaimed bs (entries ps) (entries new.pages)) same h
 
+-- what the groups list stands under pins that are among the numbers
+pinned_since : (bs : List ℕ) (active : ℕ → Bool) (v old : ChainsValue) (new : Chains) (hs : List GroupValue) → v ≡ old → IsPartReclaimed bs v.chains new
+    → MoveUnderPins bs v.groups hs → AreUnderPins active old old.groups
+    → AreUnderPins (λ n. active n && is_among bs n) (record v { chains = new }) hs
+pinned_since bs active v old new hs same part each under =
+    each active (λ n. active n && is_among bs n) v (record v { chains = new }) (under-reclaimed active bs v (record v { chains = new }) part refl)
+    (subst (λ (u : ChainsValue). AreUnderPins active u u.groups) (sym same) under)
+
 pub invariant_of-self : goal.invariant_of-self
 invariant_of-self c =
     let e = c.reclaim_versions.ensures in
-    let chains = since c.args.begins.now c.self.inside.chains c.hold.new.self c.reclaim_versions.new.chains c.hold.ensures.pages e.step.pages in (
+    let chains = since c.args.begins.now c.self.inside.chains c.hold.new.chains c.reclaim_versions.new.chains c.hold.ensures.pages e.step.pages in (
       chains.kept c.self.inside.last c.self.invariant.0,
       e.groups.listed,
       c.self.invariant.2,
@@ -47,19 +56,19 @@ pub returns-clause-reclaimed : goal.returns-clause-reclaimed
 returns-clause-reclaimed c =
     let bs = c.args.begins.now in
     let step = c.reclaim_versions.ensures.step in
-    let chains = since bs c.self.inside.chains c.hold.new.self c.reclaim_versions.new.chains c.hold.ensures.pages step.pages in
+    let chains = since bs c.self.inside.chains c.hold.new.chains c.reclaim_versions.new.chains c.hold.ensures.pages step.pages in
     whole c.args.self.now _ _ bs c.self.view_is c.self.invariant.0 (chains.kept c.self.inside.last c.self.invariant.0) refl
     step.garbage chains.part
-    (λ none. all_since bs c.self.inside.chains c.hold.new.self c.reclaim_versions.new.chains c.hold.ensures.pages (step.all none))
+    (λ none. all_since bs c.self.inside.chains c.hold.new.chains c.reclaim_versions.new.chains c.hold.ensures.pages (step.all none))
 
 pub returns-clause-stands : goal.returns-clause-stands
-returns-clause-stands c = λ active base history s.
+returns-clause-stands c = λ few active base history s.
     let bs = c.args.begins.now in
     let e = c.reclaim_versions.ensures in
-    let chains = since bs c.self.inside.chains c.hold.new.self c.reclaim_versions.new.chains c.hold.ensures.pages e.step.pages in
+    let chains = since bs c.self.inside.chains c.hold.new.chains c.reclaim_versions.new.chains c.hold.ensures.pages e.step.pages in
     stands-reclaimed c.args.self.now active base history _ bs (returns-clause-reclaimed c).seen
     (λ n t known. ap (λ l. is_among l n) e.step.pages.held.held
-    ∙ held-known bs c.self.inside.chains c.hold.new.self n c.self.inside.last c.hold.ensures.held c.self.invariant.4 t
+    ∙ held-known bs c.self.inside.chains c.hold.new.chains n c.self.inside.last (c.hold.ensures.held few) c.self.invariant.4 t
     (ap (is_known n) c.self.view_is ∙ known))
     (λ h. e.groups.each active (λ n. active n && is_among bs n) _ _ (under-reclaimed active bs _ _ chains.part refl)
     (subst (λ (v : ChainsValue). AreUnderPins active v v.groups) (sym c.self.view_is) h)) s
@@ -67,9 +76,9 @@ returns-clause-stands c = λ active base history s.
 pub returns-clause-classified : goal.returns-clause-classified
 returns-clause-classified c = λ active base history s all.
     let bs = c.args.begins.now in
+    let now = λ (n : ℕ). active n && is_among bs n in
     let e = c.reclaim_versions.ensures in
-    let chains = since bs c.self.inside.chains c.hold.new.self c.reclaim_versions.new.chains c.hold.ensures.pages e.step.pages in
-    groups-classified bs (λ n. active n && is_among bs n) _ c.self.inside.last
-    (λ n t. ap (λ b. b && is_among bs n) (all n t)
-    ∙ t) (chains.kept c.self.inside.last c.self.invariant.0) c.reclaim_versions.new.groups.items
-    e.groups.active (returns-clause-stands c active base history s).pinned e.groups.unclassified e.groups.truly
+    let chains = since bs c.self.inside.chains c.hold.new.chains c.reclaim_versions.new.chains c.hold.ensures.pages e.step.pages in
+    let pinned = pinned_since bs active _ c.args.self.now _ c.reclaim_versions.new.groups.items c.self.view_is chains.part e.groups.each s.pinned in
+    groups-classified bs now _ c.self.inside.last (λ n t. ap (λ b. b && is_among bs n) (all n t) ∙ t)
+    (chains.kept c.self.inside.last c.self.invariant.0) c.reclaim_versions.new.groups.items e.groups.active pinned e.groups.unclassified e.groups.truly

@@ -1,4 +1,4 @@
-use Rattle.sorted_pages.proofs.range.passed_pages.Goals as goal
+use Rattle.sorted_pages.proofs.passing.passed_pages.Goals as goal
 use Rattle.sorted_pages.proofs.Steps.{behind_passed, passed_known}
 
 pub returns-clause-known : goal.returns-clause-known
