@@ -2,8 +2,8 @@
 use Rattle.engine.specs.declared.faults.ReadFault.TheVariants as reads
 use Rattle.std.specs.Borrow.{Bor}
 use Rattle.std.specs.List.{AllByRecursion, list_any}
-use Rattle.std.specs.Prelude.{◌≡◌, ◌↔◌, ◌⊎◌, ℕ, ◌-◌, ◌^◌, Bool, true, false, ◌||◌, nat_lt, ◌==◌, ◌≤◌, Option, Some}
-use Rattle.std.specs.Prelude.{None, option_copied, Result, Ok, Err, IsTrue, IsFalse, List, [], ◌∷◌, map}
+use Rattle.std.specs.Prelude.{◌≡◌, ◌↔◌, ◌⊎◌, ℕ, ◌+◌, ◌-◌, ◌^◌, min, Bool, true, false, ◌||◌, nat_lt, ◌==◌, ◌≤◌}
+use Rattle.std.specs.Prelude.{Option, Some, None, option_copied, Result, Ok, Err, IsTrue, IsFalse, List, [], ◌∷◌, map}
 use Rattle.model.specs.KeyBytes.{key_bytes}
 use Rattle.model.specs.Leading.{LeadsBy}
 use Rattle.model.specs.Machine.{State, Running, running_of, last, snapshot, step}
@@ -37,6 +37,10 @@ use Rattle.engine.specs.declared.faults.ReadFault.{ReadFault}
 -- the log
 abbrev pub log_of : {D : Type 0} {g : Ghosts D} → Engine D g → Log D g
 log_of e = e.log
+
+-- how many pages its ranges have looked at
+abbrev pub pages_looked_at : {D : Type 0} {g : Ghosts D} → Engine D g → ℕ
+pages_looked_at e = e.pages_looked_at
 
 -- the device, how many of its calls have failed, and whether one failed in a commit
 abbrev pub device_of : {D : Type 0} {g : Ghosts D} → Engine D g → D
@@ -84,7 +88,11 @@ response_to_read f (Err reads.NotOpen) = Some (Refused NotOpen)
 response_to_read f (Err reads.FullMarks) = Some (Refused FullMarks)
 response_to_read f (Err reads.Memory) = None
 
--- where a GET and a RANGE lead, which leave the log and its device alone
+-- the pages that a range has looked at are counted, up to 2^64 - 1
+abbrev pub CountsPages : {D : Type 0} {g : Ghosts D} → Engine D g → Engine D g → ℕ → Type 0
+CountsPages old new pages = pages_looked_at new ≡ min (pages_looked_at old + pages) (2 ^ 64 - 1)
+
+-- where a GET and a RANGE lead, which leave the log and its device alone; a RANGE doesn't count its pages yet
 abbrev pub GetLeads : {D : Type 0} {g : Ghosts D} → Engine D g → Engine D g → ℕ → KeyRef
     → Result (Option (Bor Bytes)) ReadFault → Type 0
 GetLeads old new s key result =
@@ -96,6 +104,7 @@ abbrev pub RangeLeads : {D : Type 0} {g : Ghosts D} → Engine D g → Engine D 
 RangeLeads old new s r limit result =
     Leads old new s (range_read r limit) false (response_to_read (λ rows. Pairs (row_pairs rows)) result)
     × (log_of new ≡ log_of old)
+    × (pages_looked_at new ≡ pages_looked_at old)
 
 -- so it is of the session's open transaction, if it has one
 abbrev pub WhereOpen : {D : Type 0} {g : Ghosts D} → Engine D g → ℕ → (State → Running → Type 0) → Type 0
@@ -128,10 +137,6 @@ has_engine_written e s = has_writes (entry_of s e)
 -- how many records its log has
 abbrev pub engine_records : {D : Type 0} {g : Ghosts D} → Engine D g → ℕ
 engine_records e = record_count e.log
-
--- how many pages its ranges have looked at
-abbrev pub pages_looked_at : {D : Type 0} {g : Ghosts D} → Engine D g → ℕ
-pages_looked_at e = e.pages_looked_at
 
 -- the versions that are kept, and what is kept to check later commits
 abbrev pub versions_of : {D : Type 0} {g : Ghosts D} → Engine D g → ChainsValue

@@ -47,7 +47,7 @@ impl<D: Sectors> Engine<D> {
     ghost use Rattle.engine.specs.Recovery.{LeavesCommitted};
     ghost use Rattle.engine.specs.Meaning.{StandsFor, Leads, IsReadOnly, KeepsStates, response_to, device_of, log_of};
     ghost use Rattle.engine.specs.Meaning.{has_engine_stopped, has_engine_written, engine_records, versions_of};
-    ghost use Rattle.engine.specs.Meaning.{pages_looked_at};
+    ghost use Rattle.engine.specs.Meaning.{CountsPages, StandsForSame, pages_looked_at};
     ghost use Rattle.engine.specs.Meaning.{committed_of, facts_of, open_begins, HasForgottenOld};
 
     /// Begins a transaction of the session, over the map that is committed now.
@@ -231,6 +231,16 @@ impl<D: Sectors> Engine<D> {
         ensures { result ≡ pages_looked_at self.now }
     {
         self.pages_looked_at
+    }
+
+    /// Counts pages that a range has looked at (`Rows::pages_looked_at`), and changes nothing else. Who asked for the range calls it once,
+    /// when the rows have been read. Takes no memory.
+    pub fn count_pages(&mut self, pages: usize)
+        ensures same { StandsForSame self.old self.new }
+        ensures log { log_of self.new ≡ log_of self.old }
+        ensures counts { CountsPages self.old self.new pages }
+    {
+        self.pages_looked_at = self.pages_looked_at.saturating_add(pages as u64);
     }
 
     /// How many versions of the key are kept. Takes no memory.

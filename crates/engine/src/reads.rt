@@ -42,6 +42,8 @@ impl<D: Sectors> Engine<D> {
     /// many as the limit, the keys from `lo` to the last of them are marked as read, both included; else the whole range is, unless it is
     /// empty.
     ///
+    /// It doesn't count the pages that it has looked at, since it lends the rows: who has read them calls `count_pages`.
+    ///
     /// Refusals: `NotOpen`; `FullMarks` for a 257th mark. It may take copies of two keys and room for a mark; `Memory` where that is
     /// refused, never for a range that is empty or whose reply asks for a mark that is there.
     pub fn range(&mut self, s: u64, range: RangeRef<'_>, limit: u8) -> Result<Rows<'_>, ReadFault>

@@ -17,7 +17,7 @@ use Rattle.commit_log.specs.declared.log.Log.{Log}
 use Rattle.snapshot.specs.Made.{is_refused}
 use Rattle.engine.specs.Changes.{UsesLogOnce}
 use Rattle.engine.specs.Meaning.{StandsFor, Leads, IsNotRefused, device_of, failures_of, has_risen, response_to}
-use Rattle.engine.specs.Meaning.{response_to_read, IsLeftByCommit}
+use Rattle.engine.specs.Meaning.{response_to_read, IsLeftByCommit, StandsForSame}
 use Rattle.engine.specs.declared.engine.Engine.{Engine}
 use Rattle.engine.specs.declared.faults.EngineFault.{EngineFault}
 use Rattle.engine.specs.declared.faults.EngineFault.TheVariants.{Refused as RefusedFor, Memory as OutOfMemory}
@@ -116,6 +116,11 @@ module _ {D : Type 0} {g : Ghosts D} (old new : Engine D g) (s : ℕ) (q : Opera
     err,
     λ m h. ap (λ r. is_refused r.1) (leads m h).2 ∙ plain,
   )
+
+-- to an engine that stands for the same states
+pub leads_same : {D : Type 0} {g : Ghosts D} (old mid new : Engine D g) (s : ℕ) (q : Operation) (failed : Bool) (response : Response)
+    → Leads old mid s q failed (Some response) → StandsForSame mid new → Leads old new s q failed (Some response)
+leads_same old mid new s q failed response leads same m h = let n = leads m h in (n.0, (same n.0).0 n.1, n.2)
 
 -- a read's refusal doesn't depend on what it reads
 same_refusal : {T : Type 0} (f : T → Response) (fault : ReadFault) → response_to_read f (Err fault) ≡ refusal_to_read fault

@@ -58,7 +58,7 @@ fn get<D: Sectors>(
     }
 }
 
-/// Executes a RANGE, and writes its reply.
+/// Executes a RANGE, writes its reply, and counts the pages that it has looked at.
 fn range<D: Sectors>(
     engine: &mut Engine<D>,
     s: u64,
@@ -72,7 +72,12 @@ fn range<D: Sectors>(
     ensures log { log_of engine.new ≡ log_of engine.old }
 {
     match engine.range(s, range, limit) {
-        Ok(rows) => out.write_pairs(rows),
+        Ok(rows) => {
+            let pages = rows.pages_looked_at();
+            let written = out.write_pairs(rows);
+            engine.count_pages(pages);
+            written
+        }
         Err(fault) => write_read_fault(out, fault),
     }
 }

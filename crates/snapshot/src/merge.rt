@@ -19,7 +19,7 @@ pub(crate) struct MergedPairs<'a> {
 
 impl<'a> MergedPairs<'a> {
     ghost use Rattle.std.specs.Prelude.{◌≡◌, [], None};
-    ghost use Rattle.versions.specs.Lent.{range_pairs};
+    ghost use Rattle.versions.specs.Lent.{GoesOn, pages_looked_at, range_pairs};
     ghost use Rattle.snapshot.specs.Merged.{merged};
     ghost use Rattle.snapshot.specs.Ahead.{merged_pairs, with_ahead};
 
@@ -33,12 +33,20 @@ impl<'a> MergedPairs<'a> {
         }
     }
 
+    // How many pages of keys behind the first of the range were looked at so far.
+    pub(crate) fn pages_looked_at(&self) -> usize
+        ensures { result ≡ pages_looked_at self.now.pairs }
+    {
+        self.pairs.pages_looked_at()
+    }
+
     // Looks at the first of the pairs, unless that is done. A copy made from now on need not look for it.
     pub(crate) fn look(&mut self)
         ensures writes { self.new.writes ≡ self.old.writes }
         ensures pairs { with_ahead self.new.ahead (range_pairs self.new.pairs)
             ≡ with_ahead self.old.ahead (range_pairs self.old.pairs) }
         ensures none { self.new.ahead ≡ None → range_pairs self.new.pairs ≡ [] }
+        ensures counts { GoesOn self.old.pairs self.new.pairs }
     {
         if self.ahead.is_none() {
             self.ahead = self.pairs.next();
@@ -53,6 +61,7 @@ impl<'a> Iterator for MergedPairs<'a> {
     ghost use Rattle.std.specs.Iterator.{MakesProgress, YieldsFirstBy, item_count};
     ghost use Rattle.model.specs.Key.{IsValue};
     ghost use Rattle.model.specs.KeyBytes.{pair_bytes};
+    ghost use Rattle.versions.specs.Lent.{GoesOn};
     ghost use Rattle.snapshot.specs.Ahead.{merged_pairs};
 
     ghost next_gives = { YieldsFirstBy pair_bytes merged_pairs };
@@ -63,6 +72,8 @@ impl<'a> Iterator for MergedPairs<'a> {
     fn next(&mut self) -> Option<(KeyRef<'a>, &'a [u8])>
         ensures steps { YieldsFirstBy pair_bytes merged_pairs self.old result self.new }
         ensures goes { MakesProgress (λ _. ⊤) (item_count merged_pairs) self.old result self.new }
+        // It counts the pages that it goes on to.
+        ensures counts { GoesOn self.old.pairs self.new.pairs }
         // Each value is short.
         ensures short { IfSome result (λ p. IsValue p.1.now) }
     {

@@ -11,6 +11,8 @@ use model::KeyRef;
 pub struct Rows<'a> {
     rest: MergedPairs<'a>,
     left: usize,
+    // how many pages the walk that found the pairs has looked at
+    pages_looked_at: usize,
     ghost counted: { left ≤ length (merged_pairs rest) },
 }
 
@@ -19,14 +21,21 @@ impl<'a> Rows<'a> {
     ghost use Rattle.std.specs.Iterator.{AlwaysYields, YieldsFirstBy};
     ghost use Rattle.model.specs.KeyBytes.{pair_bytes};
     ghost use Rattle.snapshot.specs.Ahead.{merged_pairs};
-    ghost use Rattle.snapshot.specs.RowPairs.{row_pairs};
+    ghost use Rattle.snapshot.specs.PageCounts.{AreCounted, IsCounted};
+    ghost use Rattle.snapshot.specs.RowPairs.{row_pairs, rows_looked_at};
 
-    // The first `left` of the pairs.
-    pub(crate) fn new(rest: MergedPairs<'a>, left: usize) -> Rows<'a>
-        requires { left ≤ length (merged_pairs rest) }
-        ensures { row_pairs result ≡ take left (merged_pairs rest.entry) }
+    // The first `left` of the pairs, with how many pages the walk that found them has looked at.
+    pub(crate) fn new(rest: MergedPairs<'a>, left: usize, pages_looked_at: usize) -> Rows<'a>
+        requires within { left ≤ length (merged_pairs rest) }
+        requires counts { IsCounted rest left pages_looked_at }
+        ensures pairs { row_pairs result ≡ take left (merged_pairs rest.entry) }
+        ensures counts { AreCounted result }
     {
-        Rows { rest, left }
+        Rows {
+            rest,
+            left,
+            pages_looked_at,
+        }
     }
 
     /// How many pairs are left.
@@ -36,6 +45,13 @@ impl<'a> Rows<'a> {
         ensures gives { AlwaysYields (YieldsFirstBy pair_bytes row_pairs) pair_bytes self.now (row_pairs self.now) }
     {
         self.left
+    }
+
+    /// How many pages of keys were looked at to find the pairs, behind the first of the range. Takes no memory.
+    pub fn pages_looked_at(&self) -> usize
+        ensures { result ≡ rows_looked_at self.now }
+    {
+        self.pages_looked_at
     }
 }
 

@@ -15,6 +15,7 @@ ghost use Rattle.snapshot.specs.RowPairs.{row_pairs};
 ghost use Rattle.snapshot.specs.Made.{HasMade, WhereMade, WhereSeen, MakesOneMore, IsFullWhen, IsValueReply};
 ghost use Rattle.snapshot.specs.Made.{MarkFaults, IsDoneReply, IsKnownRange, IsLeftByGet, range_read};
 ghost use Rattle.snapshot.specs.PairsReply.{IsPairsReply, IsLeftByRange};
+ghost use Rattle.snapshot.specs.PageCounts.{AreCounted};
 ghost use Rattle.snapshot.specs.contracts.transaction.Transaction.{the_row};
 
 use crate::faults::SnapshotFault;
@@ -173,6 +174,7 @@ impl Transaction {
             (λ m qs. IsPairsReply result (answer m qs (range_read range.entry limit))) }
         ensures few { IfOk result (λ rows. length (row_pairs rows) ≤ limit) }
         ensures in_bounds { IfOk result (λ rows. IsInBounds (row_pairs rows)) }
+        ensures counts { IfOk result AreCounted }
         ensures* after { sem 𝓛
             (Rests the_row self.entry (λ new. IsLeftByRange versions.now self.old range.entry limit result new)) }
     {
@@ -180,7 +182,7 @@ impl Transaction {
         let mut pairs = MergedPairs::new(writes, versions.range(self.begin, range));
         pairs.look();
         match mark_page(&mut self.marks, pairs, range, limit) {
-            Ok(len) => Ok(Rows::new(pairs, len)),
+            Ok(page) => Ok(Rows::new(pairs, page.len, page.pages_looked_at)),
             Err(fault) => Err(fault),
         }
     }

@@ -1,5 +1,5 @@
 use Rattle.snapshot.proofs.first_pairs.find_page.Goals as goal
-use Rattle.std.proofs.Common.{◌∙◌, arith}
+use Rattle.std.proofs.Common.{◌∙◌, arith, sym}
 use Rattle.std.proofs.lemmas.Grind.{common_steps}
 use Rattle.model.specs.KeyBytes.{pair_bytes}
 use Rattle.snapshot.proofs.Pages.{one_more, one_more_in_bounds, short_page, taken_same}
@@ -19,3 +19,11 @@ loop-k-preserved c =
     let more = one_more (merged_pairs c.args.pairs) c.loop-k.len (pair_bytes (c.in-Some.key, c.in-Some._value)) (merged_pairs c.next.new.self)
     (c.loop-k.invariant.gone ∙ c.in-Some.ensures.steps) in
     grind (arith, common_steps, one_more_in_bounds)
+
+pub returns-in_default-clause-counts : goal.returns-in_default-clause-counts
+returns-in_default-clause-counts c =
+    record { rest = c.next.new.self; left = grind (arith, common_steps); goes = grind (arith, common_steps); is = c.pages_looked_at.ensures }
+
+pub returns-clause-counts : goal.returns-clause-counts
+returns-clause-counts c =
+    record { rest = c.loop-k.rest; left = sym c.loop-k.invariant.gone; goes = c.loop-k.invariant.goes; is = c.pages_looked_at-2.ensures }

@@ -54,5 +54,6 @@ returns-in-Ok-over-clause-opens g c = record {
       c.in-Ok-over.ensures.empty c.new.ensures.empty
       (λ keeps. let s = c.in-Ok.ensures.stands keeps in record { lists = s.0; stands = s.1; makes = sym s.2 });
   idle = λ m h. nil_from_length m.running (AllZip-long _ _ m.running h.running ∙ ap length c.new.ensures.empty);
+  looked_at = refl;
   in_bounds = λ m h. subst IsInBounds (committed_first _ c.in-Ok.opened.1 m c.in-Ok-over.ensures.stands h) c.over.ensures.in_bounds;
 }

@@ -26,6 +26,7 @@ returns-in-Ok g c =
           own_call e _ c.args.s q _ t _ (Some (Pairs (row_pairs c.in-Ok.rows))) (λ b m r. refl) (record { log = refl; history = refl })
               (sym c.in-Some.ensures.value) active.0 active.2 begin answered,
           refl,
+          refl,
         ),
       ),
       record { known = λ m h t r k. refl; few = c.in-Ok.ensures.few; in_bounds = c.in-Ok.ensures.in_bounds; after = tt },
@@ -48,6 +49,7 @@ returns-in-Err g c =
           own_call e _ c.args.s q _ t _ _ (λ b m r. refl) (record { log = refl; history = refl }) (sym c.in-Some.ensures.value) active.0 active.2
               (ap (λ (u : View). u.begin) is) answered,
           refl,
+          refl,
         ),
       ),
       record {
@@ -67,6 +69,7 @@ returns-in-None g c = (
     (
       refused_outside c.args.self.now _ c.args.s (range_read c.args.range c.args.limit) _ NotOpen (record { log = refl; history = refl })
           (ap (λ n. n.entries) c.get_mut.follows.holds-at-none) (sym c.in-None.ensures.value) (λ m h. refl),
+      refl,
       refl,
     ),
   ),

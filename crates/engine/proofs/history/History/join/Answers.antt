@@ -1,8 +1,9 @@
 use Rattle.engine.proofs.history.History.join.Goals as goal
-use Rattle.std.proofs.Common.{◌≡◌, ℕ, ◌+◌, Bool, true, List, [], ◌∷◌, ◌++◌, ap, sym, subst, ◌∙◌, length, arith}
+use Rattle.std.proofs.Common.{◌≡◌, ℕ, ◌+◌, ◌≤◌, Bool, true, List, [], ◌∷◌, ◌++◌, ap, sym, subst, ◌∙◌, length, arith}
+use Rattle.std.proofs.Common.{take}
 use Rattle.std.proofs.lemmas.Bool.{and_parts, or_left}
 use Rattle.std.proofs.lemmas.Bool.Decides.{nat_tests}
-use Rattle.std.proofs.lemmas.List.{nil_from_length}
+use Rattle.std.proofs.lemmas.List.{length-take, nil_from_length}
 use Rattle.std.specs.BTreeMap.{values}
 use Rattle.std.specs.Prelude.{◌==◌, ◌&&◌, ◌||◌, map, nat_le, IsTrue}
 use Rattle.model.specs.History.{Record}
@@ -57,8 +58,11 @@ pub returns-then-not-is_empty-clause-stands : goal.returns-then-not-is_empty-cla
 returns-then-not-is_empty-clause-stands c = λ few.
     let bs = map (λ (t : View). t.begin) (values c.args.others.now) in
     let begins = c.gather_begins-count.ensures.numbers few in
-    let kept = subst (λ ns. StandWhereAmong ns c.self.inside.versions c.keep_active.new.self) begins c.keep_active.ensures.stands in
-    let held = subst (λ ns. AreHeldWhereKnown ns c.self.inside.versions c.keep_active.new.self) begins c.keep_active.ensures.held in
+    let taken = c.gather_begins-count.result.count in
+    let short : length (take taken c.gather_begins-count.new.numbers) ≤ 64 =
+    omega (arith, length-take taken c.gather_begins-count.new.numbers, c.gather_begins-count.ensures.count) in
+    let kept = subst (λ ns. StandWhereAmong ns c.self.inside.versions c.keep_active.new.self) begins (c.keep_active.ensures.stands short) in
+    let held = subst (λ ns. AreHeldWhereKnown ns c.self.inside.versions c.keep_active.new.self) begins (c.keep_active.ensures.held short) in
     subst (λ (v : HistoryValue). Joins bs v (record { versions = c.install.new.self; committed = c.note.new.self }) c.args.transaction) c.self.view_is
     (next_joined bs _ _ c.args.transaction c.into_writes-writes.result.items (c.last-number.result
     + 1) (ap (λ n. n + 1) c.last-number.ensures) c.into_writes-writes.ensures.writes

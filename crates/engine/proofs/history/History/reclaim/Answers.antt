@@ -15,7 +15,7 @@ returns-clause-reclaims c =
     let last = ap (λ (v : CommittedValue). v.facts.last) c.keep_active.ensures.asked ∙ ap (λ (v : CommittedValue). v.facts.last) inside in
     record {
       stands = λ active base history h all. record {
-        versions = c.reclaim.ensures.stands active base history (before active base history h).versions;
+        versions = c.reclaim.ensures.stands c.requires.few active base history (before active base history h).versions;
         committed = c.forget.ensures.stands_for history
             (c.keep_active.ensures.stands_for
             (subst (λ (v : CommittedValue). AllByRecursion (λ b. may_ask v.facts.reach b ≡ true) c.args.begins.now) (sym inside) all) history
@@ -28,5 +28,5 @@ returns-clause-reclaims c =
       reach = c.forget.ensures.forgets.reach ∙ ap (λ (v : CommittedValue). v.facts.reach) c.keep_active.ensures.asked
           ∙ ap (λ (v : CommittedValue). record { begins = c.args.begins.now; since = v.facts.last }) inside;
       forgotten = c.forget.ensures.forgotten;
-      classified = λ active base history h among. c.reclaim.ensures.classified active base history (before active base history h).versions among;
+      classified = λ active base history h among. c.reclaim.ensures.classified c.requires.few active base history (before active base history h).versions among;
     }

@@ -15,7 +15,7 @@ returns-clause-reclaims c =
     let last = ap (λ (v : CommittedValue). v.facts.last) c.keep_active.ensures.asked ∙ ap (λ (v : CommittedValue). v.facts.last) inside in
     record {
       stands = λ active base history h all. record {
-        versions = c.reclaim_step-garbage_versions.ensures.stands active base history (before active base history h).versions;
+        versions = c.reclaim_step-garbage_versions.ensures.stands c.requires.few active base history (before active base history h).versions;
         committed = c.forget_step-garbage_runs.ensures.stands_for history
             (c.keep_active.ensures.stands_for
             (subst (λ (v : CommittedValue). AllByRecursion (λ b. may_ask v.facts.reach b ≡ true) c.args.begins.now) (sym inside) all) history

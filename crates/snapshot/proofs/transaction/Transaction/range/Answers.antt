@@ -1,5 +1,5 @@
 use Rattle.snapshot.proofs.transaction.Transaction.range.Goals as goal
-use Rattle.std.proofs.Common.{ℕ, ◌≤◌, IsTrue, Err, refl, sym, ap, subst, ◌∙◌, length, take}
+use Rattle.std.proofs.Common.{◌≤◌, IsTrue, Err, refl, sym, ap, subst, ◌∙◌, length, take}
 use Rattle.std.specs.Cmp.Lexicographic.{slice_cmp}
 use Rattle.std.specs.FinMap.Entries.{where_key}
 use Rattle.std.specs.Ordering.{nat_cmp}
@@ -12,6 +12,7 @@ use Rattle.snapshot.proofs.Ranges.{range-reply, range-leaves, range-fault, range
 use Rattle.snapshot.proofs.Ranges.{page_above, page_now, after_now, unmarked}
 use Rattle.snapshot.specs.Ahead.{merged_pairs}
 use Rattle.snapshot.specs.Made.{IsFullWhen}
+use Rattle.snapshot.specs.declared.first_pairs.Page.{Page}
 use Rattle.snapshot.specs.Merged.{is_full_for_page, has_page}
 use Rattle.snapshot.specs.View.{View}
 
@@ -25,8 +26,9 @@ mark_page-requires c =
     page_above t c.args.self.now c.args.versions.now r c.args.limit (merged_pairs c.look.new.self) c.self.view_is same
 
 -- as many pairs as were found are there still
-pub new-requires : goal.new-requires
-new-requires c = subst (λ n. n ≤ length (merged_pairs c.look.new.self)) (sym c.in-Ok.ensures.len) (taken_within c.args.limit (merged_pairs c.look.new.self))
+pub new-requires-clause-within : goal.new-requires-clause-within
+new-requires-clause-within c =
+    subst (λ n. n ≤ length (merged_pairs c.look.new.self)) (sym c.in-Ok.ensures.len) (taken_within c.args.limit (merged_pairs c.look.new.self))
 
 pub returns-in-Ok : goal.returns-in-Ok
 returns-in-Ok c =
@@ -40,7 +42,7 @@ returns-in-Ok c =
     ∙ ap (where_key (slice_cmp nat_cmp) (is_in_range (key_bytes r.lo) (end_bytes r.hi))) c.entries.ensures.writes) c.range.ensures.pairs in
     let room = sym (page_now t now v r c.args.limit all c.self.view_is same is_full_for_page) ∙ room_of c.in-Ok.ensures.faults.full in
     let after = after_now t now v r c.args.limit all c.self.view_is same c.mark_page.new.marks c.in-Ok.ensures.ok in
-    let page = c.new.ensures ∙ ap (λ n. take n all) c.in-Ok.ensures.len ∙ taken_length c.args.limit all in
+    let page = c.new.ensures.pairs ∙ ap (λ n. take n all) c.in-Ok.ensures.len ∙ taken_length c.args.limit all in
     let rows = page ∙ rows_now t now v r c.args.limit all c.self.view_is same in (
       (refl, λ _. tt, (after, range-leaves now (map_seen v now.begin) r c.args.limit _ room after)),
       record {
@@ -48,6 +50,7 @@ returns-in-Ok c =
         full = ok_iff c.new.result room;
         few = rw page (taken_few c.args.limit all);
         in_bounds = rw page c.in-Ok.ensures.in_bounds;
+        counts = c.new.ensures.counts;
         reply = λ m qs is h. range-reply now v m qs r c.args.limit is h _ room rows;
         after = tt;
       },
@@ -64,7 +67,7 @@ returns-in-Err c =
     (c.within-writes.ensures
     ∙ ap (where_key (slice_cmp nat_cmp) (is_in_range (key_bytes r.lo) (end_bytes r.hi))) c.entries.ensures.writes) c.range.ensures.pairs in
     let faults = c.in-Err.ensures.faults in
-    let full = subst (IsFullWhen {A = ℕ} (Err c.in-Err.fault)) (page_now t now v r c.args.limit all c.self.view_is same is_full_for_page) faults.full
+    let full = subst (IsFullWhen {A = Page} (Err c.in-Err.fault)) (page_now t now v r c.args.limit all c.self.view_is same is_full_for_page) faults.full
     in (
       (refl, λ _. tt, unmarked t now v r c.args.limit all c.self.view_is same c.mark_page.new.marks c.in-Err.ensures.err),
       record {
@@ -73,6 +76,7 @@ returns-in-Err c =
         full = err_iff full;
         few = tt;
         in_bounds = tt;
+        counts = tt;
         reply = λ m qs is h. range-fault now v m qs r c.args.limit is h c.in-Err.fault (never_of faults.never) (fault_iff full);
         after = tt;
       },
