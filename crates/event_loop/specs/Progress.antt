@@ -34,9 +34,10 @@ module _ {T : Type 0} (reports : Type 0) (traffic : T → Traffic) (was entry : 
     pub sent : reports → length (traffic_through traffic entry.stream).sent
         ≡ length (traffic_through traffic was.stream).sent + was.stream.share
 
-  -- it has had its share of the turn: that was sent, or its drive appended a record, with which that ended
+  -- it has had its share of the turn: that was sent, or it was ended with the reply to a request that appended a record
+  -- or looked at many pages of keys
   abbrev pub HadItsShare : Type 0
-  HadItsShare = WasSentItsShare ⊎ (entry.stream.appended ≡ true)
+  HadItsShare = WasSentItsShare ⊎ (entry.stream.is_ended ≡ true)
 
   -- How far its drive came, in which so many requests were served. One that is ready still was served 64. One that is
   -- idle was served each request that had come in whole, and is owed nothing; or its peer takes no more; or it has had

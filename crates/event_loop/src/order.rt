@@ -1,7 +1,9 @@
 //! Fairness: which of the sessions that are ready are driven in a turn.
 //!
-//! A COMMIT that writes waits for its syncs, and a long reply takes its time, and so does everybody meanwhile. So a turn drives the
-//! sessions that have written nothing and whose last drives were short, with a light share of it: who needs more takes turns from then on.
+//! A COMMIT that writes waits for its syncs, and a long reply takes its time, and so does a RANGE that looks at much, however little it is
+//! answered. Everybody waits meanwhile. So a turn drives the sessions that have written nothing and whose last drives were short, with a
+//! light share of it, which ends with the reply to a request that appends a record or looks at much. Who needs more takes turns from then
+//! on.
 //! Of the others it drives two at most, with a whole share: the next by key, round the table, and one of the other kind, a reader if the
 //! next is a writer, and a writer if it is a reader. So between two polls one session writes at most, and one reads much. The one that
 //! writes is driven last, so that no other of the turn waits for its syncs. Each that waits is driven within as many turns as the table has

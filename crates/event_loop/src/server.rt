@@ -164,6 +164,9 @@ impl<D: Sectors> EventLoop<D> {
     /// one piece: from then on it writes, until a drive answers it and appends nothing. The one that writes is driven behind the others,
     /// so that none of them waits for its syncs.
     ///
+    /// A request that looks at `LOOKED_MAX` pages of keys ends the share of its stream, too, however short its reply is, and the stream is
+    /// heavy from then on. So a drive serves one such request and one more at most.
+    ///
     /// Of those that take no turns it drives as many as it is wide, `WIDTH_MIN` at least, with the least keys. The others are late: they
     /// take turns until they have had one, and of them it drives one less than it is wide besides. It is wider after a turn that drove as
     /// many as it might, and as narrow as may be after one in which several streams turned out heavy. So a crowd whose first requests are
@@ -234,7 +237,8 @@ impl<D: Sectors> EventLoop<D> {
     /// Does nothing, and takes no memory. Its contract says that a session that is ready is driven within as many turns as the table has
     /// places, and one: in each turn it is driven, or it is ready still and comes nearer, or takes turns from then on. And one that is
     /// driven gets on: it is served each request that had come in whole, or `REQUESTS_MAX`, or what it has had of the turn is its share of
-    /// bytes or the reply to a request that appended a record; or its peer takes no more; or it leaves.
+    /// bytes, or the reply to a request that appended a record or looked at `LOOKED_MAX` pages of keys, with which its share was ended; or
+    /// its peer takes no more; or it leaves.
     ///
     /// Under the premise that a poll reports what was registered with it and became ready, and that on sockets, a session over whose
     /// connection something came is ready in the turn whose poll ended then.
@@ -333,7 +337,8 @@ impl<D: Sectors> EventLoop<D> {
         }
     }
 
-    // Drives the sessions that are ready and whose turn it is, those that the last poll reported among them.
+    // Drives the sessions that are ready and whose turn it is, those that the last poll reported among them. Each has its share of the
+    // turn: so many bytes, or the replies up to that to a request that appends a record or looks at many pages of keys.
     fn drive(&mut self)
         ensures drives { DrivesAndEnds ⟦<Socket as Stream>⟧.reports ⟦<Socket as Stream>⟧.traffic self.old self.new }
         ensures poller { self.new.poller ≡ self.old.poller }

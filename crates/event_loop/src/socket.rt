@@ -12,7 +12,7 @@ use mio::{Interest, Token};
 use sector::Sectors;
 use socket_calls::{AcceptedSocket, CountedPoll, CountedSocket};
 use std::io::{self, ErrorKind};
-use stream_driver::{CallCounts, ReadAnswer, Stream, WriteAnswer};
+use stream_driver::{CallCounts, ReadAnswer, ShareEnd, Stream, WriteAnswer};
 
 /// For how many seconds a peer is silent before the system asks whether it is still there.
 const SILENT_SECONDS: u32 = 120;
@@ -165,7 +165,7 @@ impl Stream for Socket {
 
     ghost keeps_share = { ⊥ };
 
-    ghost share = { λ s. record { left = 0; ended = false } };
+    ghost share = { λ s. record { left = 0; ended = false; appended = false } };
 
     ghost came_short = { CameShort };
 
@@ -191,8 +191,8 @@ impl Stream for Socket {
         answer
     }
 
-    fn end_share(&mut self, reply: usize) {
+    fn end_share(&mut self, reply: usize, cause: ShareEnd) {
         // A socket has no share of a turn that could end.
-        let _ = reply;
+        let _ = (reply, cause);
     }
 }

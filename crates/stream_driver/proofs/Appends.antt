@@ -1,32 +1,37 @@
 -- A drive adds one record to the log at most.
 use denote.Struct.Props.{props}
 use Rattle.std.proofs.Common.{◌≡◌, ◌≢◌, ◌⊎◌, ◌↔◌, inl, inr, ℕ, zero, suc, ◌+◌, ◌≤◌, Bool, true, false, List, [], ◌∷◌}
-use Rattle.std.proofs.Common.{length, length-append, take, get_or, Option, None, refl, sym, ap, subst, ◌∙◌, arith}
+use Rattle.std.proofs.Common.{◌++◌, length, length-append, take, get_or, Option, None, Some, refl, sym, ap, subst}
+use Rattle.std.proofs.Common.{◌∙◌, arith}
 use Rattle.std.proofs.Math.Bool.{Bool-set}
 use Rattle.std.proofs.Math.Logic.{∥∥₁_elim}
 use Rattle.std.proofs.Math.Nat.{ℕ_set}
-use Rattle.std.proofs.lemmas.Bool.{both_ways, cases_eq}
+use Rattle.std.proofs.lemmas.Bool.{both_ways, cases_eq, cases_lt}
 use Rattle.std.proofs.lemmas.Grind.{common_steps}
 use Rattle.std.proofs.lemmas.List.{length-take-le, nil_from_length}
 use Rattle.engine.specs.Meaning.{IsReadOnly}
 use Rattle.sessions.proofs.EventSteps.{pending_seen}
 use Rattle.sessions.proofs.Reached.{reached}
 use Rattle.sessions.proofs.Records.{written_seen}
+use Rattle.sessions.specs.Laws.{HasRun, NoneRuns, Ran}
 use Rattle.sessions.specs.SessionStreams.{HubState, HubEvent, Receives, Serves, Sends, Leaves, Choice, hub_step}
 use Rattle.sessions.specs.StandsFor.{HubLeads, CountsRecords, has_written, pending_of, records_of}
 use Rattle.sessions.specs.declared.events.Outcome.{Outcome}
 use Rattle.sessions.specs.declared.events.Outcome.TheVariants.{Done, Memory}
-use Rattle.stream_driver.proofs.States.{seen_after}
-use Rattle.stream_driver.specs.Appends.{AddsNone, AddsOne, IsReplied, KeepsShare, ServesOnce, Spends, Spent}
-use Rattle.stream_driver.specs.Appends.{AppendsAtMost, SpendsShare, ready_count, ready_in, count_if_ready}
+use Rattle.stream_driver.proofs.States.{Follow, seen_after}
+use Rattle.stream_driver.specs.Appends.{AddsNone, AddsOne, AppendsOnce, EndsAs, EndsByAppending, EndsByLooking}
+use Rattle.stream_driver.specs.Appends.{IsReplied, KeepsShare, LooksOnTheWay, ServesInShare, ServesOnce, Spends}
+use Rattle.stream_driver.specs.Appends.{AppendsAtMost, Spent, SpendsShare, pages_between, ready_count, ready_in}
+use Rattle.stream_driver.specs.Appends.{count_if_ready, share_end}
 use Rattle.stream_driver.specs.Calls.{WritesOut, WritesSome}
 use Rattle.stream_driver.specs.Entries.{all_but}
 use Rattle.stream_driver.specs.Sends.{LeadsAnswering}
 use Rattle.stream_driver.specs.Sessions.{Ghosts, Hub, Leads, Stands, pending_at, session_of}
-use Rattle.stream_driver.specs.Traffic.{IsShareEnded, ReceivesBytes, Share, TakesOf, Traffic, SendsBytes}
+use Rattle.stream_driver.specs.Traffic.{EndsFor, ReceivesBytes, Share, TakesOf, Traffic, SendsBytes}
 use Rattle.stream_driver.specs.Traffic.{WritesWithin, bytes_written}
-use Rattle.stream_driver.specs.Types.{Empty, Exchange, WriteAnswer, Wrote, WriteBlocked, WriteFailed, Entry}
-use Rattle.stream_driver.specs.Types.{EntryState, Ready}
+use Rattle.stream_driver.specs.Types.{Appended, Looked, Empty, Exchange, WriteAnswer, Wrote, WriteBlocked}
+use Rattle.stream_driver.specs.Types.{WriteFailed, Entry, EntryState, Ready, ShareEnd}
+use Rattle.stream_driver.specs.declared.driving.TheConstants.{LOOKED_MAX}
 
 -- ---- one event
 
@@ -126,29 +131,91 @@ pending_none {D} {g} {a} {b} {s} some p = seen_after (hlevel props) some p.leads
 pub none_none : {D : Type 0} {g : Ghosts D} (s : ℕ) (hub : Hub D g) → AddsNone s hub hub
 none_none s hub = record { records = refl; wrote = refl }
 
--- as many records as before, and so much of the share that was left then was sent; or one more, with which the share was ended
-abbrev pub IsOnce : {T : Type 0} → Type 0 → (T → Traffic) → (T → Share) → ℕ → T → ℕ → T → Type 0
-IsOnce reports traffic share before was now is =
-    ((now ≡ before) × Spent reports traffic share was is) ⊎ ((now ≡ before + 1) × ((share is).ended ≡ true))
+-- ---- the share's end
 
-module _ {D : Type 0} {g : Ghosts D} {T : Type 0} (reports : Type 0) (traffic : T → Traffic) (share : T → Share) (s records : ℕ) (was : T) where
-  -- Since the drive began, with so many records and a stream that stood so, none was added. Or one was, and no more is left of the share than the reply to
-  -- that request; or nothing is left of it, and the reply to the next one is pending.
+-- a request adds no record and looks at few pages, or adds one, or looks at many
+pub why_ends : {D : Type 0} {g : Ghosts D} (old new : Hub D g)
+    → ((records_of new ≡ records_of old) × (share_end old new ≡ None))
+    ⊎ (((records_of new ≢ records_of old) × (share_end old new ≡ Some Appended))
+    ⊎ ((records_of new ≡ records_of old) × (LOOKED_MAX ≤ pages_between old new) × (share_end old new ≡ Some Looked)))
+why_ends old new = elim (cases_eq (records_of new) (records_of old)) [
+  | inl same ↦ elim (cases_lt (pages_between old new) LOOKED_MAX) [
+    | inl few ↦ inl (same, grind (arith, common_steps))
+    | inr many ↦ inr (inr (same, many, grind (arith, common_steps)))
+  ]
+  | inr differs ↦ inr (inl (differs, grind (arith, common_steps)))
+]
+
+-- no event is a run of the hub to which a run leads
+still_runs : {D : Type 0} {g : Ghosts D} (old new : Hub D g) (events : List (HubEvent × Choice)) → Ran old new events → NoneRuns new
+still_runs old new [] ran = (ran.1, ran.1, record { stands = λ h stands. stands; device_is = refl; stopped_is = refl })
+still_runs old new (e ∷ es) ran = still_runs ran.1 new es ran.3
+
+-- one run after another
+pub runs_then : {D : Type 0} {g : Ghosts D} {a b c : Hub D g} → Follow D g → HasRun a b → HasRun b c → HasRun a c
+runs_then {a} {b} {c} follow p q = (p.0 ++ q.0, follow a b c p.0 q.0 p.1 q.1)
+
+looks_here : {D : Type 0} {g : Ghosts D} {start hub new : Hub D g} → HasRun start hub → HasRun hub new → LOOKED_MAX ≤ pages_between hub new
+    → LooksOnTheWay start new
+looks_here {hub = hub} {new = new} came ran many = record {
+  before = hub;
+  after = new;
+  came = came;
+  looks = ran;
+  goes_on = ([], still_runs hub new ran.0 ran.1);
+  many = many;
+}
+
+module _ {D : Type 0} {g : Ghosts D} {T : Type 0} {share : T → Share} {start hub new : Hub D g} {stream after : T} (same : records_of new ≡ records_of hub)
+    (ended : (share after).ended ≡ true) (appended : (share after).appended ≡ (share stream).appended) where
+  looking_then : {was : T} → Follow D g → HasRun hub new → EndsByLooking share start was hub stream → EndsByLooking share start was new after
+  looking_then follow ran p = record {
+    records = same ∙ p.records;
+    looked = record {
+      before = p.looked.before;
+      after = p.looked.after;
+      came = p.looked.came;
+      looks = p.looked.looks;
+      goes_on = runs_then follow p.looked.goes_on ran;
+      many = p.looked.many;
+    };
+    ended = ended;
+    appended = appended ∙ p.appended;
+  }
+
+  appending_then : EndsByAppending share start hub stream → EndsByAppending share start new after
+  appending_then p = record { records = same ∙ p.records; ended = ended; appended = appended ∙ p.appended }
+
+module _ {D : Type 0} {g : Ghosts D} {T : Type 0} (reports : Type 0) (traffic : T → Traffic) (share : T → Share) (s : ℕ) (start : Hub D g) (was : T) where
+  -- since a drive began at this hub and with a stream that stood so, a request has ended the share, and the session's transaction, if it added a record
+  abbrev pub HasEnded : Hub D g → T → Type 0
+  HasEnded hub stream = EndsByLooking share start was hub stream ⊎ (EndsByAppending share start hub stream × (has_written hub s ≡ false))
+
+  -- None has. Or one has, and no more is left of the share than the reply to that; or nothing is left of it, and the reply to the next one is pending.
   pub data SoFar (hub : Hub D g) (stream : T) : Type 0 where
-    AddedNone : records_of hub ≡ records → Spent reports traffic share was stream → SoFar hub stream
-    AddedOne : records_of hub ≡ records + 1 → has_written hub s ≡ false → IsShareEnded (length (pending_of hub s)) (share stream) → SoFar hub stream
-    TakesNone : records_of hub ≡ records + 1 → pending_of hub s ≢ [] → IsShareEnded 0 (share stream) → SoFar hub stream
+    NotEnded : records_of hub ≡ records_of start → Spent reports traffic share was stream → SoFar hub stream
+    Ended : HasEnded hub stream → (share stream).left ≤ length (pending_of hub s) → SoFar hub stream
+    TakesNone : EndsByLooking share start was hub stream ⊎ EndsByAppending share start hub stream → pending_of hub s ≢ [] → (share stream).left ≤ 0
+        → SoFar hub stream
 
-  -- nothing is pending: no record was added, or one was, and nothing is left of the share
+  -- nothing is pending: none has, or one has, and nothing is left of the share
   abbrev pub IsOut : Hub D g → T → Type 0
   IsOut hub stream =
-      ((records_of hub ≡ records) × Spent reports traffic share was stream)
-      ⊎ ((records_of hub ≡ records + 1) × (has_written hub s ≡ false) × IsShareEnded 0 (share stream))
+      ((records_of hub ≡ records_of start) × Spent reports traffic share was stream) ⊎ (HasEnded hub stream × ((share stream).left ≤ 0))
 
-pub once_then : {T : Type 0} {reports : Type 0} {traffic : T → Traffic} {share : T → Share} {before now later : ℕ} {was is : T}
-    → IsOnce reports traffic share before was now is → later ≡ now → IsOnce reports traffic share before was later is
-once_then (inl x) e = inl (e ∙ x.0, x.1)
-once_then (inr x) e = inr (e ∙ x.0, x.1)
+  -- a request was served since
+  abbrev pub HasServed : Hub D g → T → Type 0
+  HasServed hub stream =
+      ((records_of hub ≡ records_of start) × Spent reports traffic share was stream)
+      ⊎ ((HasEnded hub stream × ((share stream).left ≤ length (pending_of hub s)))
+      ⊎ ((EndsByLooking share start was hub stream ⊎ EndsByAppending share start hub stream) × ((share stream).left ≤ 0)))
+
+pub once_then : {D : Type 0} {g : Ghosts D} {T : Type 0} {reports : Type 0} {traffic : T → Traffic} {share : T → Share} {start now later : Hub D g} {was is : T}
+    → Follow D g → HasRun now later → records_of later ≡ records_of now → AppendsOnce reports traffic share start was now is
+    → AppendsOnce reports traffic share start was later is
+once_then follow ran same (inl x) = inl (same ∙ x.0, x.1)
+once_then follow ran same (inr (inl x)) = inr (inl (looking_then same x.ended refl follow ran x))
+once_then follow ran same (inr (inr x)) = inr (inr (appending_then same x.ended refl x))
 
 none_then : {D : Type 0} {g : Ghosts D} {s : ℕ} {a b c : Hub D g} → AddsNone s a b → AddsNone s b c → AddsNone s a c
 none_then p q = record { records = q.records ∙ p.records; wrote = q.wrote ∙ p.wrote }
@@ -167,21 +234,21 @@ none_written _ differs = refl
 -- of what is left of a share some bytes are taken, and then others
 module _ {T : Type 0} {reports : Type 0} {traffic : T → Traffic} {share : T → Share} where
   pub spends_zero : (t : T) → Spends reports traffic share t 0 t
-  spends_zero t = record { takes = record { left = omega arith; stays = refl }; sent = λ r. omega arith }
+  spends_zero t = record { takes = record { left = omega arith; stays = refl; appended = refl }; sent = λ r. omega arith }
 
   spends_both : {t u v : T} {a b c : ℕ} → a + b ≡ c → Spends reports traffic share t a u → Spends reports traffic share u b v
       → Spends reports traffic share t c v
   spends_both all p q = record {
-    takes = record { left = omega (arith, all, p.takes.left, q.takes.left); stays = q.takes.stays ∙ p.takes.stays };
+    takes = record {
+      left = omega (arith, all, p.takes.left, q.takes.left);
+      stays = q.takes.stays ∙ p.takes.stays;
+      appended = q.takes.appended ∙ p.takes.appended;
+    };
     sent = λ r. omega (arith, all, p.sent r, q.sent r);
   }
 
   spent_then : {t u v : T} {bytes : ℕ} → Spent reports traffic share t u → Spends reports traffic share u bytes v → Spent reports traffic share t v
   spent_then {bytes = bytes} p q = (p.0 + bytes, spends_both refl p.1 q)
-
-  -- nothing is left once all was taken of no more than so many bytes
-  ended_then : {t u : T} {most bytes : ℕ} → most ≤ bytes → IsShareEnded most (share t) → Spends reports traffic share t bytes u → IsShareEnded 0 (share u)
-  ended_then le p q = record { few = omega (arith, le, p.few, q.takes.left); ended = q.takes.stays ∙ p.ended }
 
 -- what a read and a write did to it
 pub spends_read : {T : Type 0} {reports : Type 0} {traffic : T → Traffic} {share : T → Share} {moment : ℕ} {t u : T} {bytes : List ℕ}
@@ -232,7 +299,7 @@ module _ {D : Type 0} {g : Ghosts D} {T : Type 0} {keeps reports : Type 0} {traf
   pub serves_then : {a b c : Hub D g} {t u : T} {answer : Exchange} → KeepsShare keeps reports traffic share s a t b u → AddsOne s b c
       → IsReplied answer (pending_of c s) → ServesOnce keeps reports traffic share s a t answer c u
   serves_then p q replied = record {
-    spends = λ k same. p.spends k;
+    spends = p.spends;
     adds = record {
       none = λ none. q.none (p.adds.wrote ∙ none) ∙ p.adds.records;
       one = λ differs. q.one (λ same. differs (same ∙ p.adds.records)) ∙ ap (λ x. x + 1) p.adds.records;
@@ -245,7 +312,7 @@ module _ {D : Type 0} {g : Ghosts D} {T : Type 0} {keeps reports : Type 0} {traf
   pub serves_not : {a b : Hub D g} {t u : T} {answer : Exchange} → KeepsShare keeps reports traffic share s a t b u → IsReplied answer (pending_of b s)
       → ServesOnce keeps reports traffic share s a t answer b u
   serves_not p replied = record {
-    spends = λ k same. p.spends k;
+    spends = p.spends;
     adds = record { none = λ none. p.adds.records; one = λ differs. absurd (differs p.adds.records); ended = λ differs. absurd (differs p.adds.records) };
     replied = replied;
   }
@@ -270,10 +337,11 @@ module _ {D : Type 0} {g : Ghosts D} {T : Type 0} {keeps reports : Type 0} {traf
 -- ---- the entries of a table, one after another
 
 pub at_most_one : {D : Type 0} {g : Ghosts D} {T : Type 0} {reports : Type 0} {traffic : T → Traffic} {share : T → Share} {old new : Hub D g}
-    {state : EntryState} {was is : T} → state ≡ Ready → IsOnce reports traffic share (records_of old) was (records_of new) is
+    {state : EntryState} {was is : T} → state ≡ Ready → AppendsOnce reports traffic share old was new is
     → AppendsAtMost (count_if_ready state) old new
 at_most_one e (inl x) = rw e (record { kept = omega (arith, x.0); few = omega (arith, x.0) })
-at_most_one e (inr x) = rw e (record { kept = omega (arith, x.0); few = omega (arith, x.0) })
+at_most_one e (inr (inl x)) = rw e (record { kept = omega (arith, x.records); few = omega (arith, x.records) })
+at_most_one e (inr (inr x)) = rw e (record { kept = omega (arith, x.records); few = omega (arith, x.records) })
 
 pub at_most_none : {D : Type 0} {g : Ghosts D} (hub : Hub D g) (count : ℕ) → AppendsAtMost count hub hub
 at_most_none hub count = record { kept = omega arith; few = omega arith }
@@ -312,40 +380,111 @@ appends_last last slots slot is p q =
 
 -- ---- between two requests
 
-module _ {D : Type 0} {g : Ghosts D} {T : Type 0} {keeps reports : Type 0} {traffic : T → Traffic} {share : T → Share} {s records : ℕ} {was : T}
-    {hub new : Hub D g} {stream after : T} where
-  pub spent : keeps → SoFar reports traffic share s records was hub stream → SpendsShare keeps reports traffic share s hub stream new after
-      → IsOnce reports traffic share records was (records_of new) after
-  spent k (AddedNone same so_far) q = inl (q.adds.records ∙ same, spent_then so_far (q.spends k))
-  spent k (AddedOne one written ends) q = inr (q.adds.records ∙ one, (q.spends k).takes.stays ∙ ends.ended)
-  spent k (TakesNone one some ends) q = inr (q.adds.records ∙ one, (q.spends k).takes.stays ∙ ends.ended)
+ends_as : {D : Type 0} {g : Ghosts D} {T : Type 0} {keeps reports : Type 0} {traffic : T → Traffic} {share : T → Share} {s : ℕ} {hub new : Hub D g}
+    {stream after : T} {answer : Exchange} {end : Option ShareEnd} → keeps → ServesInShare keeps reports traffic share s hub stream answer new after
+    → share_end hub new ≡ end → EndsAs end (length (pending_of new s)) (share stream) (share after)
+ends_as {share = share} {s = s} {new = new} {stream = stream} {after = after} k q e =
+    subst (λ end. EndsAs end (length (pending_of new s)) (share stream) (share after)) e (q.ends k)
 
-  -- all that was pending was written
-  pub out : keeps → SoFar reports traffic share s records was hub stream → SpendsShare keeps reports traffic share s hub stream new after
-      → pending_of new s ≡ [] → IsOut reports traffic share s records was new after
-  out k (AddedNone same so_far) q none = inl (q.adds.records ∙ same, spent_then so_far (q.spends k))
-  out k (AddedOne one written ends) q none =
-      inr (q.adds.records ∙ one, q.adds.wrote ∙ written, ended_then (omega (arith, q.pending, ap length none)) ends (q.spends k))
-  out k (TakesNone one some ends) q none =
-      absurd (some (nil_from_length (pending_of hub s) (omega (arith, q.pending, ap length none, ends.few, (q.spends k).takes.left))))
+module _ {D : Type 0} {g : Ghosts D} {T : Type 0} {keeps reports : Type 0} {traffic : T → Traffic} {share : T → Share} {s : ℕ} {start : Hub D g} {was : T}
+    {hub new : Hub D g} {stream after : T} (follow : Follow D g) (k : keeps) (ran : HasRun hub new) where
+  module _ (q : SpendsShare keeps reports traffic share s hub stream new after) where
+    once_ended : EndsByLooking share start was hub stream ⊎ EndsByAppending share start hub stream
+        → EndsByLooking share start was new after ⊎ EndsByAppending share start new after
+    once_ended (inl x) = let takes = (q.spends k).takes in inl (looking_then q.adds.records (takes.stays ∙ x.ended) takes.appended follow ran x)
+    once_ended (inr x) = let takes = (q.spends k).takes in inr (appending_then q.adds.records (takes.stays ∙ x.ended) takes.appended x)
 
-  -- a request was looked for, and where that added a record the share was ended, and no more is left of it than the reply
-  pub served : {answer : Exchange} → keeps → IsOut reports traffic share s records was hub stream
-      → ServesOnce keeps reports traffic share s hub stream answer new after
-      → (records_of new ≢ records_of hub → IsShareEnded (length (pending_of new s)) (share after)) → pending_of new s ≢ []
-      → SoFar reports traffic share s records was new after
-  served k (inl x) q ends some = elim (cases_eq (records_of new) (records_of hub)) [
-    | inl still ↦ AddedNone (still ∙ x.0) (spent_then x.1 (q.spends k still))
-    | inr differs ↦ AddedOne (q.adds.one differs ∙ ap (λ n. n + 1) x.0) (q.adds.ended differs) (ends differs)
-  ]
-  served k (inr x) q ends some = let still = q.adds.none x.1 in TakesNone (still ∙ x.0) some (ended_then (omega arith) x.2 (q.spends k still))
+    pub spent : SoFar reports traffic share s start was hub stream → AppendsOnce reports traffic share start was new after
+    spent (NotEnded same so_far) = inl (q.adds.records ∙ same, spent_then so_far (q.spends k))
+    spent (Ended (inl x) few) = inr (once_ended (inl x))
+    spent (Ended (inr x) few) = inr (once_ended (inr x.0))
+    spent (TakesNone x some none) = inr (once_ended x)
 
-  pub served_once : {answer : Exchange} → keeps → IsOut reports traffic share s records was hub stream
-      → ServesOnce keeps reports traffic share s hub stream answer new after
-      → (records_of new ≢ records_of hub → IsShareEnded (length (pending_of new s)) (share after))
-      → IsOnce reports traffic share records was (records_of new) after
-  served_once k (inl x) q ends = elim (cases_eq (records_of new) (records_of hub)) [
-    | inl still ↦ inl (still ∙ x.0, spent_then x.1 (q.spends k still))
-    | inr differs ↦ inr (q.adds.one differs ∙ ap (λ n. n + 1) x.0, (ends differs).ended)
-  ]
-  served_once k (inr x) q ends = let still = q.adds.none x.1 in inr (still ∙ x.0, (q.spends k still).takes.stays ∙ x.2.ended)
+    -- all that was pending was written
+    pub out : SoFar reports traffic share s start was hub stream → pending_of new s ≡ [] → IsOut reports traffic share s start was new after
+    out (NotEnded same so_far) none = inl (q.adds.records ∙ same, spent_then so_far (q.spends k))
+    out (Ended x few) none =
+        let takes = (q.spends k).takes in
+        let left : (share after).left ≤ 0 = omega (arith, few, takes.left, q.pending, ap length none) in
+        inr (
+          elim x [
+            | inl looked ↦ inl (looking_then q.adds.records (takes.stays ∙ looked.ended) takes.appended follow ran looked)
+            | inr added ↦ inr (appending_then q.adds.records (takes.stays ∙ added.0.ended) takes.appended added.0, q.adds.wrote ∙ added.1)
+          ],
+          left,
+        )
+    out (TakesNone x some left) none =
+        absurd (some (nil_from_length (pending_of hub s) (omega (arith, q.pending, ap length none, left, (q.spends k).takes.left))))
+
+  -- a request was looked for, and the share was ended, if that added a record or looked at many pages
+  module _ {answer : Exchange} (came : HasRun start hub) (q : ServesInShare keeps reports traffic share s hub stream answer new after) where
+    pub serves : IsOut reports traffic share s start was hub stream → HasServed reports traffic share s start was new after
+    serves (inl x) = elim (why_ends hub new) [
+      | inl none ↦
+          let takes : TakesOf (share stream) 0 (share after) = ends_as k q none.1 in
+          inl (none.0 ∙ x.0, spent_then {bytes = 0} x.1 (record { takes = takes; sent = λ r. omega (arith, q.sent k r) }))
+      | inr (inl adds) ↦
+          let ends : EndsFor Appended (length (pending_of new s)) (share stream) (share after) = ends_as k q adds.1 in
+          inr (inl (
+            inr (
+              record {
+                records = q.adds.one adds.0 ∙ ap (λ n. n + 1) x.0;
+                ended = ends.ended;
+                appended = ends.appended;
+              },
+              q.adds.ended adds.0,
+            ),
+            omega (arith, ends.left),
+          ))
+      | inr (inr looks) ↦
+          let ends : EndsFor Looked (length (pending_of new s)) (share stream) (share after) = ends_as k q looks.2 in
+          inr (inl (
+            inl (record {
+              records = looks.0 ∙ x.0;
+              looked = looks_here came ran looks.1;
+              ended = ends.ended;
+              appended = ends.appended ∙ x.1.1.takes.appended;
+            }),
+            omega (arith, ends.left),
+          ))
+    ]
+    serves (inr (inl x, left)) = inr (inr (elim (why_ends hub new) [
+      | inl none ↦
+          let takes : TakesOf (share stream) 0 (share after) = ends_as k q none.1 in
+          (inl (looking_then none.0 (takes.stays ∙ x.ended) takes.appended follow ran x), omega (arith, left, takes.left))
+      | inr (inl adds) ↦
+          let ends : EndsFor Appended (length (pending_of new s)) (share stream) (share after) = ends_as k q adds.1 in (
+            inr (record {
+              records = q.adds.one adds.0 ∙ ap (λ n. n + 1) x.records;
+              ended = ends.ended;
+              appended = ends.appended;
+            }),
+            omega (arith, left, ends.left),
+          )
+      | inr (inr looks) ↦
+          let ends : EndsFor Looked (length (pending_of new s)) (share stream) (share after) = ends_as k q looks.2 in
+          (inl (looking_then looks.0 ends.ended ends.appended follow ran x), omega (arith, left, ends.left))
+    ]))
+    serves (inr (inr x, left)) = inr (inr (elim (why_ends hub new) [
+      | inl none ↦
+          let takes : TakesOf (share stream) 0 (share after) = ends_as k q none.1 in
+          (inr (appending_then none.0 (takes.stays ∙ x.0.ended) takes.appended x.0), omega (arith, left, takes.left))
+      | inr (inl adds) ↦ absurd (adds.0 (q.adds.none x.1))
+      | inr (inr looks) ↦
+          let ends : EndsFor Looked (length (pending_of new s)) (share stream) (share after) = ends_as k q looks.2 in
+          (inr (appending_then looks.0 ends.ended ends.appended x.0), omega (arith, left, ends.left))
+    ]))
+
+-- what holds once a request was served
+module _ {D : Type 0} {g : Ghosts D} {T : Type 0} {reports : Type 0} {traffic : T → Traffic} {share : T → Share} (s : ℕ) {start new : Hub D g} {was after : T}
+  where
+    pub so_far : pending_of new s ≢ [] → HasServed reports traffic share s start was new after → SoFar reports traffic share s start was new after
+    so_far some (inl x) = NotEnded x.0 x.1
+    so_far some (inr (inl x)) = Ended x.0 x.1
+    so_far some (inr (inr x)) = TakesNone x.0 some x.1
+
+    pub served_once : HasServed reports traffic share s start was new after → AppendsOnce reports traffic share start was new after
+    served_once (inl x) = inl x
+    served_once (inr (inl (inl looked, few))) = inr (inl looked)
+    served_once (inr (inl (inr added, few))) = inr (inr added.0)
+    served_once (inr (inr x)) = inr x.0

@@ -90,12 +90,13 @@ module _ {T : Type 0} where
   write_fails old new answer none stays = grind arith
 
   same_turn : {b : BufferedStream T} → KeepsTurn b b
-  same_turn = record { share = refl; whole = refl; appended = refl; writer = refl; heavy = refl }
+  same_turn = record { share = refl; whole = refl; ended = refl; appended = refl; writer = refl; heavy = refl }
 
   turn_then : {a b c : BufferedStream T} → KeepsTurn a b → KeepsTurn b c → KeepsTurn a c
   turn_then p q = record {
     share = q.share ∙ p.share;
     whole = q.whole ∙ p.whole;
+    ended = q.ended ∙ p.ended;
     appended = q.appended ∙ p.appended;
     writer = q.writer ∙ p.writer;
     heavy = q.heavy ∙ p.heavy;

@@ -28,6 +28,9 @@ Follow D g = (old mid new : Hub D g) (es fs : List (HubEvent × Choice)) → Ran
 pub are_runs : {D : Type 0} {g : Ghosts D} (a b : Hub D g) (P : Point → Point → Type 0) → Leads a b P → HasRun a b
 are_runs a b P p = (p.choices, p.ran)
 
+pub has_run : {D : Type 0} {g : Ghosts D} {a b : Hub D g} {P : Point → Point → Type 0} → Leads a b P → HasRun a b
+has_run p = (p.choices, p.ran)
+
 -- nothing happens
 abbrev pub leads_none : {D : Type 0} {g : Ghosts D} (hub : Hub D g) → NoneRuns hub → (P : Point → Point → Type 0) → ((h : Point) → StandsAt hub h → P h h)
     → Leads hub hub P

@@ -8,6 +8,7 @@ use Rattle.stream_driver.specs.Types.{Call, Read, Write, ReadAnswer, Moved, Bloc
 use Rattle.stream_driver.specs.Types.{Wrote, WriteBlocked, WriteFailed, BufferedBytes, Flushed, All}
 use Rattle.stream_driver.specs.declared.buffered.TheConstants.{HEAVY_TURNS, LIGHT_MAX}
 use Rattle.stream_driver.specs.Types.{FlushedBlocked as FlushBlocked, FlushedFailed as FlushFailed, BufferedStream}
+use Rattle.stream_driver.specs.Types.{ShareEnd, Appended, Looked}
 
 -- the bytes that are buffered
 abbrev pub buffered_in : BufferedBytes → List ℕ
@@ -37,6 +38,7 @@ module _ {T : Type 0} where
     pub reads_on : b.reads_on ≡ false
     pub share : b.share ≡ 262144
     pub whole : b.whole ≡ 262144
+    pub ended : b.is_ended ≡ false
     pub appended : b.appended ≡ false
     pub writer : b.is_writer ≡ false
     pub heavy : b.heavy_for ≡ 0
@@ -57,16 +59,16 @@ module _ {T : Type 0} where
   -- a turn of its own begins, with a share of so many bytes
   abbrev pub in_turn_of : ℕ → BufferedStream T → BufferedStream T
   in_turn_of bytes b =
-      record b { share = bytes; whole = bytes; appended = false; heavy_for = b.heavy_for - 1 }
+      record b { share = bytes; whole = bytes; is_ended = false; appended = false; heavy_for = b.heavy_for - 1 }
 
   -- it is passed over in this turn, and heavy until a turn of its own has begun
   abbrev pub passed_over : BufferedStream T → BufferedStream T
   passed_over b = record b { share = 0; heavy_for = max b.heavy_for 1 }
 
-  -- So many bytes of its share make a drive heavy, and the stream for some turns of its own; unless an append has ended
+  -- So many bytes of its share make a drive heavy, and the stream for some turns of its own; unless a request has ended
   -- the share.
   abbrev pub heavy_for_after : BufferedStream T → ℕ
-  heavy_for_after b = cond (not b.appended && nat_le LIGHT_MAX (b.whole - b.share)) HEAVY_TURNS b.heavy_for
+  heavy_for_after b = cond (not b.is_ended && nat_le LIGHT_MAX (b.whole - b.share)) HEAVY_TURNS b.heavy_for
 
   -- what it notes once it has taken bytes
   abbrev pub after_taking : BufferedStream T → BufferedStream T
@@ -76,13 +78,16 @@ module _ {T : Type 0} where
   abbrev pub has_had_share : BufferedStream T → Bool
   has_had_share b = b.share == 0
 
-  -- a drive appended a record, and with a reply of so many bytes its share ends: it is a writer's
-  abbrev pub share_ended : ℕ → BufferedStream T → BufferedStream T
-  share_ended reply b = record b { share = min b.share reply; appended = true; is_writer = true }
+  -- With a reply of so many bytes its share ends: it is a writer's, where that reports an append, and heavy, where much
+  -- was looked at.
+  abbrev pub share_ended : ShareEnd → ℕ → BufferedStream T → BufferedStream T
+  share_ended Appended reply b =
+      record b { share = min b.share reply; is_ended = true; appended = true; is_writer = true }
+  share_ended Looked reply b = record b { share = min b.share reply; is_ended = true; heavy_for = HEAVY_TURNS }
 
-  -- what is left of its share, which a drive that appends a record ends
+  -- what is left of its share, which a drive may end
   abbrev pub share_of : BufferedStream T → Share
-  share_of b = record { left = b.share; ended = b.appended }
+  share_of b = record { left = b.share; ended = b.is_ended; appended = b.appended }
 
   -- No share is left, and nothing happens: the inner stream isn't called, and what is buffered stays so.
   pub record Pauses (old new : BufferedStream T) : Type 0 where
@@ -122,6 +127,7 @@ module _ {T : Type 0} where
   pub record KeepsTurn (old new : BufferedStream T) : Type 0 where
     pub share : new.share ≡ old.share
     pub whole : new.whole ≡ old.whole
+    pub ended : new.is_ended ≡ old.is_ended
     pub appended : new.appended ≡ old.appended
     pub writer : new.is_writer ≡ old.is_writer
     pub heavy : new.heavy_for ≡ old.heavy_for
@@ -144,7 +150,7 @@ module _ {T : Type 0} where
   heavy_after WriteBlocked b = b.heavy_for
   heavy_after WriteFailed b = b.heavy_for
 
-  -- a reply that isn't the one to an append, with which a share ends, is none of a writer
+  -- a reply in a turn in which no record was appended is none of a writer
   abbrev pub is_writer_after : WriteAnswer → BufferedStream T → Bool
   is_writer_after (Wrote n) b = b.appended
   is_writer_after WriteBlocked b = b.is_writer
@@ -157,6 +163,7 @@ module _ {T : Type 0} where
     pub reads_on : new.reads_on ≡ old.reads_on
     pub share : new.share + bytes_written answer ≡ old.share
     pub whole : new.whole ≡ old.whole
+    pub ended : new.is_ended ≡ old.is_ended
     pub appended : new.appended ≡ old.appended
     pub writer : new.is_writer ≡ is_writer_after answer old
     pub heavy : new.heavy_for ≡ heavy_after answer old

@@ -3,7 +3,7 @@ use Rattle.std.specs.List.{AllByRecursion}
 use Rattle.std.specs.Prelude.{◌≡◌, ℕ, Bool, true, ◌+◌, ◌<◌, ◌≤◌, ◌^◌, ◌-◌, min, max, List, [], ◌++◌, Option}
 use Rattle.std.specs.Prelude.{Some, None}
 use Rattle.stream_driver.specs.Types.{Call, Read, Write, ReadAnswer, Moved, Blocked, Failed, Ended, WriteAnswer}
-use Rattle.stream_driver.specs.Types.{Wrote, WriteBlocked, WriteFailed}
+use Rattle.stream_driver.specs.Types.{Wrote, WriteBlocked, WriteFailed, ShareEnd, Appended, Looked}
 
 -- all bytes that had left for the peer by a moment of the device
 pub record Departure : Type 0 where
@@ -61,20 +61,29 @@ abbrev pub bytes_written : WriteAnswer → ℕ
 bytes_written (Wrote n) = n
 bytes_written _ = 0
 
--- a stream's share of a turn: how many bytes are left of it, and whether it was ended with a reply
+-- a stream's share of a turn: how many bytes are left of it, whether it was ended with a reply, and whether that was
+-- the reply to a request that appended a record
 pub record Share : Type 0 where
   pub left : ℕ
   pub ended : Bool
+  pub appended : Bool
 
 -- so many bytes of it were taken
 pub record TakesOf (old : Share) (bytes : ℕ) (new : Share) : Type 0 where
   pub left : new.left + bytes ≡ old.left
   pub stays : new.ended ≡ old.ended
+  pub appended : new.appended ≡ old.appended
 
--- it was ended, and no more than so many bytes are left of it
-pub record IsShareEnded (most : ℕ) (share : Share) : Type 0 where
-  pub few : share.left ≤ most
-  pub ended : share.ended ≡ true
+-- whether a record was appended, once the share was ended for this reason
+abbrev pub appended_by : ShareEnd → Share → Bool
+appended_by Appended share = true
+appended_by Looked share = share.appended
+
+-- it was ended for this reason, and no more than so many bytes are left of it
+pub record EndsFor (cause : ShareEnd) (most : ℕ) (old new : Share) : Type 0 where
+  pub left : new.left ≡ min old.left most
+  pub ended : new.ended ≡ true
+  pub appended : new.appended ≡ appended_by cause old
 
 -- what the counts are after this answer; all else is the same
 abbrev pub counts_after_read : ReadAnswer → Traffic → Traffic

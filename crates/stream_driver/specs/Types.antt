@@ -25,3 +25,5 @@ pub use Rattle.stream_driver.specs.declared.entries.Entry.{Entry}
 pub use Rattle.stream_driver.specs.declared.entries.EntryState.{EntryState}
 pub use Rattle.stream_driver.specs.declared.entries.EntryState.TheVariants.{Idle, Ready, Gone as EntryGone}
 pub use Rattle.stream_driver.specs.declared.buffered_bytes.BufferedBytes.{BufferedBytes}
+pub use Rattle.stream_driver.specs.declared.stream.ShareEnd.{ShareEnd}
+pub use Rattle.stream_driver.specs.declared.stream.ShareEnd.TheVariants.{Appended, Looked}

@@ -4,7 +4,7 @@
 use crate::answers::{Call, ReadAnswer, WriteAnswer};
 use crate::buffered_bytes::{BUFFERED_MAX, BufferedBytes};
 use crate::counts::CallCounts;
-use crate::stream::Stream;
+use crate::stream::{ShareEnd, Stream};
 use sector::Sectors;
 use std::alloc::{AllocError, Global};
 
@@ -44,9 +44,10 @@ pub enum Flushed {
 /// reports that, so whoever drives it asks whether it `has_had_its_share`. A reply that is larger than the share is taken in parts, over
 /// several turns.
 ///
-/// A drive that appends a record ends the share with the reply to it. From then on the stream is a writer's (`is_writer`), until it takes
-/// bytes in a turn of its own that no such drive has ended. A drive is heavy that takes `LIGHT_MAX` bytes. The stream is heavy (`is_heavy`)
-/// until `HEAVY_TURNS` turns of its own have begun since; and, where it was passed over, until one has.
+/// A drive that appends a record, or serves a request that looks at many pages of keys, ends the share with the reply to it (`end_share`).
+/// After an append the stream is a writer's (`is_writer`), until it takes bytes in a turn of its own in which none was appended. A drive is
+/// heavy that takes `LIGHT_MAX` bytes, or serves a request that looks at many pages. The stream is heavy (`is_heavy`) until `HEAVY_TURNS`
+/// turns of its own have begun since; and, where it was passed over, until one has.
 #[derive(Drop)]
 pub struct BufferedStream<S: Stream> {
     inner: S,
@@ -63,7 +64,9 @@ pub struct BufferedStream<S: Stream> {
     share: usize,
     /// How many it might take when the turn began.
     whole: usize,
-    /// The last drive of a turn of its own appended a record.
+    /// In the last turn of its own the share was ended with a reply.
+    is_ended: bool,
+    /// And that after a record was appended.
     appended: bool,
     /// And so did the last in which it took bytes.
     is_writer: bool,
@@ -94,6 +97,7 @@ impl<S: Stream> BufferedStream<S> {
             reads_on: false,
             share: SHARE_MAX,
             whole: SHARE_MAX,
+            is_ended: false,
             appended: false,
             is_writer: false,
             heavy_for: 0,
@@ -160,12 +164,14 @@ impl<S: Stream> BufferedStream<S> {
         self.heavy_for == 1
     }
 
-    /// A turn of its own begins, with a share of so many bytes: no drive of it has appended a record yet, or taken much. Takes no memory.
+    /// A turn of its own begins, with a share of so many bytes: no drive of it has ended that yet, appended a record or taken much. Takes
+    /// no memory.
     pub fn begin_turn(&mut self, bytes: usize)
         ensures { self.new ≡ in_turn_of bytes self.old }
     {
         self.share = bytes;
         self.whole = bytes;
+        self.is_ended = false;
         self.appended = false;
         self.heavy_for = self.heavy_for.saturating_sub(1);
     }
@@ -178,11 +184,12 @@ impl<S: Stream> BufferedStream<S> {
         self.heavy_for = self.heavy_for.max(1);
     }
 
-    // It has taken bytes: so many in this turn, perhaps, that the drive is heavy. What an append took of the share says nothing of that.
+    // It has taken bytes: so many in this turn, perhaps, that the drive is heavy. Where the share was ended, what is gone of it says
+    // nothing of that.
     fn note_taken(&mut self)
         ensures { self.new ≡ after_taking self.old }
     {
-        if !self.appended && LIGHT_MAX <= self.whole.saturating_sub(self.share) {
+        if !self.is_ended && LIGHT_MAX <= self.whole.saturating_sub(self.share) {
             self.heavy_for = HEAVY_TURNS;
         }
     }
@@ -320,7 +327,7 @@ impl<S: Stream> BufferedStream<S> {
 
 impl<S: Stream> Stream for BufferedStream<S> {
     ghost use Rattle.std.specs.Prelude.{◌≡◌, ◌<◌, length, take};
-    ghost use Rattle.stream_driver.specs.Traffic.{CountsLast, IsShareEnded, ReceivesBytes, ReadsWithin, SendsBytes};
+    ghost use Rattle.stream_driver.specs.Traffic.{CountsLast, EndsFor, ReceivesBytes, ReadsWithin, SendsBytes};
     ghost use Rattle.stream_driver.specs.Traffic.{WritesWithin, bytes_read, bytes_written};
     ghost use Rattle.stream_driver.specs.Buffers.{AfterRead, AfterWrite, share_ended, share_of, traffic_through};
     ghost use Rattle.stream_driver.specs.Waits.{HasSoundNotes, ReadStays, SaysWhyBlocked, WriteStays};
@@ -377,13 +384,19 @@ impl<S: Stream> Stream for BufferedStream<S> {
         answer
     }
 
-    fn end_share(&mut self, reply: usize)
-        ensures ended { IsShareEnded reply (share_of self.new) }
+    fn end_share(&mut self, reply: usize, cause: ShareEnd)
+        ensures ended { EndsFor cause reply (share_of self.old) (share_of self.new) }
         ensures traffic { traffic_through S.traffic self.new ≡ traffic_through S.traffic self.old }
-        ensures share { self.new ≡ share_ended reply self.old }
+        ensures share { self.new ≡ share_ended cause reply self.old }
     {
         self.share = self.share.min(reply);
-        self.appended = true;
-        self.is_writer = true;
+        self.is_ended = true;
+        match cause {
+            ShareEnd::Appended => {
+                self.appended = true;
+                self.is_writer = true;
+            }
+            ShareEnd::Looked => self.heavy_for = HEAVY_TURNS,
+        }
     }
 }

@@ -2,15 +2,15 @@
 ghost use Rattle.std.specs.Prelude.{◌≡◌, ◌≢◌, ◌<◌, length};
 ghost use Rattle.sessions.specs.StandsFor.{pending_of, records_of, status_of};
 ghost use Rattle.stream_driver.specs.Sessions.{IsPresent, Leads, Stands};
-ghost use Rattle.stream_driver.specs.Appends.{AppendsOnce, KeepsShare, ServesOnce, SpendsShare};
+ghost use Rattle.stream_driver.specs.Appends.{AppendsOnce, KeepsShare, ServesInShare, ServesOnce, SpendsShare};
 ghost use Rattle.stream_driver.specs.Sends.{LeadsAs};
 ghost use Rattle.stream_driver.specs.Drives.{Drove, Disconnects};
 ghost use Rattle.stream_driver.specs.Calls.{ReadsInTurn, WritesSome, WritesOut, Exchanges, MayBeServed};
-ghost use Rattle.stream_driver.specs.Traffic.{IsShareEnded, ReadsWithin, WritesWithin};
+ghost use Rattle.stream_driver.specs.Traffic.{ReadsWithin, WritesWithin};
 ghost use Rattle.stream_driver.specs.Waits.{StaysSound};
 
 use crate::answers::{Progress, ReadAnswer, WriteAnswer};
-use crate::stream::Stream;
+use crate::stream::{ShareEnd, Stream};
 use sector::Sectors;
 use sessions::{Event, Hub, Outcome, Status};
 
@@ -19,6 +19,9 @@ pub const REQUESTS_MAX: u32 = 64;
 
 /// The most bytes that one read asks for.
 pub const READ_MAX: usize = 4_096;
+
+/// A request that looks at so many pages of keys, behind the first of a range, ends its stream's share of the turn: they take some 40 us.
+pub const LOOKED_MAX: u64 = 8;
 
 // How the output of a session stands.
 #[derive(Clone, Copy)]
@@ -140,7 +143,8 @@ fn serve_one<D: Sectors, S: Stream>(
     }
 }
 
-// As `serve_one`. Where the request appended a record to the log, the reply to it is the last that the stream's share takes.
+// As `serve_one`. Where the request appended a record to the log, or looked at `LOOKED_MAX` pages, the reply to it is the last that the
+// stream's share takes.
 fn serve_in_share<D: Sectors, S: Stream>(
     hub: &mut Hub<D>,
     s: u64,
@@ -151,15 +155,17 @@ fn serve_in_share<D: Sectors, S: Stream>(
     requires { MayBeServed hub.old s room }
     ensures served { LeadsAs s S.reports Exchanges result hub.old (S.traffic stream.old) hub.new
         (S.traffic stream.new) }
-    ensures ended { S.keeps_share → records_of hub.new ≢ records_of hub.old
-        → IsShareEnded (length (pending_of hub.new s)) (S.share stream.new) }
-    ensures once { ServesOnce S.keeps_share S.reports S.traffic S.share s hub.old stream.old result hub.new stream.new }
+    ensures once { ServesInShare S.keeps_share S.reports S.traffic S.share s hub.old stream.old result hub.new
+        stream.new }
     ensures stays { StaysSound S.is_sound S.waits (result ≡ Exchange.Blocked) stream.old stream.new }
 {
     let records = hub.records();
+    let looked_at = hub.pages_looked_at();
     let exchange = serve_one(hub, s, room, stream, buffer);
     if hub.records() != records {
-        stream.end_share(hub.pending(s).len());
+        stream.end_share(hub.pending(s).len(), ShareEnd::Appended);
+    } else if hub.pages_looked_at().saturating_sub(looked_at) >= LOOKED_MAX {
+        stream.end_share(hub.pending(s).len(), ShareEnd::Looked);
     }
     exchange
 }
@@ -227,9 +233,9 @@ pub(crate) fn drive_over<D: Sectors, S: Stream>(
 /// failed, the stream ended (what was read of a request is dropped), a request was refused memory, or there was a broken frame, whose reply
 /// is written. Other sessions are unchanged.
 ///
-/// Where a request appends a record to the log, which syncs, the stream's share of the turn is ended with the reply (`Stream::end_share`).
-/// A stream that keeps to that takes no other reply in this drive, so a drive appends one record at most. Where it appended none, what is
-/// gone of the share was sent.
+/// Where a request appends a record to the log, which syncs, or looks at `LOOKED_MAX` pages of keys, the stream's share of the turn is
+/// ended with the reply (`Stream::end_share`). A stream that keeps to that takes no other reply in this drive, so a drive appends one
+/// record at most, and serves one request more at most. Where it did neither, what is gone of the share was sent.
 ///
 /// Its events are a run of the hub: lawful at each moment, with the device's failures counted, and what a crash leaves known.
 ///

@@ -77,8 +77,8 @@ pub fn drive_ready<D: Sectors, S: Stream>(hub: &mut Hub<D>, table: &mut Slab<Ent
 /// others as they are. After `Waiting` an entry is `Idle`, after `Again` it stays `Ready`, after `Gone` it is `Gone`.
 ///
 /// Where the streams keep to their shares, each of these drives appends one record to the log at most, and what is gone of a share was
-/// sent, unless the share was ended with the reply to a request that appended a record. So where the last is the only one that writes, no
-/// other waits for its syncs.
+/// sent, unless the share was ended with the reply to a request that appended a record or looked at `LOOKED_MAX` pages of keys. So where
+/// the last is the only one that writes, no other waits for its syncs.
 ///
 /// The session of each entry that isn't `Gone` is present, and no other entry has it. The stream of each that was driven and is `Idle` can
 /// say why its last call blocked.

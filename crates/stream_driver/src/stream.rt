@@ -3,6 +3,15 @@
 use crate::answers::{Call, ReadAnswer, WriteAnswer};
 use sector::Sectors;
 
+/// Why a stream's share of a turn ends with a reply.
+#[derive(Clone, Copy, PartialEq, Eq, Debug)]
+pub enum ShareEnd {
+    /// The request appended a record to the log.
+    Appended,
+    /// The request looked at many pages of keys.
+    Looked,
+}
+
 /// A connection whose calls don't wait.
 ///
 /// What it has moved and answered is known by five counts, of each answer but `Moved` of each call, by the last call with its answer, and
@@ -13,8 +22,7 @@ use sector::Sectors;
 /// made: what leaves for the peer in the call leaves at that moment of the device.
 pub trait Stream: Drop {
     ghost use Rattle.std.specs.Prelude.{◌≡◌, ◌<◌, length, take};
-    ghost use Rattle.stream_driver.specs.Traffic.{CountsLast, IsShareEnded, ReceivesBytes, ReadsWithin, Share};
-    ghost use Rattle.stream_driver.specs.Traffic.{TakesOf};
+    ghost use Rattle.stream_driver.specs.Traffic.{CountsLast, EndsFor, ReceivesBytes, ReadsWithin, Share, TakesOf};
     ghost use Rattle.stream_driver.specs.Traffic.{Traffic, SendsBytes, WritesWithin, bytes_read, bytes_written};
     ghost use Rattle.stream_driver.specs.Waits.{ReadStays, WriteStays};
 
@@ -24,7 +32,7 @@ pub trait Stream: Drop {
     /// It keeps to its share of a turn: said of each call where this holds.
     ghost keeps_share: { Type 0 };
 
-    /// How many bytes are left of that share, and whether it was ended with a reply (`end_share`).
+    /// How many bytes are left of that share, whether it was ended with a reply (`end_share`), and whether a record was appended then.
     ghost share: { Self → Share };
 
     /// The last of its reads that moved bytes gave fewer than it asked for.
@@ -60,10 +68,10 @@ pub trait Stream: Drop {
         ensures taken { keeps_share → TakesOf (share self.old) (bytes_written result) (share self.new) }
         ensures stays { WriteStays came_short is_sound waits self.old self.new };
 
-    /// The drive has appended a record to the log, and a reply of so many bytes reports it: with these bytes the stream's share of the turn
-    /// ends, so that others have theirs before this session is served again. It moves no byte. Takes no memory.
-    fn end_share(&mut self, reply: usize)
-        ensures ended { keeps_share → IsShareEnded reply (share self.new) }
+    /// The drive has served a request that took long, for this reason, and a reply of so many bytes reports it: with these bytes the
+    /// stream's share of the turn ends, so that others have theirs before this session is served again. It moves no byte. Takes no memory.
+    fn end_share(&mut self, reply: usize, cause: ShareEnd)
+        ensures ended { keeps_share → EndsFor cause reply (share self.old) (share self.new) }
         ensures traffic { traffic self.new ≡ traffic self.old }
         ensures sound { is_sound self.old → is_sound self.new }
         ensures waits { waits self.old → waits self.new };

@@ -2,7 +2,7 @@
 ghost use Rattle.std.specs.Prelude.{◌≡◌, ◌≤◌, ◌<◌, ◌+◌, length, vec_len};
 
 use sector::Sectors;
-use stream_driver::{CallCounts, ReadAnswer, Stream, WriteAnswer};
+use stream_driver::{CallCounts, ReadAnswer, ShareEnd, Stream, WriteAnswer};
 
 /// What goes wrong at one call of a stream.
 #[derive(Clone, Copy, PartialEq, Eq, Debug)]
@@ -80,7 +80,7 @@ impl Stream for Script {
 
     ghost keeps_share = { ⊥ };
 
-    ghost share = { λ s. record { left = 0; ended = false } };
+    ghost share = { λ s. record { left = 0; ended = false; appended = false } };
 
     ghost came_short = { λ s. s.came_short ≡ true };
 
@@ -138,7 +138,7 @@ impl Stream for Script {
         WriteAnswer::Moved(n)
     }
 
-    fn end_share(&mut self, reply: usize) {
-        let _ = reply;
+    fn end_share(&mut self, reply: usize, cause: ShareEnd) {
+        let _ = (reply, cause);
     }
 }

@@ -58,12 +58,12 @@ fn add_pair<R: Abort>(rt: &R, bytes: &mut Vec<u8>, key: u8, value: &[u8; 16_000]
     add(rt, bytes, b"\r\n");
 }
 
-fn add<R: Abort>(rt: &R, bytes: &mut Vec<u8>, more: &[u8]) {
+pub(crate) fn add<R: Abort>(rt: &R, bytes: &mut Vec<u8>, more: &[u8]) {
     bytes.extend_from_slice(more).expect(rt, "memory");
 }
 
 /// One turn of an entry, which the poll reports or not. Is it over?
-fn turn(
+pub(crate) fn turn(
     driven: &mut Driven,
     entry: &mut Entry<BufferedStream<Script>>,
     has_ended_share: bool,
@@ -79,7 +79,7 @@ fn turn(
 }
 
 /// A peer's entry, which stands so.
-fn entry_of<R: Abort + AllocGlobal>(
+pub(crate) fn entry_of<R: Abort + AllocGlobal>(
     rt: &R,
     session: u64,
     peer: Script,

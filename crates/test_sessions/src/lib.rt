@@ -7,6 +7,8 @@ mod buffers;
 #[cfg(test)]
 mod events;
 #[cfg(test)]
+mod looking;
+#[cfg(test)]
 mod streams;
 #[cfg(test)]
 mod tables;

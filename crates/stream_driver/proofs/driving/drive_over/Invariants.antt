@@ -1,5 +1,4 @@
 use Rattle.stream_driver.proofs.driving.drive_over.Given as goal
-use Rattle.sessions.specs.StandsFor.{records_of}
 use Rattle.stream_driver.proofs.Appends.{SoFar}
 use Rattle.stream_driver.specs.Calls.{DrivenOut}
 use Rattle.stream_driver.specs.Sends.{LeadsAnswering}
@@ -10,6 +9,6 @@ invariant-requests g l =
       was_answered : LeadsAnswering l.fn.s g.S.Stream.reports l.fn.hub (g.S.Stream.traffic l.fn.stream) l.hub (g.S.Stream.traffic l.stream)
           (λ h k. DrivenOut l.fn.s g.S.Stream.reports h (g.S.Stream.traffic l.fn.stream) k (g.S.Stream.traffic l.stream) l._served);
       adds : g.S.Stream.keeps_share
-          → SoFar g.S.Stream.reports g.S.Stream.traffic g.S.Stream.share l.fn.s (records_of l.fn.hub) l.fn.stream l.hub l.stream;
+          → SoFar g.S.Stream.reports g.S.Stream.traffic g.S.Stream.share l.fn.s l.fn.hub l.fn.stream l.hub l.stream;
       sound : g.S.Stream.is_sound l.fn.stream → g.S.Stream.is_sound l.stream;
     }

@@ -28,7 +28,8 @@ returns-in_default-clause-appends g c keeps = at_most_none c.args.hub.now _
 pub returns-after-drive_over-clause-shares : goal.returns-after-drive_over-clause-shares
 returns-after-drive_over-clause-shares g c keeps ready = elim (c.drive_over.ensures.appends keeps) [
   | inl same ↦ inl same.1
-  | inr one ↦ inr one.1
+  | inr (inl looked) ↦ inr looked.ended
+  | inr (inr added) ↦ inr added.ended
 ]
 
 pub returns-after-drive_over-clause-waits : goal.returns-after-drive_over-clause-waits
