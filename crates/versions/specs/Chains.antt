@@ -69,6 +69,10 @@ with_pair k (Some v) ps = (k, v) ∷ ps
 abbrev pub hides : ℕ → ChainValue → Bool
 hides n c = is_none (seen n c)
 
+-- from this number on, up to the newest's, none sees anything of a chain
+abbrev pub HidesFrom : ℕ → ChainValue → Type 0
+HidesFrom from c = (n : ℕ) → from ≤ n → n < c.newest.number → seen n c ≡ None
+
 -- the newest version is a value
 abbrev pub shows : ChainValue → Bool
 shows c = is_some c.newest.value

@@ -1,6 +1,5 @@
 //! Several versions of a key in a box, and beside it what readers ask most, so that a range needn't look into each box that it passes.
-ghost use Rattle.std.specs.List.{AllByRecursion};
-ghost use Rattle.std.specs.Prelude.{◌≡◌, ◌+◌, ◌<◌, ◌≤◌, [], false, length, IfSome, IsOk, None, OnOk, option_copied};
+ghost use Rattle.std.specs.Prelude.{◌≡◌, ◌+◌, ◌<◌, ◌≤◌, [], length, IfSome, IsOk, OnOk, option_copied};
 ghost use Rattle.model.specs.Key.{IsValue};
 ghost use Rattle.versions.specs.Chains.{longer_chain, seen, shows, thinned};
 ghost use Rattle.versions.specs.Listings.{has_version};
@@ -16,21 +15,19 @@ pub(crate) struct BoxedVersions {
     several: Box<Several>,
     // the number of the newest
     number: u64,
-    // whether one before the newest may be a value
-    may_show: bool,
+    // from this number on, up to the newest's, none sees a value
+    hides_from: u64,
 }
 
 impl Model for BoxedVersions {
-    ghost use Rattle.std.specs.List.{AllByRecursion};
-    ghost use Rattle.std.specs.Prelude.{◌≡◌, false, None};
-    ghost use Rattle.versions.specs.Chains.{ChainValue};
+    ghost use Rattle.std.specs.Prelude.{◌≡◌};
+    ghost use Rattle.versions.specs.Chains.{ChainValue, HidesFrom};
 
     ghost Value = { ChainValue };
 
     ghost view = { λ b. b.several.value };
 
-    ghost invariant = { λ b. (b.number ≡ b.several.value.newest.number)
-        × (b.may_show ≡ false → AllByRecursion (λ v. v.value ≡ None) b.several.value.older) };
+    ghost invariant = { λ b. (b.number ≡ b.several.value.newest.number) × HidesFrom b.hides_from b.several.value };
 }
 
 impl BoxedVersions {
@@ -42,7 +39,7 @@ impl BoxedVersions {
         BoxedVersions {
             number: several.as_ref().number(),
             several,
-            may_show: false,
+            hides_from: 0,
         }
     }
 
@@ -67,12 +64,12 @@ impl BoxedVersions {
         self.several.as_ref().len()
     }
 
-    // What number `n` sees. Where nothing before the newest is a value, one below its number sees nothing.
+    // What number `n` sees. One that is known to see no value needs no look at the versions before the newest.
     pub(crate) fn seen(&self, n: u64) -> Option<&[u8]>
         ensures value { option_copied result ≡ seen n self.now }
         ensures short { IfSome result (λ v. IsValue v.now) }
     {
-        if n < self.number && !self.may_show {
+        if self.hides_from <= n && n < self.number {
             return None;
         }
         self.several.as_ref().seen(n)
@@ -94,7 +91,10 @@ impl BoxedVersions {
         requires { 0 < self.old.room }
         ensures { self.new ≡ longer_chain self.old version self.new.room }
     {
-        self.may_show = self.may_show || self.several.as_ref().shows();
+        // A deletion lengthens what is hidden; behind a value nothing is.
+        if self.several.as_ref().shows() {
+            self.hides_from = version.number;
+        }
         self.number = version.number;
         self.several.as_mut().add(version);
     }
@@ -104,7 +104,7 @@ impl BoxedVersions {
         ensures { self.new ≡ thinned begins.now self.old }
     {
         self.several.as_mut().reclaim(begins);
-        self.may_show = self.several.as_ref().shows_before();
+        self.hides_from = self.several.as_ref().hides_from();
     }
 
     // Is there a version of this number before the newest?

@@ -1,9 +1,8 @@
 //! A key that has several versions, or room for more than one.
-ghost use Rattle.std.specs.List.{AllByRecursion};
-ghost use Rattle.std.specs.Prelude.{◌≡◌, ◌==◌, ◌+◌, ◌<◌, ◌≤◌, ℕ, true, false, length, IfSome, IsOk, None, OnOk, Some};
+ghost use Rattle.std.specs.Prelude.{◌≡◌, ◌==◌, ◌+◌, ◌<◌, ◌≤◌, ℕ, true, length, IfSome, IsOk, OnOk, Some};
 ghost use Rattle.std.specs.Prelude.{option_copied};
 ghost use Rattle.model.specs.Key.{IsValue};
-ghost use Rattle.versions.specs.Chains.{is_between, seen, shows, longer_chain, thinned};
+ghost use Rattle.versions.specs.Chains.{HidesFrom, is_between, seen, shows, longer_chain, thinned};
 ghost use Rattle.versions.specs.Listings.{has_version};
 
 use crate::value::KeptValue;
@@ -130,13 +129,18 @@ impl Several {
         self.older.iter().any(|version| version.number == number)
     }
 
-    // Is one of the versions before the newest a value?
-    pub(crate) fn shows_before(&self) -> bool
-        ensures { result ≡ false → AllByRecursion (λ v. v.value ≡ None) self.now.older }
+    // From which number on, up to the newest's, none sees a value: the first of the deletions right before the newest.
+    pub(crate) fn hides_from(&self) -> u64
+        ensures { HidesFrom result self.now }
     {
-        // Shows the view of the newest version, which the chain's view contains.
-        let _ = &self.newest;
-        self.older.iter().any(|version| version.value.is_some())
+        let mut from = self.newest.number;
+        for version in self.older.iter().rev() {
+            if version.value.is_some() {
+                return from;
+            }
+            from = version.number;
+        }
+        0
     }
 
     // Is the newest version a value?
