@@ -56,7 +56,8 @@ PAUSE_MS, TRIES = 3, 3
 # At a million keys in this order, as long as there is time.
 PAUSE_SCENES = ["quiet", "load", "written_again", "old_commit", "younger", "much_read", "random_again", "half_deleted", "straddling",
                 "queue", "coming_and_going", "beside_writers", "whole_transactions", "largest_ranges", "middle_ranges", "same_key",
-                "first_long_reply", "overlapping", "refilled", "written_before", "large_commits", "old_commits", "sparse_ranges", "old_sparse_ranges"]
+                "first_long_reply", "overlapping", "refilled", "written_before", "large_commits", "old_commits", "sparse_ranges", "old_sparse_ranges",
+                "older_sparse_ranges"]
 
 
 # What was measured, and where

@@ -761,18 +761,28 @@ def sparse_ranges(options):
     return scene
 
 
-def old_sparse_ranges(options):
-    """The readers began when few were left. The keys are there again, and none of these shows them."""
+def hidden_ranges(options, part, is_older):
+    """The readers began when few were left. The keys are there again, and none of these shows them; an older one may see what was deleted."""
     with Scene(options, options.keys, 2 * options.keys // COMMIT_WRITES + 16) as scene:
+        if is_older:
+            scene.client().ask(BEGIN)
         few_are_left(options, scene.client())
         clients = [scene.client() for _ in range(FLOODING)]
         for client in clients:
             client.ask(BEGIN)
         set_all(scene.client(), scattered, options.keys)
         scene.settle()
-        with scene.part("60 clients with 21 RANGEs of 128 of which each sees one key in 384, the others set again since, all in one turn"):
+        with scene.part(part):
             ask_for_few(options, scene, clients, b"")
     return scene
+
+
+def old_sparse_ranges(options):
+    return hidden_ranges(options, "60 clients with 21 RANGEs of 128 of which each sees one key in 384, the others set again since, all in one turn", False)
+
+
+def older_sparse_ranges(options):
+    return hidden_ranges(options, "60 clients with such RANGEs next to an older transaction that sees values of the others, all in one turn", True)
 
 
 SCENES = {
@@ -781,7 +791,10 @@ SCENES = {
     "largest_ranges": largest_ranges, "middle_ranges": middle_ranges, "coming_and_going": coming_and_going,
     "first_long_reply": first_long_reply, "beside_writers": beside_writers, "whole_transactions": whole_transactions,
 }
-CROWDS = {"large_commits": large_commits, "old_commits": old_commits, "sparse_ranges": sparse_ranges, "old_sparse_ranges": old_sparse_ranges}
+CROWDS = {
+    "large_commits": large_commits, "old_commits": old_commits, "sparse_ranges": sparse_ranges, "old_sparse_ranges": old_sparse_ranges,
+    "older_sparse_ranges": older_sparse_ranges,
+}
 # One that lasts.
 AGAIN = {"random_again": random_again}
 

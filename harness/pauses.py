@@ -55,6 +55,7 @@ LONG_MS = {
     "60 COMMITs of ones with 256 ranges and 64 writes, after everything was written again, all in one turn": 12,
     "60 clients with 21 RANGEs of 128 over keys of which one in 384 is left, all in one turn": 12,
     "60 clients with 21 RANGEs of 128 of which each sees one key in 384, the others set again since, all in one turn": 12,
+    "60 clients with such RANGEs next to an older transaction that sees values of the others, all in one turn": 12,
     "everything written again four times, in random order, while a transaction stays open": 6,
 }
 # Where they are judged, the most syncs between two polls: those of one COMMIT.
