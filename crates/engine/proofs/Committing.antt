@@ -2,10 +2,10 @@
 use Rattle.pivot_check.specs.declared.Verdict.TheVariants as verdicts
 use Rattle.std.proofs.Common.{◌≡◌, ◌⊎◌, ◌≤◌, ◌+◌, ◌-◌, ◌^◌, ℕ, suc, Bool, true, false, List, [], ◌∷◌, ◌++◌, Option}
 use Rattle.std.proofs.Common.{Some, None, refl, sym, ap, subst, ◌∙◌, length, length-append, arith, ⊎_elim, inl, inr}
-use Rattle.std.proofs.lemmas.Bool.{lt-ltb, le-ltb, eq-eqb, ne_eqb, or_left, or_right, both_ways}
+use Rattle.std.proofs.lemmas.Bool.{lt-ltb, le-ltb, eq-eqb, ne_eqb, and_parts, or_left, or_right, both_ways}
 use Rattle.std.proofs.lemmas.Grind.{common_steps}
 use Rattle.std.proofs.lemmas.Option.{get_or_from_slice_get}
-use Rattle.std.specs.Prelude.{◌&&◌, slice_index_or, Err}
+use Rattle.std.specs.Prelude.{◌&&◌, slice_index_or, Err, nat_le}
 use Rattle.model.proofs.Lookups.{some_same}
 use Rattle.model.proofs.Machines.{map_at-append}
 use Rattle.model.specs.History.{Record}
@@ -31,13 +31,13 @@ use Rattle.versions.specs.Meaning.{is_among}
 use Rattle.snapshot.specs.Made.{HasMade, is_refused}
 use Rattle.snapshot.specs.View.{View}
 use Rattle.pivot_check.proofs.SameHistories.{in_reach_still, stand_back, still_cleared}
-use Rattle.pivot_check.specs.Kept.{Facts, CommittedValue, IsInReach, KeepsReach, may_ask}
+use Rattle.pivot_check.specs.Kept.{Facts, CommittedValue, IsInReach, may_ask}
 use Rattle.pivot_check.specs.StandsFor.{IsRecordOf, IsVerdict, IsClear, IsCleared, StandForSame}
 use Rattle.pivot_check.specs.StandsFor.{StandsFor as CommittedStandsFor}
 use Rattle.pivot_check.specs.declared.verdict.Cleared.{Cleared}
 use Rattle.engine.proofs.Calls.{Active, found_open, leave_call}
 use Rattle.engine.proofs.Sessions.{IsFound, beside_weaker}
-use Rattle.engine.proofs.Reclaims.{begins_of, running_among}
+use Rattle.engine.proofs.Reclaims.{begins_ask, begins_of, running_among}
 use Rattle.engine.proofs.Steps.{step_is, reached_by, store_full, store_fault, store_joined, map_at_next}
 use Rattle.engine.specs.Changes.{entry_of, EndsTransaction, WritesSomething, HasLogRoom, IsLogged, IsLogStopped}
 use Rattle.engine.specs.Changes.{sectors_taken, AddsOneAtMost}
@@ -297,11 +297,10 @@ module _ {D : Type 0} {g : Ghosts D} where
       → (g.keeps_model → WhereStored e.log (λ map. IsStored log (after_writes map t.writes))) → IsSameHistory e.history history
       → EndsTransaction (record e { log = log; history = history }) e' s
       → Some u ≡ entry_of s e → new.committed.facts.last ≡ e'.history.committed.facts.last + 1
-      → KeepsReach e'.history.committed.facts new.committed.facts
       → (length e'.running.entries ≤ 64 → Joins (begins_of e'.running.entries) e'.history new u)
       → (WritesSomething t.writes → failed ≡ false) → n ≡ e'.history.committed.facts.last + 1
       → Leads e (record e' { history = new }) s Commit failed (Some (Number n))
-  joined e e' log history new s t u failed n j logged stored same leaves taken last' reach' joins quiet number m h =
+  joined e e' log history new s t u failed n j logged stored same leaves taken last' joins quiet number m h =
       let at = found_open e m s t h j.asked.entry in
       let r : Record = record_to_commit m at.run in
       let join : State × Response = join_history m s r (sectors_taken t.writes) in
@@ -317,22 +316,27 @@ module _ {D : Type 0} {g : Ghosts D} where
       let l = left.history.committed.last in let used = h.used in let taken' = logged.used in let log' = leaves.store.log in
       let long : length (m.history ++ r ∷ []) ≡ length m.history + 1 = length-append m.history (r ∷ []) in
       let counted : suc (length m.history) ≡ n = omega arith in
-      let active : ℕ → Bool = λ k. left.active k && is_among (begins_of e'.running.entries) k in
+      let begins = begins_of e'.running.entries in
+      let join' = joins left.few_open in
+      let active : ℕ → Bool = λ k. left.active k && is_among begins k in
       let later : (v : View) (x : Running) → IsRunning e'.history.committed.facts active m.base m.history v x
       → IsRunning new.committed.facts active m.base (m.history ++ r ∷ []) v x =
       λ v x k.
-      let oldest' = reach'.oldest in
-      let asks = ap (λ reach. may_ask reach v.begin) reach'.reach ∙ k.in_reach.asks in
+      let oldest' = join'.oldest in
+      let own_among = subst (λ n. is_among begins n ≡ true) (sym k.begin)
+      (and_parts (left.active x.begin) (is_among begins x.begin) k.is_active).1 in
+      let asks = ap (λ reach. may_ask reach v.begin) join'.reach ∙ or_right (nat_le new.committed.facts.last v.begin) (is_among begins v.begin) own_among in
       grind (arith, common_steps, map_at-append m.base m.history r x.begin) in
-      let oldest' = reach'.oldest in
-      let among = running_among e'.history.committed.facts left.active m.base m.history (begins_of e'.running.entries) e'.running.entries (leave m s).running
+      let oldest' = join'.oldest in
+      let among = running_among e'.history.committed.facts left.active m.base m.history begins e'.running.entries (leave m s).running
       (λ k t. t) left.running in
       let running' = beside_weaker (λ v x. IsRunning e'.history.committed.facts active m.base m.history v x)
       (λ v x. IsRunning new.committed.facts active m.base (m.history ++ r ∷ []) v x) later e'.running.entries (leave m s).running among in
       let reached' = reached_by m s Commit failed join is h.reached in
       let stored' = λ (keeps : g.keeps_model). subst (IsStored log) (sym (map_joined e s t j m h at))
       (stored keeps (committed_map m) (h.stored keeps j.asked.running)) in
-      let history' = joins left.few_open left.active m.base m.history r left.history own.0 own.1 in
+      let ask = begins_ask e'.history.committed.facts left.active m.base m.history e'.running.entries (leave m s).running left.running in
+      let history' = join'.stands left.active m.base m.history r left.history ask own.0 own.1 in
       let numbers = j.asked.numbers in let runs = j.asked.running in
       (join.0, grind (arith, common_steps, both_ways), is ∙ ap (λ k. (join.0, Number k)) counted)
 

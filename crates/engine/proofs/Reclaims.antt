@@ -53,7 +53,7 @@ module _ (facts : Facts) (active : ℕ → Bool) (base : KeyMap) (history : List
   running_among bs es rs among h = absurd h
 
   -- each may ask
-  begins_ask : (es : List (ℕ × View)) (rs : List (ℕ × Running)) → AreRunning facts active base history es rs
+  pub begins_ask : (es : List (ℕ × View)) (rs : List (ℕ × Running)) → AreRunning facts active base history es rs
       → AllByRecursion (λ b. may_ask facts.reach b ≡ true) (begins_of es)
   begins_ask [] [] h = tt
   begins_ask (e ∷ es) (r ∷ rs) h = (h.0.1.in_reach.asks, begins_ask es rs h.1)

@@ -21,12 +21,15 @@ pub record HistoryStandsFor (h : HistoryValue) (active : ℕ → Bool) (base : K
     pub versions : VersionsStandFor h.versions active base history
     pub committed : CommittedStandsFor h.committed.facts history
 
--- what the transaction's commit makes of the history, where of the active numbers only these stay so
-abbrev pub Joins : List ℕ → HistoryValue → HistoryValue → View → Type 0
-Joins bs old new t = (active : ℕ → Bool) (base : KeyMap) (history : List Record) (r : Record)
-    → HistoryStandsFor old active base history
-    → IsInReach old.committed.facts t → IsRecordOf t (old.committed.facts.last + 1) r
-    → HistoryStandsFor new (λ n. active n && is_among bs n) base (history ++ r ∷ [])
+-- What the transaction's commit makes of the history, where one who began at one of these numbers may ask: of the
+-- active numbers only these stay so, and no one may ask but who began at one of them, or begins now.
+pub record Joins (bs : List ℕ) (old new : HistoryValue) (t : View) : Type 0 where
+  pub oldest : new.committed.facts.oldest ≡ old.committed.facts.oldest
+  pub reach : new.committed.facts.reach ≡ record { begins = bs; since = new.committed.facts.last }
+  pub stands : (active : ℕ → Bool) (base : KeyMap) (history : List Record) (r : Record)
+      → HistoryStandsFor old active base history → AllByRecursion (λ b. may_ask old.committed.facts.reach b ≡ true) bs
+      → IsInReach old.committed.facts t → IsRecordOf t (old.committed.facts.last + 1) r
+      → HistoryStandsFor new (λ n. active n && is_among bs n) base (history ++ r ∷ [])
 
 -- n is the number of the next commit, and now that of the last
 pub record IsNumbered (n : ℕ) (old new : HistoryValue) : Type 0 where

@@ -3,7 +3,7 @@ ghost use Rattle.std.specs.Prelude.{◌≡◌, ◌+◌, ◌<◌, ◌≤◌, fals
 ghost use Rattle.std.specs.BTreeMap.{values};
 ghost use Rattle.model.specs.Map.{IsInBounds};
 ghost use Rattle.versions.specs.Meaning.{IsReclaimed, IsReclaimedInPart};
-ghost use Rattle.pivot_check.specs.Kept.{IsEmpty, FreesRuns, KeepsNoneUpto, KeepsReach};
+ghost use Rattle.pivot_check.specs.Kept.{IsEmpty, FreesRuns, KeepsNoneUpto};
 ghost use Rattle.pivot_check.specs.StandsFor.{IsCleared};
 ghost use Rattle.engine.specs.declared.engine.TheConstants.{OPEN_MAX};
 ghost use Rattle.engine.specs.declared.validating.TheConstants.{LAST_MAX};
@@ -28,14 +28,15 @@ pub(crate) struct History {
 }
 
 impl Model for History {
-    ghost use Rattle.std.specs.Prelude.{◌≤◌};
+    ghost use Rattle.std.specs.Prelude.{◌≡◌, ◌≤◌};
     ghost use Rattle.engine.specs.HistoryValue.{HistoryValue};
 
     ghost Value = { HistoryValue };
 
     ghost view = { λ h. record { versions = h.versions; committed = h.committed } };
 
-    ghost invariant = { λ h. h.versions.last ≤ h.committed.facts.last };
+    ghost invariant = { λ h. (h.versions.last ≤ h.committed.facts.last)
+        × (h.committed.facts.reach.since ≡ h.committed.facts.last) };
 }
 
 impl History {
@@ -72,8 +73,8 @@ impl History {
         self.committed.reserve(transaction)
     }
 
-    /// Takes the transaction, which was cleared, in as the next commit, in the memory that was made for it, and answers its number. The
-    /// others are open. Takes no memory.
+    /// Takes the transaction, which was cleared, in as the next commit, in the memory that was made for it, and answers its number. From
+    /// then on merges drop what none of the others, which are open, asks for. Takes no memory.
     pub(crate) fn join(
         &mut self,
         transaction: Transaction,
@@ -84,18 +85,18 @@ impl History {
         requires cleared { IsCleared self.old.committed.facts transaction cleared }
         requires last { self.old.committed.facts.last < LAST_MAX }
         ensures numbered { IsNumbered result self.old self.new }
-        ensures reach { KeepsReach self.old.committed.facts self.new.committed.facts }
-        ensures stands { length others.now.entries ≤ OPEN_MAX
+        ensures joins { length others.now.entries ≤ OPEN_MAX
             → Joins (map (λ t. t.begin) (values others.now)) self.old self.new transaction }
     {
         let number = self.committed.last() + 1;
         self.committed.note(&transaction, number, cleared);
+        let mut numbers = [0; OPEN_MAX];
+        let Gathered { count, oldest: _ } = gather_begins(others, number, &mut numbers);
+        self.committed.keep_active(&numbers[..count]);
         let writes = transaction.into_writes();
         law_numbers_change();
         law_read_only_record_follows();
         if !writes.is_empty() {
-            let mut numbers = [0; OPEN_MAX];
-            let Gathered { count, oldest: _ } = gather_begins(others, number, &mut numbers);
             self.versions.keep_active(&numbers[..count]);
             self.versions.install(number, writes);
         }

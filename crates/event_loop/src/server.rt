@@ -165,7 +165,7 @@ impl<D: Sectors> EventLoop<D> {
     /// so that none of them waits for its syncs.
     ///
     /// A request that looks at `LOOKED_MAX` pages of keys ends the share of its stream, too, however short its reply is, and the stream is
-    /// heavy from then on. So a drive serves one such request and one more at most.
+    /// heavy from then on. The next reply of it waits for a later drive.
     ///
     /// Of those that take no turns it drives as many as it is wide, `WIDTH_MIN` at least, with the least keys. The others are late: they
     /// take turns until they have had one, and of them it drives one less than it is wide besides. It is wider after a turn that drove as

@@ -235,7 +235,7 @@ pub(crate) fn drive_over<D: Sectors, S: Stream>(
 ///
 /// Where a request appends a record to the log, which syncs, or looks at `LOOKED_MAX` pages of keys, the stream's share of the turn is
 /// ended with the reply (`Stream::end_share`). A stream that keeps to that takes no other reply in this drive, so a drive appends one
-/// record at most, and serves one request more at most. Where it did neither, what is gone of the share was sent.
+/// record at most. The next reply blocks, and the drive ends. Where no share was ended, what is gone of it was sent.
 ///
 /// Its events are a run of the hub: lawful at each moment, with the device's failures counted, and what a crash leaves known.
 ///

@@ -70,7 +70,7 @@ returns-clause-step g c =
     joined c.args.self.now c.end-ended.new.self c.reserve_and_append.new.log c.reserve_and_append.new.history c.join.new.self c.args.s _ c.end-ended.result _ _
     j
     c.in-Ok.ensures.logged c.in-Ok.ensures.stored c.reserve_and_append.ensures.same leaves
-    c.end-ended.ensures.taken c.join.ensures.numbered.last c.join.ensures.reach c.join.ensures.stands
+    c.end-ended.ensures.taken c.join.ensures.numbered.last c.join.ensures.joins
     (λ some. rw leaves.store.log (not_risen _ _ (c.in-Ok.ensures.logged.no_fault some))) c.join.ensures.numbered.number
 
 pub returns-clause-appends : goal.returns-clause-appends

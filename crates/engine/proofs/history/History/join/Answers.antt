@@ -5,6 +5,7 @@ use Rattle.std.proofs.lemmas.Bool.{and_parts, or_left}
 use Rattle.std.proofs.lemmas.Bool.Decides.{nat_tests}
 use Rattle.std.proofs.lemmas.List.{length-take, nil_from_length}
 use Rattle.std.specs.BTreeMap.{values}
+use Rattle.std.specs.List.{AllByRecursion}
 use Rattle.std.specs.Prelude.{◌==◌, ◌&&◌, ◌||◌, map, nat_le, IsTrue}
 use Rattle.model.specs.History.{Record}
 use Rattle.model.specs.Map.{KeyMap, KeyWrite}
@@ -12,23 +13,30 @@ use Rattle.versions.specs.Chains.{ChainsValue, IsPrepared}
 use Rattle.versions.specs.Meaning.{is_among}
 use Rattle.versions.specs.StandsFor.{AreHeldWhereKnown, StandWhereAmong, StandsFor as VersionsStandFor}
 use Rattle.snapshot.specs.View.{View}
-use Rattle.pivot_check.specs.Kept.{IsInReach}
+use Rattle.pivot_check.specs.Kept.{CommittedValue, Facts, IsInReach, KeepsReach, asked_from, may_ask}
 use Rattle.pivot_check.specs.StandsFor.{StandsFor as CommittedStandsFor, IsRecordOf}
 use Rattle.engine.specs.HistoryValue.{HistoryValue, Joins}
 
-next_joined : (bs : List ℕ) (old new : HistoryValue) (t : View) (ws : List KeyWrite) (n : ℕ) → n ≡ old.committed.facts.last + 1 → ws ≡ t.writes
+next_joined : (bs : List ℕ) (old new : HistoryValue) (t : View) (ws : List KeyWrite) (n : ℕ) (noted : Facts) → n ≡ old.committed.facts.last + 1
+    → ws ≡ t.writes → KeepsReach old.committed.facts noted → noted.last ≡ n → new.committed.facts ≡ asked_from bs noted
     → ((active : ℕ → Bool) (base : KeyMap) (history : List Record) (r : Record) → VersionsStandFor old.versions active base history → length history + 1 ≡ n
     → r.commit ≡ n → r.writes ≡ ws → VersionsStandFor new.versions (λ k. active k && is_among bs k) base (history ++ r ∷ []))
     → (IsInReach old.committed.facts t → (history : List Record) → CommittedStandsFor old.committed.facts history → (r : Record) → IsRecordOf t n r
-    → CommittedStandsFor new.committed.facts (history ++ r ∷ []))
+    → CommittedStandsFor noted (history ++ r ∷ []))
+    → (AllByRecursion (λ b. may_ask noted.reach b ≡ true) bs → (h : List Record) → CommittedStandsFor noted h → CommittedStandsFor new.committed.facts h)
     → Joins bs old new t
-next_joined bs old new t ws n number same adds notes active base history r h reach own =
-    let last = h.committed.last in
-    let is : IsRecordOf t n r = subst (λ k. IsRecordOf t k r) (sym number) own in
-    record {
-      versions = adds active base history r h.versions (omega (arith, last, number)) is.commit (own.writes ∙ sym same);
-      committed = notes reach history h.committed r is;
-    }
+next_joined bs old new t ws n noted number same keeps last is adds notes keep = record {
+  oldest = ap (λ (f : Facts). f.oldest) is ∙ keeps.oldest;
+  reach = grind (arith, is);
+  stands = λ active base history r h ask reach own.
+      let long = h.committed.last in
+      let record_is : IsRecordOf t n r = subst (λ k. IsRecordOf t k r) (sym number) own in
+      record {
+        versions = adds active base history r h.versions (omega (arith, long, number)) record_is.commit (own.writes ∙ sym same);
+        committed = keep (subst (λ reach. AllByRecursion (λ b. may_ask reach b ≡ true) bs) (sym keeps.reach) ask) (history ++ r ∷ [])
+            (notes reach history h.committed r record_is);
+      };
+}
 
 -- each number that is still active is held
 held_still : (bs : List ℕ) (old new : ChainsValue) (active : ℕ → Bool) (base : KeyMap) (history : List Record) → AreHeldWhereKnown bs old new
@@ -54,30 +62,41 @@ prepared_still v w ws same p =
 empty_is : (xs : List KeyWrite) (n : ℕ) (b : Bool) → b ≡ (n == 0) → n ≡ length xs → b ≡ true → xs ≡ []
 empty_is xs n b e long t = nil_from_length xs (grind (arith, nat_tests))
 
-pub returns-then-not-is_empty-clause-stands : goal.returns-then-not-is_empty-clause-stands
-returns-then-not-is_empty-clause-stands c = λ few.
+pub returns-then-not-is_empty-clause-joins : goal.returns-then-not-is_empty-clause-joins
+returns-then-not-is_empty-clause-joins c = λ few.
     let bs = map (λ (t : View). t.begin) (values c.args.others.now) in
     let begins = c.gather_begins-count.ensures.numbers few in
     let taken = c.gather_begins-count.result.count in
     let short : length (take taken c.gather_begins-count.new.numbers) ≤ 64 =
     omega (arith, length-take taken c.gather_begins-count.new.numbers, c.gather_begins-count.ensures.count) in
-    let kept = subst (λ ns. StandWhereAmong ns c.self.inside.versions c.keep_active.new.self) begins (c.keep_active.ensures.stands short) in
-    let held = subst (λ ns. AreHeldWhereKnown ns c.self.inside.versions c.keep_active.new.self) begins (c.keep_active.ensures.held short) in
-    subst (λ (v : HistoryValue). Joins bs v (record { versions = c.install.new.self; committed = c.note.new.self }) c.args.transaction) c.self.view_is
-    (next_joined bs _ _ c.args.transaction c.into_writes-writes.result.items (c.last-number.result
-    + 1) (ap (λ n. n + 1) c.last-number.ensures) c.into_writes-writes.ensures.writes
+    let held_now = c.keep_active-then-not-is_empty.new.self in
+    let calls = c.keep_active-then-not-is_empty.ensures in
+    let kept = subst (λ ns. StandWhereAmong ns c.self.inside.versions held_now) begins (calls.stands short) in
+    let held = subst (λ ns. AreHeldWhereKnown ns c.self.inside.versions held_now) begins (calls.held short) in
+    let asked = ap (λ (v : CommittedValue). v.facts) c.keep_active.ensures.asked ∙ ap (λ ns. asked_from ns c.note.new.self.facts) begins in
+    let new : HistoryValue = record { versions = c.install.new.self; committed = c.keep_active.new.self } in
+    subst (λ (v : HistoryValue). Joins bs v new c.args.transaction) c.self.view_is
+    (next_joined bs _ _ c.args.transaction c.into_writes-writes.result.items (c.last-number.result + 1) c.note.new.self.facts
+    (ap (λ n. n + 1) c.last-number.ensures) c.into_writes-writes.ensures.writes c.note.ensures.reach c.note.ensures.last asked
     (λ active base history r s long commit is. c.install.ensures.stands (λ n. active n && is_among bs n) base history r
-    (kept active base history s) (held_still bs c.self.inside.versions c.keep_active.new.self active base history held s) long commit is)
-    c.note.ensures.stands_for)
+    (kept active base history s) (held_still bs c.self.inside.versions held_now active base history held s) long commit is)
+    c.note.ensures.stands_for
+    (subst (λ ns. AllByRecursion (λ b. may_ask c.note.new.self.facts.reach b ≡ true) ns → (h : List Record) → CommittedStandsFor c.note.new.self.facts h
+    → CommittedStandsFor c.keep_active.new.self.facts h) begins c.keep_active.ensures.stands_for))
 
-pub returns-else-not-is_empty-clause-stands : goal.returns-else-not-is_empty-clause-stands
-returns-else-not-is_empty-clause-stands c = λ few.
+pub returns-else-not-is_empty-clause-joins : goal.returns-else-not-is_empty-clause-joins
+returns-else-not-is_empty-clause-joins c = λ few.
     let bs = map (λ (t : View). t.begin) (values c.args.others.now) in
-    let none = empty_is c.into_writes-writes.result.items c.into_writes-writes.result.len c.is_empty.result c.is_empty.ensures c.into_writes-writes.result.ok.0
-    c.if-not-is_empty.false in
-    subst (λ (v : HistoryValue). Joins bs v (record { versions = c.self.inside.versions; committed = c.note.new.self }) c.args.transaction) c.self.view_is
-    (next_joined bs _ _ c.args.transaction c.into_writes-writes.result.items (c.last-number.result
-    + 1) (ap (λ n. n + 1) c.last-number.ensures) c.into_writes-writes.ensures.writes
+    let begins = c.gather_begins-count.ensures.numbers few in
+    let writes = c.into_writes-writes.result in
+    let none = empty_is writes.items writes.len c.is_empty.result c.is_empty.ensures writes.ok.0 c.if-not-is_empty.false in
+    let asked = ap (λ (v : CommittedValue). v.facts) c.keep_active.ensures.asked ∙ ap (λ ns. asked_from ns c.note.new.self.facts) begins in
+    let new : HistoryValue = record { versions = c.self.inside.versions; committed = c.keep_active.new.self } in
+    subst (λ (v : HistoryValue). Joins bs v new c.args.transaction) c.self.view_is
+    (next_joined bs _ _ c.args.transaction c.into_writes-writes.result.items (c.last-number.result + 1) c.note.new.self.facts
+    (ap (λ n. n + 1) c.last-number.ensures) c.into_writes-writes.ensures.writes c.note.ensures.reach c.note.ensures.last asked
     (λ active base history r s long commit is. c.law_read_only_record_follows.ensures c.self.inside.versions (λ n. active n && is_among bs n) base history r
     (is ∙ none) (fewer bs c.self.inside.versions active base history (c.law_numbers_change.ensures c.self.inside.versions) s))
-    c.note.ensures.stands_for)
+    c.note.ensures.stands_for
+    (subst (λ ns. AllByRecursion (λ b. may_ask c.note.new.self.facts.reach b ≡ true) ns → (h : List Record) → CommittedStandsFor c.note.new.self.facts h
+    → CommittedStandsFor c.keep_active.new.self.facts h) begins c.keep_active.ensures.stands_for))
