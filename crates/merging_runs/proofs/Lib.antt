@@ -1,5 +1,6 @@
 pub mod RunSteps
 pub mod OldRuns
+pub mod KeptRuns
 pub mod MadeRuns
 pub mod Moves
 pub mod NextNumbers

@@ -1,6 +1,7 @@
 -- How much runs hold, and how much work it is to forget what is old.
 use Rattle.std.specs.List.{fold}
-use Rattle.std.specs.Prelude.{◌≡◌, ℕ, ◌+◌, ◌*◌, ◌-◌, ◌^◌, ◌&&◌, min, nat_le, nat_lt, List, [], ◌∷◌, if◌then◌else◌}
+use Rattle.std.specs.Prelude.{◌≡◌, ◌≤◌, ℕ, ◌+◌, ◌*◌, ◌-◌, ◌^◌, ◌&&◌, min, nat_le, nat_lt, List, [], ◌∷◌}
+use Rattle.std.specs.Prelude.{if◌then◌else◌}
 
 -- a run: a number that none of its numbers is below, one that none is above, and how much there is to free of it, which
 -- is one more than what stands in it
@@ -59,3 +60,8 @@ pub record HasSamePartial (oldest : ℕ) (old new : Contents) : Type 0 where
 -- how much of it one step does
 abbrev pub freed_a_forget : ℕ
 freed_a_forget = 1024
+
+-- no run is to be freed as a whole, and so much work is no more than one step does
+pub record MaySweep (oldest work : ℕ) (h : Contents) : Type 0 where
+  pub whole : whole_upto oldest h ≡ 0
+  pub most : work ≤ freed_a_forget

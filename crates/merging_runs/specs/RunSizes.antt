@@ -22,6 +22,11 @@ pub record LeavesMerges (o : ℕ) (old new : List RunSize) (was is : ℕ) : Type
   pub left : left_above o new ≤ left_above o old
   pub refused : is ≡ was
 
+-- as much is to be moved as before in those runs, and no refusal was counted
+pub record KeepsMerges (o : ℕ) (old new : List RunSize) (was is : ℕ) : Type 0 where
+  pub left : left_above o new ≡ left_above o old
+  pub refused : is ≡ was
+
 -- the same run, with so much room
 abbrev pub with_room : ℕ → RunSize → RunSize
 with_room room r = record r { room = room }
@@ -69,6 +74,11 @@ joined r s = record {
   room = max r.made s.made;
 }
 
+-- Memory was released, down to so much room: none is left where that is none, and no less than that is kept.
+pub record IsReleased (room was is : ℕ) : Type 0 where
+  pub all : room ≡ 0 → is ≡ 0
+  pub kept : min room was ≤ is
+
 -- some of its elements have been dropped
 pub record IsSwept (old new : RunSize) : Type 0 where
   pub last : new.last ≡ old.last
@@ -90,6 +100,11 @@ pub record IsBegun (alike : ℕ → RunSize → RunSize → Bool) (old new : Lis
 abbrev pub one_refusal_more : ℕ → ℕ
 one_refusal_more refused = min (refused + 1) (2 ^ 64 - 1)
 
+-- nothing has changed, and no refusal was counted
+pub record IsUnchanged {X : Type 0} (old new : X) (was is : ℕ) : Type 0 where
+  pub same : new ≡ old
+  pub refused : is ≡ was
+
 -- a merge was begun, or memory for it was refused, which is counted
 abbrev pub IsEnded : (ℕ → RunSize → RunSize → Bool) → List RunSize → List RunSize → ℕ → ℕ → Type 0
 IsEnded alike old new was is = (IsBegun alike old new × (is ≡ was)) ⊎ ((new ≡ old) × (is ≡ one_refusal_more was))
@@ -101,7 +116,7 @@ EndsIf b alike old new was is = b ≡ true → IsEnded alike old new was is
 -- the same, or no two runs beside one another are alike
 abbrev pub IsTried : (ℕ → RunSize → RunSize → Bool) → List RunSize → List RunSize → ℕ → ℕ → Type 0
 IsTried alike old new was is =
-    IsEnded alike old new was is ⊎ ((has_alike alike 0 old ≡ false) × (new ≡ old) × (is ≡ was))
+    IsEnded alike old new was is ⊎ ((has_alike alike 0 old ≡ false) × IsUnchanged old new was is)
 
 -- the runs, and one of so many elements with that number, where it has any
 abbrev pub with_run : ℕ → ℕ → List RunSize → List RunSize

@@ -2,7 +2,7 @@
 ghost use Rattle.std.specs.Prelude.{◌≡◌, ◌≤◌, ◌<◌, ◌+◌, ◌-◌, ◌^◌, ◌++◌, ◌&&◌, ◌||◌, ℕ, Bool, true, false, List, []};
 ghost use Rattle.std.specs.Prelude.{◌∷◌, min, nat_le, IfSome, ⊤};
 ghost use Rattle.merging_runs.specs.Next.{IsNext};
-ghost use Rattle.merging_runs.specs.RunSizes.{IsMerged, IsSwept, RunSize, is_finished, joined, with_room};
+ghost use Rattle.merging_runs.specs.RunSizes.{IsMerged, IsReleased, IsSwept, RunSize, is_finished, joined, with_room};
 
 use crate::free_part::FreePart;
 use std::alloc::Global;
@@ -47,6 +47,12 @@ pub trait Run: Drop {
 
     /// What a move may make of a run, where those may still ask, and nothing is asked of the numbers up to that one.
     ghost makes: { Self.Active → ℕ → Self → Self → Type 0 } = { λ _ _ _ _. ⊤ };
+
+    /// The number from which on all may ask.
+    ghost since: { Self.Active → ℕ } = { λ _. 0 };
+
+    /// What holds of a run where those may still ask, while it is merged, released and swept.
+    ghost holds: { Self.Active → Self → Type 0 } = { λ _ _. ⊤ };
 
     /// Whether one who began at that number may still ask.
     ghost asks: { Self.Active → ℕ → Bool };
@@ -94,7 +100,11 @@ pub trait Run: Drop {
         requires second { is_finished (sizes second) ≡ true }
         requires places { fit ((sizes self.old).made + (sizes second).made) places }
         ensures sizes { sizes self.new ≡ joined (sizes self.old) (sizes second) }
-        ensures agree { (begins : ℕ → Bool) → agree begins (self.new ∷ []) (self.old ∷ second ∷ []) };
+        ensures agree { (begins : ℕ → Bool) → agree begins (self.new ∷ []) (self.old ∷ second ∷ []) }
+        ensures from { min (from self.old) (from second) ≤ from self.new }
+        ensures holds { (active : Self.Active) → (sizes self.old).last ≤ since active
+            → (sizes second).last ≤ since active → (sizes self.old).last ≤ from second
+            → holds active self.old → holds active second → holds active self.new };
 
     /// Is it not being made of two? Takes no memory.
     fn is_at_rest(&self) -> bool
@@ -107,7 +117,9 @@ pub trait Run: Drop {
         requires some { 0 < (sizes self.old).left }
         ensures makes { makes active.now oldest self.old self.new }
         ensures agree { agree (λ b. nat_le oldest b && asks active.now b) (self.new ∷ []) (self.old ∷ []) }
-        ensures merged { IsMerged each 1 (sizes self.old) (sizes self.new) };
+        ensures merged { IsMerged each 1 (sizes self.old) (sizes self.new) }
+        ensures from { from self.old ≤ from self.new }
+        ensures holds { holds active.now self.old → holds active.now self.new };
 
     /// Releases memory of the two, for so many elements of the longer one, once nothing is left to move. So no call returns all of it to
     /// the system, which would take long. It changes nothing else.
@@ -116,16 +128,19 @@ pub trait Run: Drop {
         ensures sizes { sizes self.new ≡ with_room ((sizes self.old).room - most) (sizes self.old) }
         ensures agree { (begins : ℕ → Bool) → agree begins (self.new ∷ []) (self.old ∷ []) }
         ensures makes { (active : Self.Active) (oldest : ℕ) → makes active oldest self.old self.new }
-        ensures released { (sizes self.new).room ≡ 0 → capacity self.new ≡ 0 }
-        ensures kept { min (sizes self.new).room (capacity self.old) ≤ capacity self.new };
+        ensures released { IsReleased (sizes self.new).room (capacity self.old) (capacity self.new) }
+        ensures from { from self.new ≡ from self.old }
+        ensures holds { (active : Self.Active) → holds active self.old → holds active self.new };
 
     /// Drops what has a number up to `oldest`. It looks at each element that it holds, and takes no memory.
     fn sweep(&mut self, oldest: u64)
         requires late { oldest < (sizes self.old).last }
         ensures from { oldest < from self.new }
+        ensures rises { from self.old ≤ from self.new }
         ensures agree { agree (nat_le oldest) (self.new ∷ []) (self.old ∷ []) }
         ensures swept { IsSwept (sizes self.old) (sizes self.new) }
-        ensures fewer { elements self.new ≤ elements self.old };
+        ensures fewer { elements self.new ≤ elements self.old }
+        ensures holds { (active : Self.Active) → holds active self.old → holds active self.new };
 
     /// What there is to free of it. Takes no memory.
     fn into_stale(self) -> Self::Stale

@@ -2,11 +2,12 @@
 ghost use Rattle.std.specs.Prelude.{◌≡◌, ◌≤◌, ◌<◌, ◌+◌, ◌-◌, ◌++◌, ◌&&◌, ◌||◌, ℕ, Bool, [], ◌∷◌, length, nat_le};
 ghost use Rattle.std.specs.Prelude.{nat_lt, All, OnOk, None, false};
 ghost use Rattle.std.specs.List.{list_any};
-ghost use Rattle.merging_runs.specs.Contents.{ForgetsNone, HasSamePartial, garbage_upto, freed_a_forget, size_in};
-ghost use Rattle.merging_runs.specs.Contents.{whole_upto};
+ghost use Rattle.merging_runs.specs.Contents.{ForgetsNone, HasSamePartial, MaySweep, garbage_upto, freed_a_forget};
+ghost use Rattle.merging_runs.specs.Contents.{size_in, whole_upto};
+ghost use Rattle.merging_runs.specs.KeptRuns.{StayKept, StayKeptUpto};
 ghost use Rattle.merging_runs.specs.MadeRuns.{AreMade};
 ghost use Rattle.merging_runs.specs.Next.{IsNext};
-ghost use Rattle.merging_runs.specs.RunSizes.{IsMoved, IsTried, LeavesMerges, become_one, left_above, moves_for};
+ghost use Rattle.merging_runs.specs.RunSizes.{IsMoved, IsTried, KeepsMerges, LeavesMerges, become_one, moves_for};
 ghost use Rattle.merging_runs.specs.Value.{OnlyFrees, size_of};
 
 use crate::free_part::FreePart;
@@ -126,6 +127,8 @@ impl<R: Run> Runs<R> {
             self.old.refused self.new.refused }
         ensures room { OnOk result (0 < self.new.places) }
         ensures forgets { ForgetsNone self.old.contents self.new.contents }
+        ensures kept { StayKeptUpto (R.since active.now) (R.holds active.now) R.from R.sizes self.old.runs
+            self.new.runs }
     {
         open_last(&mut self.runs, active, oldest, &mut self.refused);
         self.runs.reserve(1)
@@ -154,6 +157,7 @@ impl<R: Run> Runs<R> {
         ensures moved { IsMoved R.each oldest (moves_for count) self.old.sizes self.new.sizes }
         ensures refused { self.new.refused ≡ self.old.refused }
         ensures forgets { ForgetsNone self.old.contents self.new.contents }
+        ensures kept { StayKept (R.holds active.now) R.from R.sizes self.old.runs self.new.runs }
     {
         let most = count.saturating_mul(MOVES_EACH).saturating_add(MOVES_MORE);
         move_runs(&mut self.runs, oldest, active, most);
@@ -167,8 +171,8 @@ impl<R: Run> Runs<R> {
         ensures partial { HasSamePartial oldest self.old.contents self.new.contents }
         ensures taken { self.new.contents.taken ≡ self.old.contents.taken }
         ensures none { result ≡ None → whole_upto oldest self.new.contents ≡ self.new.contents.taken }
-        ensures left { left_above oldest self.new.sizes ≡ left_above oldest self.old.sizes }
-        ensures refused { self.new.refused ≡ self.old.refused }
+        ensures merges { KeepsMerges oldest self.old.sizes self.new.sizes self.old.refused self.new.refused }
+        ensures kept { (active : R.Active) → StayKept (R.holds active) R.from R.sizes self.old.runs self.new.runs }
     {
         take_old(&mut self.runs, oldest)
     }
@@ -216,8 +220,8 @@ impl<R: Run> Runs<R> {
             ≡ whole_upto oldest self.new.contents + freed_a_forget }
         ensures ended { 0 < result → whole_upto oldest self.new.contents ≡ 0 }
         ensures partial { HasSamePartial oldest self.old.contents self.new.contents }
-        ensures left { left_above oldest self.new.sizes ≡ left_above oldest self.old.sizes }
-        ensures refused { self.new.refused ≡ self.old.refused }
+        ensures merges { KeepsMerges oldest self.old.sizes self.new.sizes self.old.refused self.new.refused }
+        ensures kept { (active : R.Active) → StayKept (R.holds active) R.from R.sizes self.old.runs self.new.runs }
     {
         let mut left = self.free_part(FREED_MAX);
         'runs: while left > 0 {
@@ -232,13 +236,13 @@ impl<R: Run> Runs<R> {
     // Sweeps runs that hold what is old beside what isn't, as far as so much work goes, with what earlier steps have left over. Are there
     // more?
     fn sweep(&mut self, oldest: u64, most: usize) -> bool
-        requires whole { whole_upto oldest self.old.contents ≡ 0 }
-        requires most { most ≤ freed_a_forget }
+        requires { MaySweep oldest most self.old.contents }
         ensures agree { R.agree (nat_le oldest) self.new.runs self.old.runs }
         ensures garbage { garbage_upto oldest self.new.contents ≡ garbage_upto oldest self.old.contents - most }
         ensures still { result ≡ nat_lt 0 (garbage_upto oldest self.new.contents) }
         ensures above { result ≡ false → All (R.above oldest) self.new.runs }
         ensures merges { LeavesMerges oldest self.old.sizes self.new.sizes self.old.refused self.new.refused }
+        ensures kept { (active : R.Active) → StayKept (R.holds active) R.from R.sizes self.old.runs self.new.runs }
     {
         let rest = sweep_for(&mut self.runs, oldest, self.credit + most);
         self.credit = rest.unwrap_or(0);
@@ -257,6 +261,7 @@ impl<R: Run> Runs<R> {
         ensures still { result ≡ nat_lt 0 (garbage_upto oldest self.new.contents) }
         ensures above { result ≡ false → All (R.above oldest) self.new.runs }
         ensures merges { LeavesMerges oldest self.old.sizes self.new.sizes self.old.refused self.new.refused }
+        ensures kept { (active : R.Active) → StayKept (R.holds active) R.from R.sizes self.old.runs self.new.runs }
     {
         let most = self.free_old(oldest);
         if self.stale.is_some() || is_one_old(&self.runs, oldest) {
@@ -272,6 +277,7 @@ impl<R: Run> Runs<R> {
         ensures garbage { garbage_upto oldest self.new.contents ≡ 0 }
         ensures above { All (R.above oldest) self.new.runs }
         ensures merges { LeavesMerges oldest self.old.sizes self.new.sizes self.old.refused self.new.refused }
+        ensures kept { (active : R.Active) → StayKept (R.holds active) R.from R.sizes self.old.runs self.new.runs }
     {
         'old: while self.free_old(oldest) == 0 {}
         sweep_all(&mut self.runs, oldest);

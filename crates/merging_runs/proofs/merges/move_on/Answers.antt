@@ -12,6 +12,7 @@ moves-init g c = record {
   made = Unmoved;
   rest = omega arith;
   merged = record { last = refl; whole = omega arith; room = omega arith; moved = omega arith; slowly = omega arith };
+  kept = record { last = refl; rises = omega arith; holds = λ h. h };
 }
 
 pub moves-preserved : goal.moves-preserved
@@ -34,6 +35,7 @@ moves-preserved g c =
         moved = omega (arith, one.moved, is.merged.moved);
         slowly = omega (arith, one.slowly, is.merged.slowly, more);
       });
+      kept = record { last = one.last ∙ is.kept.last; rises = omega (arith, moved.from, is.kept.rises); holds = λ h. moved.holds (is.kept.holds h) };
     }
 
 pub returns-then-is_at_rest-clause-moved : goal.returns-then-is_at_rest-clause-moved
@@ -45,4 +47,14 @@ returns-then-is_at_rest-clause-moved g c =
     record {
       made = Moved c.moves.run c.release.new.self c.moves.invariant.made (released.makes c.args.active.now c.args.oldest);
       released = grind (arith, nat_tests, room, merged.room);
+    }
+
+pub returns-then-is_at_rest-clause-kept : goal.returns-then-is_at_rest-clause-kept
+returns-then-is_at_rest-clause-kept g c =
+    let released = c.release.ensures in
+    let kept = c.moves.invariant.kept in
+    record {
+      last = ap (λ r. r.last) released.sizes ∙ kept.last;
+      rises = omega (arith, released.from, kept.rises);
+      holds = λ h. released.holds c.args.active.now (kept.holds h);
     }

@@ -20,6 +20,7 @@ loop-after-init g c =
       most = omega arith;
       merged = record { lasts = refl; wholes = as_long (map g.R.Run.sizes c.args.runs.now.items); moved = omega arith; slowly = omega arith };
       ended = λ some. past_left g.R.Run.sizes c.args.oldest c.args.runs.now.items (vec_len c.args.runs.now - 0) (omega (arith, len));
+      kept = λ last h. h;
     }
 
 pub loop-after-preserved : goal.loop-after-preserved
@@ -53,6 +54,7 @@ loop-after-preserved g c =
       ended = λ some.
           ap (λ n. left_above o (drop n (map g.R.Run.sizes c.move_at-rest.new.runs.items))) at
           ∙ moved.ended some (ap (λ n. left_above o (drop n (map g.R.Run.sizes c.loop-after.runs.items))) behind ∙ is.ended (omega (arith, some, moved.most)));
+      kept = λ last h. moved.kept last (is.kept last h);
     }
 
 pub returns-clause-moved : goal.returns-clause-moved

@@ -14,6 +14,9 @@ loop-after-init g c =
           c.args.runs.now.items at,
     )
 
+pub returns-then-open_at-clause-kept : goal.returns-then-open_at-clause-kept
+returns-then-open_at-clause-kept g c = rw c.loop-after.invariant.runs at c.open_at.ensures.kept
+
 pub loop-after-preserved : goal.loop-after-preserved
 loop-after-preserved g c =
     let runs = c.args.runs.now in
