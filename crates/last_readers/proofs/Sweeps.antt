@@ -118,14 +118,18 @@ rises_swept o in_force next (x ∷ xs) ts h =
 
 -- ---- which numbers they name
 
-cut_from : (o n : ℕ) → is_from (o + 1) (cut o n) ≡ true
-cut_from o n = grind (arith, nat_tests)
+cut_from : (m n o k : ℕ) → m ≡ max n (o + 1) → is_from n k ≡ true → is_from m (cut o k) ≡ true
+cut_from m n o k is h = grind (arith, nat_tests)
 
-pub from_swept : (o : ℕ) (in_force : Option ℕ) (ss : List StepValue) → steps_from (o + 1) (swept o in_force ss) ≡ true
-from_swept o in_force [] = refl
-from_swept o in_force (s ∷ ss) =
-    pick (steps_from (o + 1)) (is_level_in in_force (cut_step o s)) _ _ true (λ e. from_swept o in_force ss)
-    (λ e. and_from _ _ (and_from _ _ (cut_from o s.at) (cut_from o s.above)) (from_swept o (Some (cut o s.above)) ss))
+pub from_swept : (m n o : ℕ) (in_force : Option ℕ) (ss : List StepValue) → m ≡ max n (o + 1) → steps_from n ss ≡ true
+    → steps_from m (swept o in_force ss) ≡ true
+from_swept m n o in_force [] is h = refl
+from_swept m n o in_force (s ∷ ss) is h =
+    let parts = and_parts (is_step_from n s) (steps_from n ss) h in
+    let own = and_parts (is_from n s.at) (is_from n s.above) parts.0 in
+    pick (steps_from m) (is_level_in in_force (cut_step o s)) _ _ true (λ e. from_swept m n o in_force ss is parts.1)
+    (λ e. and_from _ _ (and_from _ _ (cut_from m n o s.at is own.0) (cut_from m n o s.above is own.1))
+    (from_swept m n o (Some (cut o s.above)) ss is parts.1))
 
 number_is_from : (n b : ℕ) (ss : List StepValue) (k : Bytes) → is_from n b ≡ true → steps_from n ss ≡ true → is_from n (number_from b ss k) ≡ true
 number_is_from n b [] k below h = below

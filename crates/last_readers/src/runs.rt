@@ -153,7 +153,7 @@ impl Run for ReadRun {
         sweep(&mut self.second, oldest, Some(0));
         let in_force = number_in_force(&self.first, &self.second);
         sweep(&mut self.made, oldest, in_force);
-        self.earliest = oldest + 1;
+        self.earliest = self.earliest.max(oldest + 1);
     }
 
     fn into_stale(self) -> (Steps, Steps, Steps) {

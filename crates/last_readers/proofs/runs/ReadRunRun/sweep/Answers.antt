@@ -1,10 +1,11 @@
 use Rattle.last_readers.proofs.runs.ReadRunRun.sweep.Goals as goal
-use Rattle.std.proofs.Common.{◌≡◌, ◌+◌, ◌++◌, ap, ◌∙◌, arith, Some}
-use Rattle.std.proofs.lemmas.Bool.{and_from, leb-true}
+use Rattle.std.proofs.Common.{◌≡◌, ◌+◌, ◌++◌, ◌&&◌, ap, ◌∙◌, arith, Some}
+use Rattle.std.proofs.lemmas.Bool.{and_from, and_parts, leb-true}
+use Rattle.std.specs.Prelude.{max}
 use Rattle.model.specs.Map.{Bytes}
 use Rattle.last_readers.proofs.Cuts.{cut_either, cut_later_same}
 use Rattle.last_readers.proofs.Sweeps.{cut_again, cut_low, from_swept, merged_swept, rises_swept}
-use Rattle.last_readers.specs.Steps.{are_from, cut, merged_at, steps_rise}
+use Rattle.last_readers.specs.Steps.{are_from, cut, merged_at, steps_from, steps_rise}
 
 pub invariant_of-self : goal.invariant_of-self
 invariant_of-self c =
@@ -19,6 +20,11 @@ invariant_of-self c =
     ≡ cut o (merged_at was.first.items was.second.items was.made.items k)
     = λ k. merged_swept o in_force was.first.items was.second.items was.made.items c.sweep.new.steps.items c.sweep-2.new.steps.items c.sweep-3.new.steps.items k
     was.first_rises was.second_rises c.sweep.ensures.swept c.sweep-2.ensures.swept made c.number_in_force-in_force.ensures in
+    let n = was.earliest in
+    let from = c.max-self.result in
+    let latest : from ≡ max n (o + 1) = omega (arith, c.max-self.ensures) in
+    let parts = and_parts (steps_from n was.first.items) (steps_from n was.second.items && steps_from n was.made.items) was.numbers in
+    let others = and_parts (steps_from n was.second.items) (steps_from n was.made.items) parts.1 in
     record {
       first_rises = (λ i. steps_rise (first i ++ made i)) ∙ rises_swept o (Some 0) in_force was.first.items was.made.items was.first_rises;
       second_rises = (λ i. steps_rise (second i ++ made i)) ∙ rises_swept o (Some 0) in_force was.second.items was.made.items was.second_rises;
@@ -31,8 +37,9 @@ invariant_of-self c =
         c.sweep-3.ensures.capacity,
       );
       upto = λ k. omega (arith, merged k, cut_low o (merged_at was.first.items was.second.items was.made.items k), was.upto k);
-      numbers = (λ i. are_from (o + 1) (first i) (second i) (made i))
-          ∙ and_from _ _ (from_swept o (Some 0) was.first.items) (and_from _ _ (from_swept o (Some 0) was.second.items) (from_swept o in_force was.made.items));
+      numbers = (λ i. are_from from (first i) (second i) (made i))
+          ∙ and_from _ _ (from_swept from n o (Some 0) was.first.items latest parts.0)
+          (and_from _ _ (from_swept from n o (Some 0) was.second.items latest others.0) (from_swept from n o in_force was.made.items latest others.1));
     }
 
 pub returns-clause-agree : goal.returns-clause-agree
