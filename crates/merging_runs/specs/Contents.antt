@@ -1,7 +1,7 @@
 -- How much runs hold, and how much work it is to forget what is old.
 use Rattle.std.specs.List.{fold}
-use Rattle.std.specs.Prelude.{◌≡◌, ◌≤◌, ℕ, ◌+◌, ◌*◌, ◌-◌, ◌^◌, ◌&&◌, min, nat_le, nat_lt, List, [], ◌∷◌}
-use Rattle.std.specs.Prelude.{if◌then◌else◌}
+use Rattle.std.specs.Prelude.{◌≡◌, ◌≤◌, ℕ, ◌+◌, ◌*◌, ◌-◌, ◌^◌, ◌&&◌, Bool, min, nat_le, nat_lt, List, []}
+use Rattle.std.specs.Prelude.{◌∷◌, if◌then◌else◌}
 
 -- a run: a number that none of its numbers is below, one that none is above, and how much there is to free of it, which
 -- is one more than what stands in it
@@ -65,3 +65,8 @@ freed_a_forget = 1024
 pub record MaySweep (oldest work : ℕ) (h : Contents) : Type 0 where
   pub whole : whole_upto oldest h ≡ 0
   pub most : work ≤ freed_a_forget
+
+-- so much of the garbage has gone, and garbage is left exactly where that is answered
+pub record FreesGarbage (oldest work : ℕ) (old new : Contents) (more : Bool) : Type 0 where
+  pub garbage : garbage_upto oldest new ≡ garbage_upto oldest old - work
+  pub still : more ≡ nat_lt 0 (garbage_upto oldest new)

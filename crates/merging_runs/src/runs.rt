@@ -1,9 +1,9 @@
 //! The list of runs: a commit adds one, merges go on in steps, and what is forgotten is dropped.
 ghost use Rattle.std.specs.Prelude.{◌≡◌, ◌≤◌, ◌<◌, ◌+◌, ◌-◌, ◌++◌, ◌&&◌, ◌||◌, ℕ, Bool, [], ◌∷◌, length, nat_le};
-ghost use Rattle.std.specs.Prelude.{nat_lt, All, OnOk, None, false};
+ghost use Rattle.std.specs.Prelude.{nat_lt, map, All, OnOk, None, false};
 ghost use Rattle.std.specs.List.{list_any};
-ghost use Rattle.merging_runs.specs.Contents.{ForgetsNone, HasSamePartial, MaySweep, garbage_upto, freed_a_forget};
-ghost use Rattle.merging_runs.specs.Contents.{size_in, whole_upto};
+ghost use Rattle.merging_runs.specs.Contents.{ForgetsNone, FreesGarbage, HasSamePartial, MaySweep, garbage_upto};
+ghost use Rattle.merging_runs.specs.Contents.{freed_a_forget, size_in, whole_upto};
 ghost use Rattle.merging_runs.specs.KeptRuns.{StayKept, StayKeptUpto};
 ghost use Rattle.merging_runs.specs.MadeRuns.{AreMade};
 ghost use Rattle.merging_runs.specs.Next.{IsNext};
@@ -129,6 +129,7 @@ impl<R: Run> Runs<R> {
         ensures forgets { ForgetsNone self.old.contents self.new.contents }
         ensures kept { StayKeptUpto (R.since active.now) (R.holds active.now) R.from R.sizes self.old.runs
             self.new.runs }
+        ensures sizes { self.new.sizes ≡ map R.sizes self.new.runs }
     {
         open_last(&mut self.runs, active, oldest, &mut self.refused);
         self.runs.reserve(1)
@@ -158,6 +159,7 @@ impl<R: Run> Runs<R> {
         ensures refused { self.new.refused ≡ self.old.refused }
         ensures forgets { ForgetsNone self.old.contents self.new.contents }
         ensures kept { StayKept (R.holds active.now) R.from R.sizes self.old.runs self.new.runs }
+        ensures sizes { self.new.sizes ≡ map R.sizes self.new.runs }
     {
         let most = count.saturating_mul(MOVES_EACH).saturating_add(MOVES_MORE);
         move_runs(&mut self.runs, oldest, active, most);
@@ -238,11 +240,11 @@ impl<R: Run> Runs<R> {
     fn sweep(&mut self, oldest: u64, most: usize) -> bool
         requires { MaySweep oldest most self.old.contents }
         ensures agree { R.agree (nat_le oldest) self.new.runs self.old.runs }
-        ensures garbage { garbage_upto oldest self.new.contents ≡ garbage_upto oldest self.old.contents - most }
-        ensures still { result ≡ nat_lt 0 (garbage_upto oldest self.new.contents) }
+        ensures frees { FreesGarbage oldest most self.old.contents self.new.contents result }
         ensures above { result ≡ false → All (R.above oldest) self.new.runs }
         ensures merges { LeavesMerges oldest self.old.sizes self.new.sizes self.old.refused self.new.refused }
         ensures kept { (active : R.Active) → StayKept (R.holds active) R.from R.sizes self.old.runs self.new.runs }
+        ensures sizes { self.new.sizes ≡ map R.sizes self.new.runs }
     {
         let rest = sweep_for(&mut self.runs, oldest, self.credit + most);
         self.credit = rest.unwrap_or(0);
@@ -262,6 +264,7 @@ impl<R: Run> Runs<R> {
         ensures above { result ≡ false → All (R.above oldest) self.new.runs }
         ensures merges { LeavesMerges oldest self.old.sizes self.new.sizes self.old.refused self.new.refused }
         ensures kept { (active : R.Active) → StayKept (R.holds active) R.from R.sizes self.old.runs self.new.runs }
+        ensures sizes { self.new.sizes ≡ map R.sizes self.new.runs }
     {
         let most = self.free_old(oldest);
         if self.stale.is_some() || is_one_old(&self.runs, oldest) {
@@ -278,6 +281,7 @@ impl<R: Run> Runs<R> {
         ensures above { All (R.above oldest) self.new.runs }
         ensures merges { LeavesMerges oldest self.old.sizes self.new.sizes self.old.refused self.new.refused }
         ensures kept { (active : R.Active) → StayKept (R.holds active) R.from R.sizes self.old.runs self.new.runs }
+        ensures sizes { self.new.sizes ≡ map R.sizes self.new.runs }
     {
         'old: while self.free_old(oldest) == 0 {}
         sweep_all(&mut self.runs, oldest);
