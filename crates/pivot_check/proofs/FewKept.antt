@@ -11,18 +11,21 @@ use Rattle.std.specs.Ordering.{is_le, is_lt}
 use Rattle.std.specs.Prelude.{not, nat_le, if◌then◌else◌}
 use Rattle.merging_runs.proofs.RunSteps.{finished_left}
 use Rattle.merging_runs.proofs.RunsAtRest.{runs_hold_little}
-use Rattle.merging_runs.specs.AtRest.{made_in}
+use Rattle.last_readers.specs.declared.runs.TheConstants.{BEGINS_MAX}
+use Rattle.merging_runs.specs.AtRest.{AreAtRest, made_in}
 use Rattle.merging_runs.specs.RunSizes.{is_finished}
-use Rattle.model.proofs.Elements.{all-filter}
-use Rattle.model.proofs.KeyOrder.{itself, lt_le_trans, same_keys, turned_greater, turned_less}
+use Rattle.model.proofs.Elements.{all-back, all-filter, all-front}
+use Rattle.model.proofs.KeyOrder.{itself, same_keys, turned_greater, turned_less}
 use Rattle.model.specs.Map.{Bytes, is_same_key, key_cmp}
 use Rattle.pivot_check.proofs.FewPostings.{few_postings}
 use Rattle.pivot_check.proofs.Joined.{none_left}
-use Rattle.pivot_check.specs.FewKept.{FewKeptLaw, RunsKeepLittleLaw, WasMergedFor, numbers_rise}
+use Rattle.pivot_check.proofs.KeptShort.{all_above, numbers_behind, once_spaced, spaced_behind}
+use Rattle.pivot_check.specs.FewKept.{AreAmong, AreKeptFor, FewKeptLaw, KeepsLittleLaw}
 use Rattle.pivot_check.specs.Inside.{in_run, postings_in, written_run_size}
-use Rattle.pivot_check.specs.Kept.{Reach}
+use Rattle.pivot_check.specs.KeptShort.{IsKeptShort, numbers_rise}
 use Rattle.pivot_check.specs.Parts.{left, remaining}
-use Rattle.pivot_check.specs.Postings.{Posting, keys_rise}
+use Rattle.pivot_check.specs.Postings.{Posting, are_upto, keys_rise}
+use Rattle.pivot_check.specs.Reach.{Reach}
 use Rattle.pivot_check.specs.Redundant.{are_of_one_key, are_spaced, is_redundant}
 use Rattle.pivot_check.specs.declared.run.WrittenRun.{WrittenRun}
 
@@ -42,13 +45,6 @@ apart k j le not_same = grind (arith, common_steps, turned_less j k, turned_grea
 none_of : (k : Bytes) (ps : List Posting) → list_all (λ q. is_lt (key_cmp k q.key)) ps ≡ true → those_of k ps ≡ []
 none_of k [] h = refl
 none_of k (q ∷ ps) h = grind (arith, common_steps, turned_less k q.key, none_of k ps)
-
-all_above : (k j : Bytes) (ps : List Posting) → is_lt (key_cmp k j) ≡ true → list_all (λ q. is_le (key_cmp j q.key)) ps ≡ true
-    → list_all (λ q. is_lt (key_cmp k q.key)) ps ≡ true
-all_above k j [] lt h = refl
-all_above k j (q ∷ ps) lt h =
-    let parts = and_parts (is_le (key_cmp j q.key)) (list_all (λ q. is_le (key_cmp j q.key)) ps) h in
-    grind (arith, lt_le_trans k j q.key lt parts.0, all_above k j ps lt parts.1)
 
 -- behind a posting of another key, which isn't below this one, none is of this key
 none_behind : (k : Bytes) (q : Posting) (ps : List Posting) → is_le (key_cmp k q.key) ≡ true → is_of k q ≡ false → keys_rise (q ∷ ps) ≡ true
@@ -92,14 +88,6 @@ from_first reach k p (q ∷ ps) here keys numbers spaced =
           let none = none_behind k q ps (le_of k p q here low.0) isnt rise.1 in
           subst (λ l. AreOfOne reach (p ∷ l)) (sym none) (refl, refl)
     ]
-
-numbers_behind : (p : Posting) (ps : List Posting) → numbers_rise (p ∷ ps) ≡ true → numbers_rise ps ≡ true
-numbers_behind p [] h = refl
-numbers_behind p (q ∷ ps) h = (and_parts (not (is_same_key p.key q.key) || nat_le p.number q.number) (numbers_rise (q ∷ ps)) h).1
-
-spaced_behind : (reach : Reach) (p : Posting) (ps : List Posting) → are_spaced reach (p ∷ ps) ≡ true → are_spaced reach ps ≡ true
-spaced_behind reach p [] h = refl
-spaced_behind reach p (q ∷ ps) h = (and_parts (not (is_redundant reach p q)) (are_spaced reach (q ∷ ps)) h).1
 
 -- the postings of one key stand beside one another, so none of them makes the next redundant
 of_one : (reach : Reach) (k : Bytes) (ps : List Posting) → keys_rise ps ≡ true → numbers_rise ps ≡ true → are_spaced reach ps ≡ true
@@ -164,26 +152,56 @@ length_in (r ∷ rs) done =
     let parts = and_parts (is_finished (written_run_size r)) (list_all is_finished (map written_run_size rs)) done in
     omega (arith, length-append (in_run r) (postings_in rs), length_of r parts.0, length_in rs parts.1)
 
--- a finished run holds few postings
-few_in_run : (active : ℕ) (keys : List Bytes) (r : WrittenRun) → is_finished (written_run_size r) ≡ true → WasMergedFor active keys r
-    → left r.made ≤ (2 * active + 2) * length keys
-few_in_run active keys r is was =
-    let rise = subst (λ l. keys_rise l ≡ true) (sym (in_made r is)) r.made.rising in
-    let few = few_kept was.reach keys (in_run r) rise was.kept in
-    let fewer = mul-le-mul_right {m = 2 * length was.reach.begins + 2} {n = 2 * active + 2} (length keys) (omega (arith, was.few)) in
-    omega (arith, few, fewer, length_of r is)
+upto_each : (last : ℕ) (ps : List Posting) → are_upto last ps ≡ true → AllByRecursion (λ p. p.number ≤ last) ps
+upto_each last [] h = tt
+upto_each last (p ∷ ps) h = (grind (arith, nat_tests), upto_each last ps (grind (arith, nat_tests)))
 
-few_in_runs : (active : ℕ) (keys : List Bytes) (rs : List WrittenRun) → list_all is_finished (map written_run_size rs) ≡ true
-    → AllByRecursion (WasMergedFor active keys) rs
-    → AllByRecursion (λ s. s.made ≤ (2 * active + 2) * length keys) (map written_run_size rs)
-few_in_runs active keys [] done were = tt
-few_in_runs active keys (r ∷ rs) done were =
+-- a finished run holds few postings, where none makes the next redundant for those who might ask then
+few_for : (were : Reach) (keys : List Bytes) (r : WrittenRun) → is_finished (written_run_size r) ≡ true → AreAmong keys (in_run r)
+    → length were.begins ≤ BEGINS_MAX → numbers_rise (remaining r.made ++ remaining r.first) ≡ true → are_upto were.since (in_run r) ≡ true
+    → are_spaced were (remaining r.made) ≡ true → left r.made ≤ (2 * BEGINS_MAX + 2) * length keys
+few_for were keys r is among few numbers upto spaced =
+    let made = in_made r is in
+    let none = finished_left (written_run_size r) is in
+    let first = none_left r.first (omega (arith, none)) in
+    let rise = subst (λ l. keys_rise l ≡ true) (sym made) r.made.rising in
+    let kept : AreKeptFor were keys (in_run r) = record {
+      among = among;
+      numbers = ap numbers_rise (made ∙ sym (append-nil (remaining r.made)) ∙ ap (λ l. remaining r.made ++ l) (sym first)) ∙ numbers;
+      upto = upto_each were.since (in_run r) upto;
+      spaced = ap (are_spaced were) made ∙ spaced;
+    } in
+    let held = few_kept were keys (in_run r) rise kept in
+    let fewer = mul-le-mul_right {m = 2 * length were.begins + 2} {n = 2 * BEGINS_MAX + 2} (length keys) (omega (arith, few)) in
+    omega (arith, held, fewer, length_of r is)
+
+few_in_run : (reach : Reach) (keys : List Bytes) (r : WrittenRun) → is_finished (written_run_size r) ≡ true → AreAmong keys (in_run r)
+    → IsKeptShort reach r → left r.made ≤ (2 * BEGINS_MAX + 2) * length keys
+few_in_run reach keys r is among short = elim short.kept [
+  | inl one ↦
+      -- as if it had been merged where nobody had begun before its last number
+      let alone : Reach = record { begins = []; since = r.last } in
+      few_for alone keys r is among (omega arith) short.numbers.first_rises r.upto (once_spaced alone (remaining r.made) one.once)
+  | inr was ↦ few_for was.were keys r is among was.few short.numbers.first_rises was.upto was.spaced
+]
+
+few_in_runs : (reach : Reach) (keys : List Bytes) (rs : List WrittenRun) → list_all is_finished (map written_run_size rs) ≡ true
+    → AreAmong keys (postings_in rs) → AllByRecursion (IsKeptShort reach) rs
+    → AllByRecursion (λ s. s.made ≤ (2 * BEGINS_MAX + 2) * length keys) (map written_run_size rs)
+few_in_runs reach keys [] done among short = tt
+few_in_runs reach keys (r ∷ rs) done among short =
     let parts = and_parts (is_finished (written_run_size r)) (list_all is_finished (map written_run_size rs)) done in
-    (few_in_run active keys r parts.0 were.0, few_in_runs active keys rs parts.1 were.1)
+    let is_among = λ (p : Posting). list_any (is_same_key p.key) keys ≡ true in (
+      few_in_run reach keys r parts.0 (all-front is_among (in_run r) (postings_in rs) among) short.0,
+      few_in_runs reach keys rs parts.1 (all-back is_among (in_run r) (postings_in rs) among) short.1,
+    )
 
-pub runs_keep_little : RunsKeepLittleLaw
-runs_keep_little begins oldest active keys rs few rest were =
-    let most = (2 * active + 2) * length keys in
-    let held = runs_hold_little begins oldest most (map written_run_size rs) rest (few_in_runs active keys rs rest.finished were) in
-    let fewer = mul-le-mul_left {m = 2 * length begins + 1} {n = 2 * active + 1} (2 * most) (omega arith) in
-    omega (arith, held, fewer, length_in rs rest.finished)
+pub keeps_little : KeepsLittleLaw
+keeps_little v keys little among rest =
+    let most = (2 * BEGINS_MAX + 2) * length keys in
+    let sizes = map written_run_size v.runs in
+    let rests = subst (AreAtRest v.facts.reach.begins v.facts.oldest) little.sizes rest in
+    let few = few_in_runs v.facts.reach keys v.runs rests.finished (subst (AreAmong keys) little.postings among) little.runs.each in
+    let held = runs_hold_little v.facts.reach.begins v.facts.oldest most sizes rests few in
+    let fewer = mul-le-mul_left {m = 2 * length v.facts.reach.begins + 1} {n = 2 * BEGINS_MAX + 1} (2 * most) (omega (arith, little.few)) in
+    omega (arith, held, fewer, length_in v.runs rests.finished, ap length little.postings)

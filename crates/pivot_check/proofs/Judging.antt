@@ -4,9 +4,9 @@ use Rattle.std.proofs.Common.{◌≡◌, ◌≤◌, ◌<◌, ◌+◌, ℕ, Bool,
 use Rattle.std.proofs.Common.{map, length, refl, sym, ap, subst, ◌∙◌, arith}
 use Rattle.std.proofs.lemmas.Bool.{and_from, and_parts}
 use Rattle.std.proofs.lemmas.Bool.Decides.{nat_tests}
-use Rattle.std.proofs.lemmas.List.{length_push, nil_from_length}
+use Rattle.std.proofs.lemmas.List.{length_push}
 use Rattle.std.specs.List.{list_any, filter, position, AllByRecursion}
-use Rattle.std.specs.Prelude.{nat_le, nat_lt, is_some, find, not, option_map, ◌&&◌}
+use Rattle.std.specs.Prelude.{nat_le, nat_lt, is_some, find, option_map, ◌&&◌}
 use Rattle.model.proofs.Elements.{all-map}
 use Rattle.model.proofs.Members.{IsRising as RecordsRise, rising_from_numbered}
 use Rattle.model.proofs.Pivots.{find_alike}
@@ -24,12 +24,11 @@ use Rattle.pivot_check.proofs.LastSources.{source_found, noted_readers, forgotte
 use Rattle.pivot_check.proofs.Lists.{found_at, found_nowhere}
 use Rattle.pivot_check.proofs.Writers.{IsRising, any_is_found, written as written_by, target as target_by}
 use Rattle.pivot_check.proofs.Writers.{pivot as pivot_by, noted as writers_noted, forgotten as writers_forgotten}
-use Rattle.pivot_check.proofs.Writers.{by_upto}
 use Rattle.pivot_check.specs.Index.{is_written_since, target, source, other_pivot, answer_found}
 use Rattle.pivot_check.specs.Kept.{KeptRecord, Facts, keys_of, is_key_written, leads_to, follows, becomes_pivot}
 use Rattle.pivot_check.specs.Kept.{first_number, last_number, are_in_order, own_record, IsInReach, Reach, asked_from}
 use Rattle.pivot_check.specs.Kept.{may_ask}
-use Rattle.pivot_check.specs.Postings.{AnswerAs, Posting, postings_by, least, lesser, covered_of, are_upto}
+use Rattle.pivot_check.specs.Postings.{AnswerAs, Posting, postings_by, least, lesser, covered_of}
 use Rattle.pivot_check.specs.StandsFor.{StandsFor, IsRecordOf, Says, AreWriters, verdict_found, kept_of, kept_above}
 use Rattle.pivot_check.specs.StandsFor.{IsCleared, IsClearedBy, IsVerdict}
 use Rattle.pivot_check.specs.declared.verdict.Cleared.{Cleared}
@@ -204,10 +203,3 @@ clears f t (Clear cleared) says v_is = λ reach history s r own. (
 clears f t (Overwritten i) says v_is = tt
 clears f t PivotSelf says v_is = tt
 clears f t (Pivot n) says v_is = tt
-
--- the keys of one transaction alone
-pub upto_own : (n : ℕ) (flag : Bool) (ks : List Bytes) (ps qs : List Posting) → length ps ≡ 0
-    → ((c : Posting → Bool) → least c qs ≡ lesser (least c ps) (least c (postings_by n flag ks))) → are_upto n qs ≡ true
-upto_own n flag ks ps qs none added =
-    ap (λ o. not (is_some o)) (added (λ p. nat_lt n p.number)
-    ∙ (λ i. lesser (least (λ p. nat_lt n p.number) (nil_from_length ps none i)) (by_upto n flag ks i)))

@@ -14,5 +14,8 @@ pub mod Joined
 pub mod Sweeps
 pub mod Redundancy
 pub mod FewPostings
+pub mod KeptShort
+pub mod Taking
+pub mod ShortRuns
 pub mod FewKept
 mod Examples

@@ -48,7 +48,7 @@ later_within o s n ps is =
     ap (later_than o) (sym (take-append-drop s ps)) ∙ filter-append (later o) (take s ps) (drop s ps) in
     omega (arith, is, count_is o (take s ps), ap length whole, length-append (later_than o (take s ps)) (later_than o (drop s ps)))
 
-all_later : (t : Posting → Bool) (o : ℕ) (ps : List Posting) → list_all t ps ≡ true → list_all t (later_than o ps) ≡ true
+pub all_later : (t : Posting → Bool) (o : ℕ) (ps : List Posting) → list_all t ps ≡ true → list_all t (later_than o ps) ≡ true
 all_later t o [] h = refl
 all_later t o (p ∷ ps) h = grind (arith, all_later t o ps)
 

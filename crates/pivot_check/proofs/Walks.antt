@@ -6,25 +6,20 @@ use Rattle.std.proofs.lemmas.Grind.{common_steps}
 use Rattle.std.proofs.lemmas.List.{take-append-drop, get_or-drop, get_or-take, length-take}
 use Rattle.std.proofs.lemmas.List.Elements.{recursion_from_All}
 use Rattle.std.proofs.lemmas.List.Folds.{list_all-append}
-use Rattle.std.specs.List.{list_all, AllByRecursion, insert}
+use Rattle.std.specs.List.{list_all, AllByRecursion}
 use Rattle.std.specs.List.Sorted.{IsPartitionPoint, IsPartitionedBy}
 use Rattle.std.specs.Ordering.{is_lt, is_le}
 use Rattle.std.specs.Prelude.{slice_get, ◌++◌}
 use Rattle.model.proofs.Elements.{all-each, all-get, all-pass}
-use Rattle.model.proofs.Entries.{turned}
 use Rattle.model.proofs.KeyOrder.{itself, less, less_trans, same_keys}
 use Rattle.model.specs.Map.{Bytes, key_cmp}
 use Rattle.model.specs.PrivateCopy.{Mark, covers}
 use Rattle.marks.specs.Marked.{start_of}
 use Rattle.pivot_check.proofs.Intervals.{covers_below, covers_above}
-use Rattle.pivot_check.proofs.Writers.{lesser_comm}
-use Rattle.pivot_check.specs.Agreeing.{lesser_none, lesser_assoc, least-append}
+use Rattle.pivot_check.specs.Agreeing.{lesser_none, least-append}
 use Rattle.pivot_check.specs.Postings.{HaveKeysBelow, Posting, keys_rise, have_keys_from, least, lesser}
 
 -- ---- the order of keys
-
-pub le_from_not : (a b : Bytes) → is_le (key_cmp a b) ≡ false → is_le (key_cmp b a) ≡ true
-le_from_not a b h = grind (arith, common_steps, turned a b)
 
 pub le_trans : (a b k : Bytes) → is_le (key_cmp a b) ≡ true → is_le (key_cmp b k) ≡ true → is_le (key_cmp a k) ≡ true
 le_trans a b k h g = grind (arith, common_steps, less_trans a b k, same_keys a b, same_keys b k)
@@ -132,9 +127,6 @@ rest_decides m c ps i below =
 
 -- ---- one more posting
 
-pub parted_through : (k : Bytes) (ps : List Posting) → keys_rise ps ≡ true → IsPartitionedBy (λ p. is_le (key_cmp p.key k)) ps
-parted_through k ps h i j d le lt e = le_trans _ _ k (rise_at ps h i j d le lt) e
-
 -- behind those that are not above it, and before those that it isn't above
 pub rise_between : (w : Posting) (ms ys : List Posting) → AllByRecursion (λ m. is_le (key_cmp m.key w.key) ≡ true) ms
     → list_all (λ y. is_le (key_cmp w.key y.key)) ys ≡ true
@@ -142,17 +134,6 @@ pub rise_between : (w : Posting) (ms ys : List Posting) → AllByRecursion (λ m
 rise_between w [] ys below from h = and_from _ _ from h
 rise_between w (m ∷ ms) ys below from h =
     grind (arith, below.0, list_all-append (λ q. is_le (key_cmp m.key q.key)) ms, rise_between w ms ys below.1 from)
-
-pub inserted_rises : (p : Posting) (ps : List Posting) (i : ℕ) → i ≤ length ps → keys_rise ps ≡ true →
-    IsPartitionPoint (λ q. is_le (key_cmp q.key p.key) ≡ true) (λ q. is_le (key_cmp q.key p.key) ≡ false) ps i → keys_rise (insert ps i p) ≡ true
-inserted_rises p ps i le rising h =
-    let t = λ (q : Posting). is_le (key_cmp q.key p.key) in
-    let above = pass-all (λ q. is_le (key_cmp p.key q.key)) (drop i ps) (all-each _ _ (drop i ps) (λ q e. le_from_not q.key p.key e) (behind t ps i h)) in
-    rise_between p (take i ps) (drop i ps) (before t ps i h) above (ap keys_rise (take-append-drop i ps) ∙ rising)
-
-pub inserted_least : (c : Posting → Bool) (ps : List Posting) (i : ℕ) (p : Posting) → least c (insert ps i p) ≡ lesser (least c ps) (least c (p ∷ []))
-inserted_least c ps i p =
-    grind (arith, lesser_none, lesser_comm, lesser_assoc, least_split c i ps, least-append c (take i ps) (p ∷ drop i ps))
 
 -- ---- several marks
 

@@ -1,5 +1,5 @@
 -- Who may still ask, as a value of its own.
-use Rattle.pivot_check.specs.Kept.{Reach}
+use Rattle.pivot_check.specs.Reach.{Reach}
 use Rattle.pivot_check.specs.declared.active.ActiveBegins.{ActiveBegins}
 
 -- who may still ask

@@ -1,10 +1,12 @@
 -- What a `Committed` holds as contracts see it.
-use Rattle.std.specs.Prelude.{ℕ, ◌+◌, ◌&&◌, Bool, min, List, [], ◌∷◌, ◌++◌, Option, option_map}
-use Rattle.std.specs.Vec.{vec_len}
+use Rattle.std.specs.Prelude.{◌≡◌, ◌≤◌, ℕ, ◌+◌, ◌-◌, ◌^◌, ◌&&◌, Bool, length, min, List, [], ◌∷◌, ◌++◌, Option}
+use Rattle.std.specs.Prelude.{option_map}
+use Rattle.std.specs.Vec.{vec_capacity, vec_len}
 use Rattle.model.specs.Map.{Bytes}
 use Rattle.merging_runs.specs.RunSizes.{RunSize}
 use Rattle.pivot_check.specs.Parts.{left, remaining_in}
 use Rattle.pivot_check.specs.Postings.{Posting, are_later}
+use Rattle.pivot_check.specs.declared.part.Part.{Part}
 use Rattle.pivot_check.specs.declared.ready.Ready.{Ready}
 use Rattle.pivot_check.specs.declared.run.WrittenRun.{WrittenRun}
 
@@ -32,6 +34,12 @@ number_bound r = min r.made.bound.number (min r.first.bound.number r.second.boun
 abbrev pub is_run_later : ℕ → WrittenRun → Bool
 is_run_later o r = are_later o r.made.written.items
     && (are_later o r.first.written.items && are_later o r.second.written.items)
+
+-- free places for so many postings, with a bound of none
+pub record AreFreePlaces (n : ℕ) (places : Part) : Type 0 where
+  pub none : length places.written.items ≡ 0
+  pub room : n ≤ vec_capacity places.written
+  pub bound : 2 ^ 64 - 1 ≤ places.bound.number
 
 -- how far a run is merged, and how much memory it is still to release
 abbrev pub written_run_size : WrittenRun → RunSize

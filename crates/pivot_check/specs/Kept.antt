@@ -1,8 +1,9 @@
 -- What is kept of committed transactions, so that a commit can be checked once older ones are forgotten.
-use Rattle.std.specs.List.{list_any}
+use Rattle.std.specs.List.{list_all, list_any}
+use Rattle.std.specs.Ordering.{is_lt}
 use Rattle.std.specs.Prelude.{◌≡◌, ℕ, ◌<◌, ◌≤◌, nat_le, nat_lt, Bool, true, false, ◌&&◌, ◌||◌, ◌==◌, List, [], ◌∷◌}
 use Rattle.std.specs.Prelude.{Option, Some, None, find, option_map, map, max, ◌+◌, ◌-◌, if◌then◌else◌}
-use Rattle.model.specs.Map.{Bytes, KeyWrite, is_same_key}
+use Rattle.model.specs.Map.{Bytes, KeyWrite, is_same_key, key_cmp}
 use Rattle.model.specs.PrivateCopy.{Mark, is_covered}
 use Rattle.merging_runs.specs.Contents.{Contents, garbage_upto, freed_a_forget}
 use Rattle.merging_runs.specs.Next.{count_upto}
@@ -11,6 +12,8 @@ use Rattle.last_readers.specs.Readers.{IsForgotten, NameNoneUpto, Readers, Reade
 use Rattle.last_readers.specs.Readers.{if_after, HasReadersRoom}
 use Rattle.snapshot.specs.View.{View}
 use Rattle.pivot_check.specs.Postings.{Posting, are_later}
+pub use Rattle.pivot_check.specs.Reach.{Reach, may_ask}
+use Rattle.pivot_check.specs.declared.run.WrittenRun.{WrittenRun}
 
 -- what the check needs of a committed transaction: the marks of what it read, the keys that it wrote by rising key, and
 -- whether it has a read-write dependency to a concurrent one that committed before it
@@ -20,15 +23,6 @@ pub record KeptRecord : Type 0 where
   pub marks : List Mark
   pub keys : List Bytes
   pub has_earlier_target : Bool
-
--- who may still ask: one who began at one of these numbers, or at that one or later
-pub record Reach : Type 0 where
-  pub begins : List ℕ
-  pub since : ℕ
-
--- whether one who began at that number may still ask
-abbrev pub may_ask : Reach → ℕ → Bool
-may_ask reach b = nat_le reach.since b || list_any (λ n. n == b) reach.begins
 
 -- what is kept of committed transactions: of each key the last one that has read it, of those with a number above
 -- `oldest`; of the keys that they wrote what those who may still ask are answered by, and perhaps some that older ones
@@ -49,6 +43,11 @@ key_of w = w.0
 
 abbrev pub keys_of : List KeyWrite → List Bytes
 keys_of ws = map key_of ws
+
+-- whether the keys rise strictly, so that none comes twice
+abbrev pub rise_strictly : List Bytes → Bool
+rise_strictly [] = true
+rise_strictly (k ∷ ks) = list_all (λ j. is_lt (key_cmp k j)) ks && rise_strictly ks
 
 -- whether one of the records has written the key
 abbrev pub is_key_written : List KeptRecord → Bytes → Bool
@@ -125,12 +124,13 @@ pub record HasForgotten (oldest : ℕ) (f : Facts) : Type 0 where
   pub upto : oldest ≤ f.oldest
   pub readers : AreAbove oldest (last_reader f.readers)
 
--- the last readers up to that number are forgotten, and the last commit number stays
+-- the last readers up to that number are forgotten, the last commit number stays, and the same may ask
 pub record Forgets (n : ℕ) (old new : Facts) : Type 0 where
   pub readers : IsForgotten n old.readers new.readers
   pub oldest : new.oldest ≡ max old.oldest n
   pub last : new.last ≡ old.last
   pub reach : new.reach ≡ old.reach
+  pub forgotten : HasForgotten n new
 
 -- nothing is kept of a commit up to that number: neither a key that it wrote, nor that it was the last to read one
 pub record KeepsNoneUpto (oldest : ℕ) (f : Facts) : Type 0 where
@@ -165,6 +165,11 @@ pub record KeepsReach (old new : Facts) : Type 0 where
   pub oldest : new.oldest ≡ old.oldest
   pub reach : new.reach ≡ old.reach
 
+-- n became the last commit number, and the same may ask as before
+pub record TakesNumber (n : ℕ) (old new : Facts) : Type 0 where
+  pub last : new.last ≡ n
+  pub reach : KeepsReach old new
+
 -- the memory that was made ready: that of the last readers, free places for runs of written keys, and the keys of a
 -- transaction
 pub record Room : Type 0 where
@@ -184,10 +189,12 @@ pub record KeptContents : Type 0 where
   pub sizes : List RunSize
   pub refused : ℕ
 
+-- what is kept, the memory that was made ready, how much the runs hold, and the runs of written keys
 pub record CommittedValue : Type 0 where
   pub facts : Facts
   pub room : Room
   pub contents : KeptContents
+  pub runs : List WrittenRun
 
 -- how much garbage there is: of runs of last readers for which none may ask, and of such runs of written keys
 abbrev pub garbage_runs : CommittedValue → ℕ

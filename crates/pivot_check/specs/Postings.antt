@@ -2,7 +2,7 @@
 use Rattle.std.specs.List.{AllByRecursion, filter, list_all}
 use Rattle.std.specs.Ordering.{is_le, is_lt}
 use Rattle.std.specs.Prelude.{◌≡◌, ◌≤◌, ℕ, ◌-◌, length, min, Bool, true, not, ◌&&◌, ◌||◌, List, [], ◌∷◌, Option}
-use Rattle.std.specs.Prelude.{Some, None, is_some, if◌then◌else◌, nat_lt, take, drop}
+use Rattle.std.specs.Prelude.{Some, None, is_some, if◌then◌else◌, nat_le, nat_lt, take, drop}
 use Rattle.model.specs.Map.{Bytes, key_cmp}
 use Rattle.model.specs.PrivateCopy.{Mark, covers, is_covered}
 
@@ -87,6 +87,10 @@ pub record IsCountBelow (k : Bytes) (ps : List Posting) (i : ℕ) : Type 0 where
 -- whether no posting has a number above this one
 abbrev pub are_upto : ℕ → List Posting → Bool
 are_upto last ps = not (is_some (least (λ p. nat_lt last p.number) ps))
+
+-- whether no posting has a number below this one
+abbrev pub are_from : ℕ → List Posting → Bool
+are_from from ps = list_all (λ p. nat_le from p.number) ps
 
 -- the postings with numbers above this one
 abbrev pub later_than : ℕ → List Posting → List Posting

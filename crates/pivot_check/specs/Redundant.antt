@@ -3,7 +3,7 @@ use Rattle.std.specs.List.{AllByRecursion, list_all}
 use Rattle.std.specs.Prelude.{◌≡◌, ◌≤◌, ◌+◌, ◌*◌, ℕ, Bool, true, false, not, ◌&&◌, ◌||◌, nat_le, nat_lt}
 use Rattle.std.specs.Prelude.{List, [], ◌∷◌, length}
 use Rattle.model.specs.Map.{is_same_key}
-use Rattle.pivot_check.specs.Kept.{Reach, may_ask}
+use Rattle.pivot_check.specs.Reach.{Reach, may_ask}
 use Rattle.pivot_check.specs.Postings.{AnswerForAll, Posting}
 
 -- whether whoever may ask began before both numbers, or before neither

@@ -1,5 +1,5 @@
 //! Who may still ask of what is kept: transactions, by the numbers with which they began.
-ghost use Rattle.std.specs.Prelude.{◌≡◌, ◌≤◌, ◌||◌, length, nat_le, nat_lt};
+ghost use Rattle.std.specs.Prelude.{◌≡◌, ◌≤◌, ◌||◌, [], length, nat_le, nat_lt};
 ghost use Rattle.std.specs.List.{list_all};
 ghost use Rattle.pivot_check.specs.Active.{reach_of};
 ghost use Rattle.pivot_check.specs.Redundant.{is_undivided};
@@ -17,7 +17,7 @@ pub(crate) struct ActiveBegins {
 impl ActiveBegins {
     // All may ask.
     pub(crate) fn all() -> ActiveBegins
-        ensures { result.since ≡ 0 }
+        ensures { reach_of result ≡ record { begins = []; since = 0 } }
     {
         ActiveBegins {
             begins: ArrayVec::new(),

@@ -1,6 +1,6 @@
 //! Bounds of the commit numbers in a block of 64 written keys, by which a search passes over blocks.
-ghost use Rattle.std.specs.Prelude.{◌≡◌, ◌<◌, ◌-◌, ◌^◌, IsTrue, ℕ, true, false};
-ghost use Rattle.pivot_check.specs.Postings.{Posting, is_asked};
+ghost use Rattle.std.specs.Prelude.{◌≡◌, ◌≤◌, ◌<◌, ◌-◌, ◌^◌, IsTrue, ℕ, min, true, false};
+ghost use Rattle.pivot_check.specs.Postings.{Posting, are_from, is_asked};
 ghost use Rattle.pivot_check.specs.Bounds.{allows, is_from_bound, are_from_bound};
 
 use crate::written::Written;
@@ -20,6 +20,7 @@ impl Bound {
     // A bound of one posting more.
     pub(crate) fn with(self, posting: &Written) -> Bound
         ensures posting { IsTrue (is_from_bound result posting.now) }
+        ensures number { result.number ≡ min self.number posting.now.number }
         ensures others { (p : Posting) → IsTrue (is_from_bound self p) → IsTrue (is_from_bound result p) }
     {
         let number = self.number.min(posting.number());
@@ -42,6 +43,7 @@ impl Bound {
         ensures postings { (p : Posting) → oldest < p.number → IsTrue (is_from_bound self p)
             → IsTrue (is_from_bound result p) }
         ensures number { oldest < result.number }
+        ensures rises { self.number ≤ result.number }
     {
         Bound {
             number: self.number.max(oldest + 1),
@@ -63,7 +65,8 @@ impl Bound {
 
     // The bound of these postings.
     pub(crate) fn of(postings: &[Written]) -> Bound
-        ensures { IsTrue (are_from_bound result postings.now) }
+        ensures bound { IsTrue (are_from_bound result postings.now) }
+        ensures from { (n : ℕ) → n < 2 ^ 64 → IsTrue (are_from n postings.now) → n ≤ result.number }
     {
         let mut bound = Bound::of_none();
         for posting in postings {

@@ -6,7 +6,8 @@ ghost use Rattle.merging_runs.specs.Contents.{size_in};
 ghost use Rattle.merging_runs.specs.Next.{IsNext};
 ghost use Rattle.last_readers.specs.declared.runs.TheConstants.{BEGINS_MAX};
 ghost use Rattle.pivot_check.specs.Merged.{AddsWrittenRun, AreMoved, AreMovedWith, IsTriedIn};
-ghost use Rattle.pivot_check.specs.Kept.{Forgets, HasForgotten, HasRoom, IsEmpty, IsStep};
+ghost use Rattle.pivot_check.specs.FewKept.{KeepsLittle};
+ghost use Rattle.pivot_check.specs.Kept.{Forgets, HasForgotten, HasRoom, IsEmpty, IsStep, TakesNumber};
 ghost use Rattle.pivot_check.specs.Kept.{IsInReach, KeepsNoneUpto, KeepsReach, LeavesMergesOf, asked_from, is_kept};
 ghost use Rattle.pivot_check.specs.Kept.{garbage_runs, kept_count, may_ask};
 ghost use Rattle.pivot_check.specs.Index.{answer_found};
@@ -75,6 +76,7 @@ impl Model for Committed {
         sizes = c.runs.sizes;
         refused = c.runs.refused;
       };
+      runs = c.runs.runs;
     } };
 
     ghost invariant = { λ c. record {
@@ -92,6 +94,7 @@ impl Committed {
     pub fn new(alloc: Global) -> Committed
         ensures empty { IsEmpty result.facts }
         ensures stands_for { StandsFor result.facts [] }
+        ensures little { KeepsLittle result }
     {
         Committed {
             readers: LastReaders::new(alloc),
@@ -227,6 +230,8 @@ impl Committed {
         ensures same { StandForSame self.old.facts self.new.facts }
         ensures tried { IsTriedIn self.old self.new }
         ensures room { OnOk result (HasRoom self.new.room transaction.now) }
+        ensures little { self.old.facts.reach.since ≡ self.old.facts.last → KeepsLittle self.old
+            → KeepsLittle self.new }
     {
         self.runs.reserve(&self.active, self.oldest)?;
         let begins = &self.active.begins;
@@ -241,9 +246,9 @@ impl Committed {
         requires cleared { IsCleared self.old.facts transaction.now cleared }
         requires room { HasRoom self.old.room transaction.now }
         ensures stands_for { StandWithRecord self.old.facts self.new.facts transaction.now n }
-        ensures last { self.new.facts.last ≡ n }
-        ensures reach { KeepsReach self.old.facts self.new.facts }
+        ensures numbered { TakesNumber n self.old.facts self.new.facts }
         ensures run { AddsWrittenRun transaction.now n self.old self.new }
+        ensures little { KeepsLittle self.old → KeepsLittle self.new }
     {
         let Some(ready) = self.ready.take() else {
             unreachable!()
@@ -261,6 +266,7 @@ impl Committed {
         ensures reach { KeepsReach self.old.facts self.new.facts }
         ensures last { self.new.facts.last ≡ self.old.facts.last }
         ensures moved { AreMoved count self.old.contents.sizes self.old self.new }
+        ensures little { KeepsLittle self.old → KeepsLittle self.new }
     {
         self.runs.move_on(self.oldest, &self.active, count);
     }
@@ -276,9 +282,9 @@ impl Committed {
         requires cleared { IsCleared self.old.facts transaction.now cleared }
         requires room { HasRoom self.old.room transaction.now }
         ensures stands_for { StandWithRecord self.old.facts self.new.facts transaction.now n }
-        ensures last { self.new.facts.last ≡ n }
-        ensures reach { KeepsReach self.old.facts self.new.facts }
+        ensures numbered { TakesNumber n self.old.facts self.new.facts }
         ensures moved { AreMovedWith transaction.now n self.old self.new }
+        ensures little { KeepsLittle self.old → KeepsLittle self.new }
     {
         self.add_record(transaction, n, cleared);
         self.move_on(transaction.entries().len());
@@ -292,6 +298,8 @@ impl Committed {
         ensures stands_for { AllByRecursion (λ b. may_ask self.old.facts.reach b ≡ true) begins.now
             → (h : List Record) → StandsFor self.old.facts h → StandsFor self.new.facts h }
         ensures asked { self.new ≡ record self.old { facts = asked_from begins.now self.old.facts } }
+        ensures little { AllByRecursion (λ b. may_ask self.old.facts.reach b ≡ true) begins.now → KeepsLittle self.old
+            → KeepsLittle self.new }
     {
         self.active = ActiveBegins::of(begins, self.last);
     }
@@ -305,10 +313,10 @@ impl Committed {
         requires { oldest ≤ self.old.facts.last }
         ensures stands_for { (h : List Record) → StandsFor self.old.facts h → StandsFor self.new.facts h }
         ensures forgets { Forgets oldest self.old.facts self.new.facts }
-        ensures forgotten { HasForgotten oldest self.new.facts }
         ensures step { IsStep self.old self.new result }
         ensures kept { result ≡ false → KeepsNoneUpto self.new.facts.oldest self.new.facts }
         ensures merges { LeavesMergesOf self.old self.new }
+        ensures little { KeepsLittle self.old → KeepsLittle self.new }
     {
         let are_readers_garbage = self.readers.forget_step(oldest);
         self.oldest = self.oldest.max(oldest);
@@ -323,10 +331,10 @@ impl Committed {
         requires { oldest ≤ self.old.facts.last }
         ensures stands_for { (h : List Record) → StandsFor self.old.facts h → StandsFor self.new.facts h }
         ensures forgets { Forgets oldest self.old.facts self.new.facts }
-        ensures forgotten { HasForgotten oldest self.new.facts }
         ensures garbage { garbage_runs self.new ≡ 0 }
         ensures kept { KeepsNoneUpto self.new.facts.oldest self.new.facts }
         ensures merges { LeavesMergesOf self.old self.new }
+        ensures little { KeepsLittle self.old → KeepsLittle self.new }
     {
         self.readers.forget(oldest);
         self.oldest = oldest.max(self.oldest);

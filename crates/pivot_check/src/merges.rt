@@ -1,12 +1,14 @@
 //! Runs of written keys, as `merging_runs` merges, frees and sweeps them.
 ghost use Rattle.std.specs.Prelude.{◌≡◌, ◌≤◌, ◌+◌, ◌==◌, IsTrue, length};
+ghost use Rattle.last_readers.specs.declared.runs.TheConstants.{BEGINS_MAX};
 ghost use Rattle.std.specs.List.{list_any};
 ghost use Rattle.std.specs.Vec.{vec_capacity};
 ghost use Rattle.std.proofs.Common.{refl, ◌∙◌};
-ghost use Rattle.pivot_check.specs.Inside.{number_bound, postings_count, in_run, is_run_later};
+ghost use Rattle.pivot_check.specs.Inside.{AreFreePlaces, number_bound, postings_count, in_run, is_run_later};
 ghost use Rattle.pivot_check.specs.Active.{reach_of};
 ghost use Rattle.pivot_check.specs.Inside.{written_run_size};
-ghost use Rattle.pivot_check.specs.Kept.{may_ask};
+ghost use Rattle.pivot_check.specs.KeptShort.{IsKeptShort};
+ghost use Rattle.pivot_check.specs.Reach.{may_ask};
 ghost use Rattle.pivot_check.specs.Parts.{remaining};
 ghost use Rattle.pivot_check.specs.Redundant.{StaySpaced};
 ghost use Rattle.pivot_check.specs.Agreeing.{PostingsAgree, postings_agree_between, later_from_number};
@@ -51,7 +53,7 @@ impl Run for WrittenRun {
 
     ghost capacity = { λ r. vec_capacity r.first.written + vec_capacity r.second.written };
 
-    ghost fit = { λ n places. (length places.written.items ≡ 0) × (n ≤ vec_capacity places.written) };
+    ghost fit = { AreFreePlaces };
 
     ghost each = { 1 };
 
@@ -59,6 +61,11 @@ impl Run for WrittenRun {
 
     // of what a move leaves none is made redundant by the one before it
     ghost makes = { λ active o old new. StaySpaced (reach_of active) (remaining old.made) (remaining new.made) };
+
+    ghost since = { λ active. active.since };
+
+    // where they began at as few numbers as can be told
+    ghost holds = { λ active r. length active.begins.items ≤ BEGINS_MAX → IsKeptShort (reach_of active) r };
 
     ghost asks = { λ active. may_ask (reach_of active) };
 

@@ -5,7 +5,7 @@ ghost use Rattle.std.specs.List.{list_any};
 ghost use Rattle.std.specs.Vec.{vec_capacity};
 ghost use Rattle.merging_runs.specs.Next.{IsNext};
 ghost use Rattle.pivot_check.specs.declared.bound.TheConstants.{BLOCK};
-ghost use Rattle.pivot_check.specs.Postings.{keys_rise, later_than};
+ghost use Rattle.pivot_check.specs.Postings.{are_from, keys_rise, later_than};
 ghost use Rattle.pivot_check.specs.Bounds.{are_from_bound, AreBounds, bound_count};
 ghost use Rattle.pivot_check.specs.Active.{reach_of};
 ghost use Rattle.pivot_check.specs.Redundant.{is_redundant_behind};
@@ -36,6 +36,7 @@ impl Part {
         requires none { length bounds.items ≡ 0 }
         ensures written { result.written ≡ written }
         ensures start { result.start ≡ 0 }
+        ensures from { (n : ℕ) → n < 2 ^ 64 → IsTrue (are_from n written.items) → n ≤ result.bound.number }
     {
         let bound = Bound::of(&written);
         Part {
@@ -81,8 +82,10 @@ impl Part {
         requires { self.old.start < length self.old.written.items }
         ensures taken { drop self.old.start self.old.written.items ≡ result
             ∷ drop self.new.start self.new.written.items }
+        ensures from { self.old.bound.number ≤ result.number }
         ensures start { self.new.start ≡ self.old.start + 1 }
         ensures len { length self.new.written.items ≡ length self.old.written.items }
+        ensures bound { self.new.bound ≡ self.old.bound }
     {
         let alloc = *self.written.allocator();
         let written = self.written[self.start].take(alloc);
@@ -121,10 +124,9 @@ impl Part {
     pub(crate) fn push(&mut self, written: Written)
         requires rising { IsTrue (keys_rise (drop self.old.start self.old.written.items ++ written ∷ [])) }
         requires room { length self.old.written.items < vec_capacity self.old.written }
-        ensures added { drop self.new.start self.new.written.items ≡ drop self.old.start self.old.written.items
-            ++ written ∷ [] }
+        ensures written { self.new.written.items ≡ self.old.written.items ++ written ∷ [] }
         ensures start { self.new.start ≡ self.old.start }
-        ensures len { length self.new.written.items ≡ length self.old.written.items + 1 }
+        ensures from { min self.old.bound.number written.number ≤ self.new.bound.number }
         ensures bounds { length self.new.bounds.items ≡ bound_count (length self.old.written.items + 1)
             (vec_capacity self.old.bounds) (length self.old.bounds.items) }
         ensures capacity { vec_capacity self.old.written ≤ vec_capacity self.new.written }
@@ -171,6 +173,7 @@ impl Part {
         ensures left { drop self.new.start self.new.written.items
             ≡ later_than oldest (drop self.old.start self.old.written.items) }
         ensures number { oldest < self.new.bound.number }
+        ensures rises { self.old.bound.number ≤ self.new.bound.number }
         ensures capacity { vec_capacity self.new.written ≡ vec_capacity self.old.written }
         ensures bounds { length self.new.bounds.items
             ≡ min (length self.new.written.items / BLOCK) (vec_capacity self.old.bounds) }

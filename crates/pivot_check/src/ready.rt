@@ -1,7 +1,7 @@
 //! Copies of a transaction's written keys, and places for them, made before its record is appended.
-ghost use Rattle.std.specs.Prelude.{◌≡◌, ◌≤◌, ◌-◌, length, IfOk};
+ghost use Rattle.std.specs.Prelude.{◌≡◌, ◌≤◌, ◌-◌, length, IfOk, IsTrue};
 ghost use Rattle.std.specs.Vec.{vec_len, vec_capacity};
-ghost use Rattle.pivot_check.specs.Kept.{keys_of};
+ghost use Rattle.pivot_check.specs.Kept.{keys_of, rise_strictly};
 
 use crate::written::Written;
 use model::{Key, Memory, Write};
@@ -15,6 +15,7 @@ pub(crate) struct Ready {
     pub(crate) places: Vec<Written>,
     ghost none: { length places.items ≡ 0 },
     ghost room: { length keys.items ≤ vec_capacity places - vec_len places },
+    ghost once: { IsTrue (rise_strictly keys.items) },
 }
 
 // Copies of the keys of the writes.

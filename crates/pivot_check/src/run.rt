@@ -1,7 +1,7 @@
 //! A sorted run of the keys that consecutive commits wrote, at rest or being merged of two.
-ghost use Rattle.std.specs.Prelude.{◌≡◌, ◌≤◌, ◌+◌, ◌-◌, ◌^◌, ◌++◌, IsTrue, Bool, length};
+ghost use Rattle.std.specs.Prelude.{◌≡◌, ◌≤◌, ◌<◌, ◌+◌, ◌-◌, ◌^◌, ◌++◌, IsTrue, ℕ, length, min};
 ghost use Rattle.std.specs.Vec.{vec_capacity};
-ghost use Rattle.pivot_check.specs.Postings.{Posting, keys_rise, are_upto, least};
+ghost use Rattle.pivot_check.specs.Postings.{are_from, keys_rise, are_upto};
 ghost use Rattle.pivot_check.specs.Parts.{remaining, left, remaining_in};
 
 use crate::bound::Bound;
@@ -47,12 +47,12 @@ impl WrittenRun {
     pub(crate) fn of(written: Vec<Written>, last: u64) -> WrittenRun
         requires rising { IsTrue (keys_rise written.items) }
         requires upto { IsTrue (are_upto last written.items) }
-        ensures same { (c : Posting → Bool)
-            → least c (remaining_in result.made result.first result.second) ≡ least c written.items }
+        ensures made { remaining result.made ≡ written.items }
         ensures last { result.last ≡ last }
         ensures left { left result.first + left result.second ≡ 0 }
-        ensures made { left result.made ≡ length written.items }
         ensures room { result.room ≡ 0 }
+        ensures from { (n : ℕ) → n < 2 ^ 64 → IsTrue (are_from n written.items)
+            → n ≤ min result.made.bound.number (min result.first.bound.number result.second.bound.number) }
     {
         let alloc = *written.allocator();
         WrittenRun {

@@ -1,12 +1,14 @@
 //! Searches over all runs: for an overwritten key, for the first target of a dependency, and for the first pivot.
-ghost use Rattle.std.specs.Prelude.{◌≡◌, ◌<◌, IsTrue, true, false, position, length};
+ghost use Rattle.std.specs.Prelude.{◌≡◌, ◌≤◌, ◌<◌, ℕ, true, false, position, length, map};
 ghost use Rattle.std.specs.List.{filter};
 ghost use Rattle.model.specs.Map.{KeyWrite};
 ghost use Rattle.marks.specs.Lent.{lent_mark};
 ghost use Rattle.marks.specs.Marked.{marks_of};
-ghost use Rattle.pivot_check.specs.Postings.{CountBoth, keys_rise, are_upto, least, lesser, asked_of, covered_of};
+ghost use Rattle.pivot_check.specs.Postings.{CountBoth, least, lesser, asked_of, covered_of};
+ghost use Rattle.pivot_check.specs.KeptShort.{AreKeptShort, AreOfCommit};
+ghost use Rattle.pivot_check.specs.Reach.{Reach};
 ghost use Rattle.merging_runs.specs.RunSizes.{with_run};
-ghost use Rattle.pivot_check.specs.Inside.{in_run, postings_in};
+ghost use Rattle.pivot_check.specs.Inside.{in_run, postings_in, written_run_size};
 ghost use Rattle.pivot_check.specs.Index.{is_written_since};
 
 use crate::by_start::ByStart;
@@ -104,14 +106,17 @@ pub(crate) fn first_overwritten(runs: &[WrittenRun], writes: &[Write], begin: u6
     ).is_some())
 }
 
-// Adds a run, in the room that was made for it. One without keys is left out.
+// Adds a run of what a commit has written, in the room that was made for it. One without keys is left out.
 pub(crate) fn add_run(runs: &mut Runs<WrittenRun>, written: Vec<Written>, last: u64)
-    requires rising { IsTrue (keys_rise written.items) }
-    requires upto { IsTrue (are_upto last written.items) }
+    requires commit { AreOfCommit last written.items }
     requires room { 0 < runs.old.places }
     ensures same { CountBoth (postings_in runs.new.runs) (postings_in runs.old.runs) written.items }
     ensures sizes { runs.new.sizes ≡ with_run last (length written.items) runs.old.sizes }
     ensures refused { runs.new.refused ≡ runs.old.refused }
+    ensures sized { runs.old.sizes ≡ map written_run_size runs.old.runs
+        → runs.new.sizes ≡ map written_run_size runs.new.runs }
+    ensures kept { (reach : Reach) (before : ℕ) → before ≤ last → AreKeptShort reach before runs.old.runs
+        → AreKeptShort reach last runs.new.runs }
 {
     if written.is_empty() {
         return;

@@ -192,51 +192,22 @@ pub(crate) fn covered(postings: &[Written], mark: MarkRef<'_>) -> Span
     Span { first, end }
 }
 
-// How many of the postings have keys that aren't above this one.
-fn end_of(postings: &[Written], key: KeyRef<'_>) -> usize
-    requires { IsTrue (keys_rise postings.now) }
-    ensures within { result ≤ length postings.now }
-    ensures rising { (p : Posting) → p.key ≡ key.entry.bytes.now → IsTrue (keys_rise (insert postings.now result p)) }
-{
-    postings.partition_point(|posting| posting.key().order(key).is_le())
-}
-
-// Puts a written key among the postings, in the room that was made for it.
-fn add_written(postings: &mut Vec<Written>, key: Key, number: u64, has_earlier_target: bool)
-    requires rising { IsTrue (keys_rise postings.old.items) }
-    requires spare { vec_len postings.old < vec_capacity postings.old }
-    ensures len { vec_len postings.new ≡ vec_len postings.old + 1 }
-    ensures rising { IsTrue (keys_rise postings.new.items) }
-    ensures added { CountBoth postings.new.items postings.old.items (postings_by number has_earlier_target (key ∷ [])) }
-    ensures spare { vec_capacity postings.old - vec_len postings.old ≤ vec_capacity postings.new - vec_len postings.new
-        + 1 }
-{
-    let place = end_of(postings, key.lend());
-    let written = Written {
-        key,
-        number,
-        has_earlier_target,
-    };
-    match postings.insert(place, written) {
-        Ok(()) => {}
-        Err(_) => unreachable!(),
-    }
-}
-
-// Puts the keys that a transaction has written among the postings, in the room that was made for them.
+// Makes postings of the keys that a transaction has written, in the room that was made for them.
 pub(crate) fn add_all(
     postings: &mut Vec<Written>,
     keys: Vec<Key>,
     number: u64,
     has_earlier_target: bool,
 )
-    requires rising { IsTrue (keys_rise postings.old.items) }
+    requires none { length postings.old.items ≡ 0 }
     requires spare { length keys.items ≤ vec_capacity postings.old - vec_len postings.old }
-    ensures len { vec_len postings.new ≡ vec_len postings.old + length keys.items }
-    ensures rising { IsTrue (keys_rise postings.new.items) }
-    ensures added { CountBoth postings.new.items postings.old.items (postings_by number has_earlier_target keys.items) }
+    ensures { postings.new.items ≡ postings_by number has_earlier_target keys.items }
 {
     for key in keys {
-        add_written(postings, key, number, has_earlier_target);
+        postings.push_reserved(Written {
+            key,
+            number,
+            has_earlier_target,
+        });
     }
 }

@@ -77,7 +77,7 @@ returns-then-not-is_empty-clause-joins c = λ few.
     let new : HistoryValue = record { versions = c.install.new.self; committed = c.keep_active.new.self } in
     subst (λ (v : HistoryValue). Joins bs v new c.args.transaction) c.self.view_is
     (next_joined bs _ _ c.args.transaction c.into_writes-writes.result.items (c.last-number.result + 1) c.note.new.self.facts
-    (ap (λ n. n + 1) c.last-number.ensures) c.into_writes-writes.ensures.writes c.note.ensures.reach c.note.ensures.last asked
+    (ap (λ n. n + 1) c.last-number.ensures) c.into_writes-writes.ensures.writes c.note.ensures.numbered.reach c.note.ensures.numbered.last asked
     (λ active base history r s long commit is. c.install.ensures.stands (λ n. active n && is_among bs n) base history r
     (kept active base history s) (held_still bs c.self.inside.versions held_now active base history held s) long commit is)
     c.note.ensures.stands_for
@@ -94,7 +94,7 @@ returns-else-not-is_empty-clause-joins c = λ few.
     let new : HistoryValue = record { versions = c.self.inside.versions; committed = c.keep_active.new.self } in
     subst (λ (v : HistoryValue). Joins bs v new c.args.transaction) c.self.view_is
     (next_joined bs _ _ c.args.transaction c.into_writes-writes.result.items (c.last-number.result + 1) c.note.new.self.facts
-    (ap (λ n. n + 1) c.last-number.ensures) c.into_writes-writes.ensures.writes c.note.ensures.reach c.note.ensures.last asked
+    (ap (λ n. n + 1) c.last-number.ensures) c.into_writes-writes.ensures.writes c.note.ensures.numbered.reach c.note.ensures.numbered.last asked
     (λ active base history r s long commit is. c.law_read_only_record_follows.ensures c.self.inside.versions (λ n. active n && is_among bs n) base history r
     (is ∙ none) (fewer bs c.self.inside.versions active base history (c.law_numbers_change.ensures c.self.inside.versions) s))
     c.note.ensures.stands_for

@@ -27,6 +27,6 @@ returns-clause-reclaims c =
           ∙ ap (λ (v : CommittedValue). v.facts.oldest) inside);
       reach = c.forget.ensures.forgets.reach ∙ ap (λ (v : CommittedValue). v.facts.reach) c.keep_active.ensures.asked
           ∙ ap (λ (v : CommittedValue). record { begins = c.args.begins.now; since = v.facts.last }) inside;
-      forgotten = c.forget.ensures.forgotten;
+      forgotten = c.forget.ensures.forgets.forgotten;
       classified = λ active base history h among. c.reclaim.ensures.classified c.requires.few active base history (before active base history h).versions among;
     }

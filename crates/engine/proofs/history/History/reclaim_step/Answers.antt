@@ -27,7 +27,7 @@ returns-clause-reclaims c =
           ∙ ap (λ (v : CommittedValue). v.facts.oldest) inside);
       reach = c.forget_step-garbage_runs.ensures.forgets.reach ∙ ap (λ (v : CommittedValue). v.facts.reach) c.keep_active.ensures.asked
           ∙ ap (λ (v : CommittedValue). record { begins = c.args.begins.now; since = v.facts.last }) inside;
-      forgotten = c.forget_step-garbage_runs.ensures.forgotten;
+      forgotten = c.forget_step-garbage_runs.ensures.forgets.forgotten;
       classified = λ active base history h among. c.reclaim_step-garbage_versions.ensures.classified active base history (before active base history h).versions
           among;
     }

@@ -1,4 +1,8 @@
 use Rattle.pivot_check.proofs.committed.Committed.forget.Goals as goal
+use Rattle.pivot_check.proofs.ShortRuns.{runs_stay}
+use Rattle.pivot_check.specs.Active.{reach_of}
+use Rattle.pivot_check.specs.FewKept.{KeepsLittle}
+use Rattle.std.proofs.Common.{refl}
 use Rattle.std.proofs.Common.{◌≡◌, sym, subst, arith}
 use Rattle.model.specs.Map.{Bytes}
 use Rattle.last_readers.specs.Readers.{last_reader, NameNoneUpto}
@@ -33,4 +37,15 @@ returns-clause-kept c =
     record {
       written = later_in_runs c.max-self-inside.result c.forget-2.new.self.runs c.forget-2.ensures.above;
       readers = subst (λ n. NameNoneUpto n c.forget.new.self.readers) same c.forget.ensures.named;
+    }
+
+pub returns-clause-little : goal.returns-clause-little
+returns-clause-little c = λ little.
+    let was = subst KeepsLittle (sym c.self.view_is) little in
+    record {
+      postings = refl;
+      sizes = c.forget-2.ensures.sizes;
+      few = was.few;
+      runs = runs_stay (reach_of c.self.inside.active) c.self.inside.last c.self.inside.runs.runs c.forget-2.new.self.runs was.few
+          (c.forget-2.ensures.kept c.self.inside.active c.self.inside.last) was.runs;
     }

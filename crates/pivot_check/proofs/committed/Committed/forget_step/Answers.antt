@@ -1,4 +1,8 @@
 use Rattle.pivot_check.proofs.committed.Committed.forget_step.Goals as goal
+use Rattle.pivot_check.proofs.ShortRuns.{runs_stay}
+use Rattle.pivot_check.specs.Active.{reach_of}
+use Rattle.pivot_check.specs.FewKept.{KeepsLittle}
+use Rattle.std.proofs.Common.{refl}
 use Rattle.std.proofs.Common.{◌≡◌, ◌∙◌, sym, subst, arith}
 use Rattle.model.specs.Map.{Bytes}
 use Rattle.last_readers.specs.Readers.{last_reader, NameNoneUpto}
@@ -41,3 +45,14 @@ returns-clause-kept c = λ none. elim c.if-are_readers_garbage.branch [
             (c.forget_step-are_readers_garbage.ensures.named w.if-are_readers_garbage.false);
       }
 ]
+
+pub returns-clause-little : goal.returns-clause-little
+returns-clause-little c = λ little.
+    let was = subst KeepsLittle (sym c.self.view_is) little in
+    record {
+      postings = refl;
+      sizes = c.forget_step-are_runs_garbage.ensures.sizes;
+      few = was.few;
+      runs = runs_stay (reach_of c.self.inside.active) c.self.inside.last c.self.inside.runs.runs c.forget_step-are_runs_garbage.new.self.runs was.few
+          (c.forget_step-are_runs_garbage.ensures.kept c.self.inside.active c.self.inside.last) was.runs;
+    }

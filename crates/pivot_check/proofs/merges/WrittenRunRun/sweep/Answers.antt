@@ -2,7 +2,9 @@ use Rattle.pivot_check.proofs.merges.WrittenRunRun.sweep.Goals as goal
 use Rattle.std.proofs.Common.{◌++◌, [], List, refl, ap, sym, ◌∙◌, arith}
 use Rattle.std.proofs.lemmas.Bool.{leb-true}
 use Rattle.pivot_check.proofs.Writers.{asked_above}
+use Rattle.pivot_check.proofs.ShortRuns.{swept_short}
 use Rattle.pivot_check.proofs.Sweeps.{all_parts, both_rise, fewer_in, fewer_left, upto_later}
+use Rattle.pivot_check.specs.Active.{reach_of}
 use Rattle.pivot_check.specs.Agreeing.{least-append, lesser_none}
 use Rattle.pivot_check.specs.Inside.{in_run}
 use Rattle.pivot_check.specs.Parts.{remaining}
@@ -78,3 +80,7 @@ returns-clause-fewer c =
       c.sweep-2.new.self.written.ok.0,
       c.sweep-3.new.self.written.ok.0,
     )
+
+pub returns-clause-holds : goal.returns-clause-holds
+returns-clause-holds c = λ active holds few.
+    swept_short (reach_of active) c.args.oldest c.args.self.now _ c.sweep-3.ensures.left c.sweep.ensures.left c.sweep-2.ensures.left (holds few)

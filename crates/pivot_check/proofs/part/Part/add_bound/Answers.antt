@@ -10,7 +10,7 @@ invariant_of-self c =
     let n = c.len-first.result in
     let at = 64 * n in
     let block : 64 ≡ at + 64 - at = omega arith in
-    let own = (λ i. are_from_bound c.of.result (take (block i) (drop at (sym c.deref.ensures.value i)))) ∙ c.of.ensures in
+    let own = (λ i. are_from_bound c.of.result (take (block i) (drop at (sym c.deref.ensures.value i)))) ∙ c.of.ensures.bound in
     record {
       within = part.within;
       rising = part.rising;
