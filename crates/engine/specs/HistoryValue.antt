@@ -8,6 +8,7 @@ use Rattle.versions.specs.Listings.{IsClassified}
 use Rattle.versions.specs.Meaning.{IsSameMeaning, garbage_of, is_among}
 use Rattle.versions.specs.StandsFor.{StandsFor as VersionsStandFor}
 use Rattle.snapshot.specs.View.{View}
+use Rattle.pivot_check.specs.FewKept.{KeepsLittle}
 use Rattle.pivot_check.specs.Kept.{CommittedValue, HasForgotten, HasRoom, IsInReach, garbage_runs, may_ask}
 use Rattle.pivot_check.specs.StandsFor.{StandsFor as CommittedStandsFor, StandForSame, IsRecordOf}
 
@@ -21,6 +22,12 @@ pub record HistoryStandsFor (h : HistoryValue) (active : ℕ → Bool) (base : K
     pub versions : VersionsStandFor h.versions active base history
     pub committed : CommittedStandsFor h.committed.facts history
 
+-- little is kept of the written keys where little was kept before, and one who began at one of these numbers may ask
+abbrev pub LeavesLittle : HistoryValue → HistoryValue → List ℕ → Type 0
+LeavesLittle old new bs =
+    AllByRecursion (λ b. may_ask old.committed.facts.reach b ≡ true) bs → KeepsLittle old.committed
+    → KeepsLittle new.committed
+
 -- What the transaction's commit makes of the history, where one who began at one of these numbers may ask: of the
 -- active numbers only these stay so, and no one may ask but who began at one of them, or begins now.
 pub record Joins (bs : List ℕ) (old new : HistoryValue) (t : View) : Type 0 where
@@ -30,6 +37,7 @@ pub record Joins (bs : List ℕ) (old new : HistoryValue) (t : View) : Type 0 wh
       → HistoryStandsFor old active base history → AllByRecursion (λ b. may_ask old.committed.facts.reach b ≡ true) bs
       → IsInReach old.committed.facts t → IsRecordOf t (old.committed.facts.last + 1) r
       → HistoryStandsFor new (λ n. active n && is_among bs n) base (history ++ r ∷ [])
+  pub little : LeavesLittle old new bs
 
 -- n is the number of the next commit, and now that of the last
 pub record IsNumbered (n : ℕ) (old new : HistoryValue) : Type 0 where
@@ -58,17 +66,19 @@ pub record Reclaims (bs : List ℕ) (n : ℕ) (old new : HistoryValue) : Type 0 
   pub forgotten : HasForgotten n new.committed.facts
   pub reach : new.committed.facts.reach ≡ record { begins = bs; since = old.committed.facts.last }
   pub classified : Classifies old new bs
+  pub little : LeavesLittle old new bs
 
 -- there is garbage left where these numbers are active
 abbrev pub is_garbage : List ℕ → HistoryValue → Bool
 is_garbage bs h = nat_lt 0 (garbage_of bs h.versions + garbage_runs h.committed)
 
--- memory may have been made ready, and the history means what it meant
+-- memory may have been made ready, the history means what it meant, and little is kept where it was before
 pub record IsSameHistory (old new : HistoryValue) : Type 0 where
   pub versions : IsSameMeaning old.versions new.versions
   pub stands : (active : ℕ → Bool) (base : KeyMap) (history : List Record)
       → VersionsStandFor old.versions active base history ↔ VersionsStandFor new.versions active base history
   pub committed : StandForSame old.committed.facts new.committed.facts
+  pub little : KeepsLittle old.committed → KeepsLittle new.committed
 
 -- the memory that the commit of the transaction needs has been made
 pub record IsReady (h : HistoryValue) (t : View) : Type 0 where

@@ -3,6 +3,7 @@ ghost use Rattle.std.specs.Prelude.{◌≡◌, ◌+◌, ◌<◌, ◌≤◌, fals
 ghost use Rattle.std.specs.BTreeMap.{values};
 ghost use Rattle.model.specs.Map.{IsInBounds};
 ghost use Rattle.versions.specs.Meaning.{IsReclaimed, IsReclaimedInPart};
+ghost use Rattle.pivot_check.specs.FewKept.{KeepsLittle};
 ghost use Rattle.pivot_check.specs.Kept.{IsEmpty, FreesRuns, KeepsNoneUpto};
 ghost use Rattle.pivot_check.specs.StandsFor.{IsCleared};
 ghost use Rattle.engine.specs.declared.engine.TheConstants.{OPEN_MAX};
@@ -44,6 +45,7 @@ impl History {
     pub(crate) fn over(alloc: Global, map: Map) -> Result<History, Memory>
         ensures stands { IfOk result (λ h. HistoryStandsFor h (λ _. true) map []) }
         ensures empty { IfOk result (λ h. IsEmpty h.committed.facts) }
+        ensures little { IfOk result (λ h. KeepsLittle h.committed) }
         ensures in_bounds { IsInBounds map }
     {
         Ok(History {

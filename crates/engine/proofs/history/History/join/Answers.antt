@@ -13,9 +13,17 @@ use Rattle.versions.specs.Chains.{ChainsValue, IsPrepared}
 use Rattle.versions.specs.Meaning.{is_among}
 use Rattle.versions.specs.StandsFor.{AreHeldWhereKnown, StandWhereAmong, StandsFor as VersionsStandFor}
 use Rattle.snapshot.specs.View.{View}
+use Rattle.pivot_check.specs.FewKept.{KeepsLittle}
 use Rattle.pivot_check.specs.Kept.{CommittedValue, Facts, IsInReach, KeepsReach, asked_from, may_ask}
 use Rattle.pivot_check.specs.StandsFor.{StandsFor as CommittedStandsFor, IsRecordOf}
-use Rattle.engine.specs.HistoryValue.{HistoryValue, Joins}
+use Rattle.engine.specs.HistoryValue.{HistoryValue, Joins, LeavesLittle}
+
+-- little is kept where it was before the record was noted
+little_joined : (bs : List ℕ) (old noted new : CommittedValue) → KeepsReach old.facts noted.facts → (KeepsLittle old → KeepsLittle noted)
+    → (AllByRecursion (λ b. may_ask noted.facts.reach b ≡ true) bs → KeepsLittle noted → KeepsLittle new)
+    → AllByRecursion (λ b. may_ask old.facts.reach b ≡ true) bs → KeepsLittle old → KeepsLittle new
+little_joined bs old noted new keeps notes keep ask little =
+    keep (subst (λ reach. AllByRecursion (λ b. may_ask reach b ≡ true) bs) (sym keeps.reach) ask) (notes little)
 
 next_joined : (bs : List ℕ) (old new : HistoryValue) (t : View) (ws : List KeyWrite) (n : ℕ) (noted : Facts) → n ≡ old.committed.facts.last + 1
     → ws ≡ t.writes → KeepsReach old.committed.facts noted → noted.last ≡ n → new.committed.facts ≡ asked_from bs noted
@@ -24,10 +32,11 @@ next_joined : (bs : List ℕ) (old new : HistoryValue) (t : View) (ws : List Key
     → (IsInReach old.committed.facts t → (history : List Record) → CommittedStandsFor old.committed.facts history → (r : Record) → IsRecordOf t n r
     → CommittedStandsFor noted (history ++ r ∷ []))
     → (AllByRecursion (λ b. may_ask noted.reach b ≡ true) bs → (h : List Record) → CommittedStandsFor noted h → CommittedStandsFor new.committed.facts h)
-    → Joins bs old new t
-next_joined bs old new t ws n noted number same keeps last is adds notes keep = record {
+    → LeavesLittle old new bs → Joins bs old new t
+next_joined bs old new t ws n noted number same keeps last is adds notes keep little = record {
   oldest = ap (λ (f : Facts). f.oldest) is ∙ keeps.oldest;
   reach = grind (arith, is);
+  little = little;
   stands = λ active base history r h ask reach own.
       let long = h.committed.last in
       let record_is : IsRecordOf t n r = subst (λ k. IsRecordOf t k r) (sym number) own in
@@ -82,7 +91,10 @@ returns-then-not-is_empty-clause-joins c = λ few.
     (kept active base history s) (held_still bs c.self.inside.versions held_now active base history held s) long commit is)
     c.note.ensures.stands_for
     (subst (λ ns. AllByRecursion (λ b. may_ask c.note.new.self.facts.reach b ≡ true) ns → (h : List Record) → CommittedStandsFor c.note.new.self.facts h
-    → CommittedStandsFor c.keep_active.new.self.facts h) begins c.keep_active.ensures.stands_for))
+    → CommittedStandsFor c.keep_active.new.self.facts h) begins c.keep_active.ensures.stands_for)
+    (little_joined bs c.self.inside.committed c.note.new.self c.keep_active.new.self c.note.ensures.numbered.reach c.note.ensures.little
+    (subst (λ ns. AllByRecursion (λ b. may_ask c.note.new.self.facts.reach b ≡ true) ns → KeepsLittle c.note.new.self
+    → KeepsLittle c.keep_active.new.self) begins c.keep_active.ensures.little)))
 
 pub returns-else-not-is_empty-clause-joins : goal.returns-else-not-is_empty-clause-joins
 returns-else-not-is_empty-clause-joins c = λ few.
@@ -99,4 +111,7 @@ returns-else-not-is_empty-clause-joins c = λ few.
     (is ∙ none) (fewer bs c.self.inside.versions active base history (c.law_numbers_change.ensures c.self.inside.versions) s))
     c.note.ensures.stands_for
     (subst (λ ns. AllByRecursion (λ b. may_ask c.note.new.self.facts.reach b ≡ true) ns → (h : List Record) → CommittedStandsFor c.note.new.self.facts h
-    → CommittedStandsFor c.keep_active.new.self.facts h) begins c.keep_active.ensures.stands_for))
+    → CommittedStandsFor c.keep_active.new.self.facts h) begins c.keep_active.ensures.stands_for)
+    (little_joined bs c.self.inside.committed c.note.new.self c.keep_active.new.self c.note.ensures.numbered.reach c.note.ensures.little
+    (subst (λ ns. AllByRecursion (λ b. may_ask c.note.new.self.facts.reach b ≡ true) ns → KeepsLittle c.note.new.self
+    → KeepsLittle c.keep_active.new.self) begins c.keep_active.ensures.little)))

@@ -10,9 +10,15 @@ returns-in_err-prepare-clause-same c =
       stands = c.prepare.ensures.stands;
       committed =
           record { stands = λ history. (λ s. s, λ s. s); oldest = refl; last = refl; reach = refl };
+      little = λ l. l;
     })
 
 pub returns-clause-same : goal.returns-clause-same
 returns-clause-same c =
     subst (λ (v : HistoryValue). IsSameHistory v (record { versions = c.prepare.new.self; committed = c.reserve.new.self })) c.self.view_is
-    (record { versions = c.prepare.ensures.same; stands = c.prepare.ensures.stands; committed = c.reserve.ensures.same })
+    (record {
+      versions = c.prepare.ensures.same;
+      stands = c.prepare.ensures.stands;
+      committed = c.reserve.ensures.same;
+      little = c.reserve.ensures.little c.self.invariant.1;
+    })
