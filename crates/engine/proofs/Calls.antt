@@ -77,7 +77,7 @@ module _ {D : Type 0} {g : Ghosts D} where
 
   pub same_states : (e e' : Engine D g) → IsSameStore e e' → e'.running.entries ≡ e.running.entries → StandsForSame e e'
   same_states e e' same entries m =
-      (stands_same e e' m same entries, stands_same e' e m (record { log = sym same.log; history = sym same.history }) (sym entries))
+      (stands_same e e' m same entries, λ _ _. stands_same e' e m (record { log = sym same.log; history = sym same.history }) (sym entries))
 
   pub not_open : (e : Engine D g) (m : State) (s : ℕ) → StandsFor e m → entry_of s e ≡ None → running_of m s ≡ None
   not_open e m s h none = beside_none (Active e m h) s e.running.entries m.running h.running none

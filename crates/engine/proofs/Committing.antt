@@ -31,6 +31,7 @@ use Rattle.versions.specs.Meaning.{is_among}
 use Rattle.snapshot.specs.Made.{HasMade, is_refused}
 use Rattle.snapshot.specs.View.{View}
 use Rattle.pivot_check.proofs.SameHistories.{in_reach_still, stand_back, still_cleared}
+use Rattle.pivot_check.specs.FewKept.{KeepsLittle}
 use Rattle.pivot_check.specs.Kept.{Facts, CommittedValue, IsInReach, may_ask}
 use Rattle.pivot_check.specs.StandsFor.{IsRecordOf, IsVerdict, IsClear, IsCleared, StandForSame}
 use Rattle.pivot_check.specs.StandsFor.{StandsFor as CommittedStandsFor}
@@ -121,8 +122,8 @@ module _ {D : Type 0} {g : Ghosts D} where
   same_with : (e e' : Engine D g) (m : State) → e'.log ≡ e.log → e'.running.entries ≡ e.running.entries
       → StandForSame e.history.committed.facts e'.history.committed.facts
       → ((active : ℕ → Bool) (base : KeyMap) (history : List Record) → VersionsStandFor e.history.versions active base history
-      → VersionsStandFor e'.history.versions active base history) → StandsFor e m → StandsFor e' m
-  same_with e e' m log entries same stands h =
+      → VersionsStandFor e'.history.versions active base history) → KeepsLittle e'.history.committed → StandsFor e m → StandsFor e' m
+  same_with e e' m log entries same stands little h =
       let stopped : is_log_stopped e'.log ≡ is_log_stopped e.log = ap (λ (l : Log D g). is_log_stopped l) log in
       let used : used_sectors e'.log ≡ used_sectors e.log = ap (λ (l : Log D g). used_sectors l) log in
       let count : sector_count e'.log ≡ sector_count e.log = ap (λ (l : Log D g). sector_count l) log in
@@ -140,6 +141,7 @@ module _ {D : Type 0} {g : Ghosts D} where
         active = h.active;
         history = record { versions = stands h.active m.base m.history h.history.versions; committed = (same.stands m.history).0 h.history.committed };
         kept = omega (arith, kept, oldest);
+        little = little;
         few = h.few;
         running = subst (λ (es : List (ℕ × View)). AreRunning e'.history.committed.facts h.active m.base m.history es m.running) (sym entries) running;
         sorted = h.sorted;
@@ -243,7 +245,8 @@ module _ {D : Type 0} {g : Ghosts D} where
   left_by e e' log history s same leaves m h =
       leave_call (record e { history = history }) (record e' { log = e.log }) s
       (record { store = record { log = refl; history = leaves.store.history }; entries = leaves.entries; fewer = leaves.fewer }) m
-      (same_with e (record e { history = history }) m refl refl same.committed (λ active base history. (same.stands active base history).0) h)
+      (same_with e (record e { history = history }) m refl refl same.committed (λ active base history. (same.stands active base history).0)
+      (same.little h.little) h)
 
   -- ---- a commit in which the device failed
 
@@ -278,9 +281,10 @@ module _ {D : Type 0} {g : Ghosts D} where
   pub commit_memory : (e e' : Engine D g) (s : ℕ) (t : View) → IsToCommit e s t
       → e'.log ≡ e.log → e'.running.entries ≡ e.running.entries → IsSameHistory e.history e'.history → StandsForSame e e' × IsNotRefused e s Commit
   commit_memory e e' s t j log entries same =
-      let there = λ (m : State). same_with e e' m log entries same.committed (λ active base history. (same.stands active base history).0) in
-      let back = λ (m : State). same_with e' e m (sym log) (sym entries) (stand_back _ _ same.committed)
-      (λ active base history. (same.stands active base history).1) in (
+      let there = λ (m : State) (h : StandsFor e m). same_with e e' m log entries same.committed (λ active base history. (same.stands active base history).0)
+      (same.little h.little) h in
+      let back = λ (m some : State) (was : StandsFor e some). same_with e' e m (sym log) (sym entries) (stand_back _ _ same.committed)
+      (λ active base history. (same.stands active base history).1) was.little in (
         λ m. (there m, back m),
         λ m h. ap (λ (p : State × Response). is_refused p.1) (step_joined e s t false j (λ _. refl) m h (found_open e m s t h j.asked.entry)),
       )
@@ -337,6 +341,7 @@ module _ {D : Type 0} {g : Ghosts D} where
       (stored keeps (committed_map m) (h.stored keeps j.asked.running)) in
       let ask = begins_ask e'.history.committed.facts left.active m.base m.history e'.running.entries (leave m s).running left.running in
       let history' = join'.stands left.active m.base m.history r left.history ask own.0 own.1 in
+      let little' = join'.little ask left.little in
       let numbers = j.asked.numbers in let runs = j.asked.running in
       (join.0, grind (arith, common_steps, both_ways), is ∙ ap (λ k. (join.0, Number k)) counted)
 

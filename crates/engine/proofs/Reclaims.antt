@@ -18,7 +18,7 @@ use Rattle.versions.specs.Chains.{ChainsValue}
 use Rattle.versions.specs.Meaning.{is_among, is_known}
 use Rattle.snapshot.specs.View.{View}
 use Rattle.pivot_check.specs.Kept.{Facts, HasForgotten, may_ask}
-use Rattle.engine.specs.HistoryValue.{HistoryValue, KeepsActive}
+use Rattle.engine.specs.HistoryValue.{HistoryValue, KeepsActive, LeavesLittle}
 use Rattle.engine.specs.Least.{IsLeast}
 use Rattle.engine.specs.Meaning.{open_begins, HasForgottenOld}
 use Rattle.engine.specs.StandsFor.{StandsFor, AreRunning}
@@ -89,13 +89,14 @@ module _ {D : Type 0} {g : Ghosts D} (e : Engine D g) (new : HistoryValue) (olde
     (numbers : length e.running.entries ≤ 64 → bs ≡ begins_of e.running.entries) where
   pub reclaimed_stands : KeepsActive e.history new bs → new.committed.facts.last ≡ e.history.committed.facts.last
       → new.committed.facts.oldest ≡ max e.history.committed.facts.oldest oldest
-      → new.committed.facts.reach ≡ record { begins = bs; since = e.history.committed.facts.last } → (m : State) → StandsFor e m
+      → new.committed.facts.reach ≡ record { begins = bs; since = e.history.committed.facts.last } → LeavesLittle e.history new bs → (m : State) → StandsFor e m
       → StandsFor (record e { history = new }) m
-  reclaimed_stands stands l o a m h =
+  reclaimed_stands stands l o a few m h =
       let is = h.history.committed.last in let kept = h.kept in let below = least.below_last in
       let ask = subst (λ ns. AllByRecursion (λ b. may_ask e.history.committed.facts.reach b ≡ true) ns) (sym (numbers h.few_open))
       (begins_ask e.history.committed.facts h.active m.base m.history e.running.entries m.running h.running) in
       let after = stands h.active m.base m.history h.history ask in
+      let little = few ask h.little in
       let running = still_running e.history.committed.facts h.active m.base m.history new.committed.facts bs oldest l o a e.running.entries m.running
       (recursion_from_All (λ t. oldest ≤ t.begin) (values e.running) least.below) (λ n t. subst (λ ns. is_among ns n ≡ true) (sym (numbers h.few_open)) t)
       h.running in

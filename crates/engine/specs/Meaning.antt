@@ -2,8 +2,9 @@
 use Rattle.engine.specs.declared.faults.ReadFault.TheVariants as reads
 use Rattle.std.specs.Borrow.{Bor}
 use Rattle.std.specs.List.{AllByRecursion, list_any}
-use Rattle.std.specs.Prelude.{◌≡◌, ◌↔◌, ◌⊎◌, ℕ, ◌+◌, ◌-◌, ◌^◌, min, Bool, true, false, ◌||◌, nat_lt, ◌==◌, ◌≤◌}
+use Rattle.std.specs.Prelude.{◌≡◌, ◌↔◌, ◌⊎◌, ℕ, ◌+◌, ◌-◌, ◌*◌, ◌^◌, min, Bool, true, false, ◌||◌, nat_lt, ◌==◌, ◌≤◌}
 use Rattle.std.specs.Prelude.{Option, Some, None, option_copied, Result, Ok, Err, IsTrue, IsFalse, List, [], ◌∷◌, map}
+use Rattle.std.specs.Prelude.{length}
 use Rattle.model.specs.KeyBytes.{key_bytes}
 use Rattle.model.specs.Leading.{LeadsBy}
 use Rattle.model.specs.Machine.{State, Running, running_of, last, snapshot, step}
@@ -21,15 +22,18 @@ use Rattle.sector.specs.declared.device.Sectors.{Ghosts}
 use Rattle.commit_log.specs.LogState.{failure_count, record_count, log_device, is_log_stopped}
 use Rattle.commit_log.specs.declared.log.Log.{Log}
 use Rattle.versions.specs.Chains.{ChainsValue}
+use Rattle.merging_runs.specs.AtRest.{AreAtRest}
 use Rattle.snapshot.specs.Made.{is_refused, range_read}
 use Rattle.snapshot.specs.RowPairs.{row_pairs}
 use Rattle.snapshot.specs.View.{View}
 use Rattle.snapshot.specs.declared.rows.Rows.{Rows}
+use Rattle.pivot_check.specs.FewKept.{AreAmong}
 use Rattle.pivot_check.specs.Kept.{Facts, CommittedValue, HasForgotten}
 use Rattle.engine.specs.Changes.{entry_of, AddsOneAtMost}
 use Rattle.engine.specs.Recovery.{HoldsMap, committed_map}
 pub use Rattle.engine.specs.StandsFor.{StandsFor}
 use Rattle.engine.specs.declared.engine.Engine.{Engine}
+use Rattle.engine.specs.declared.engine.TheConstants.{OPEN_MAX}
 use Rattle.engine.specs.declared.faults.EngineFault.{EngineFault}
 use Rattle.engine.specs.declared.faults.EngineFault.TheVariants.{Refused as Refusing, Memory}
 use Rattle.engine.specs.declared.faults.ReadFault.{ReadFault}
@@ -60,9 +64,11 @@ has_risen before now = nat_lt before now || (before == 2 ^ 64 - 1)
 abbrev pub has_failed : {D : Type 0} {g : Ghosts D} → Engine D g → Engine D g → Bool
 has_failed old new = has_risen (failures_of old) (failures_of new)
 
--- every state that the old engine stood for is one of the new engine, and no other is
+-- every state that the old engine stood for is one of the new engine and, where it stood for one, no other is
 abbrev pub StandsForSame : {D : Type 0} {g : Ghosts D} → Engine D g → Engine D g → Type 0
-StandsForSame old new = (m : State) → StandsFor old m ↔ StandsFor new m
+StandsForSame old new =
+    (m : State) → (StandsFor old m → StandsFor new m)
+    × ((some : State) → StandsFor old some → StandsFor new m → StandsFor old m)
 
 -- the machine refuses the request in no state that the engine stands for, the device's failure aside
 abbrev pub IsNotRefused : {D : Type 0} {g : Ghosts D} → Engine D g → ℕ → Operation → Type 0
@@ -151,6 +157,12 @@ facts_of e = e.history.committed.facts
 -- the begin numbers of the open transactions
 abbrev pub open_begins : State → List ℕ
 open_begins m = map (λ e. e.1.begin) m.running
+
+-- few postings are kept where all are of these written keys, and nothing is left to do for the runs
+abbrev pub KeepsFewPostings : CommittedValue → List Bytes → Type 0
+KeepsFewPostings v keys =
+    AreAmong keys v.facts.postings → AreAtRest v.facts.reach.begins v.facts.oldest v.contents.sizes
+    → length v.facts.postings ≤ 2 * ((2 * OPEN_MAX + 2) * length keys) * (2 * OPEN_MAX + 1)
 
 -- commits that no open transaction may be concurrent with are forgotten
 abbrev pub HasForgottenOld : State → Facts → Type 0

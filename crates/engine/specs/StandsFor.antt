@@ -10,6 +10,7 @@ use Rattle.sector.specs.declared.device.Sectors.{Ghosts}
 use Rattle.commit_log.specs.LogState.{log_device, is_log_stopped, used_sectors, sector_count}
 use Rattle.snapshot.specs.Made.{HasMade}
 use Rattle.snapshot.specs.View.{View}
+use Rattle.pivot_check.specs.FewKept.{KeepsLittle}
 use Rattle.pivot_check.specs.Kept.{Facts, IsInReach}
 use Rattle.engine.specs.HistoryValue.{HistoryStandsFor}
 use Rattle.engine.specs.Recovery.{IsStored, IsInDoubt, committed_map}
@@ -41,6 +42,8 @@ pub record StandsFor {D : Type 0} {g : Ghosts D} (e : Engine D g) (m : State) : 
   pub active : ℕ → Bool
   pub history : HistoryStandsFor e.history active m.base m.history
   pub kept : e.history.committed.facts.oldest ≤ length m.history
+  -- few postings are kept of each key that was written
+  pub little : KeepsLittle e.history.committed
   pub few : length m.history ≤ 2 ^ 63 - 1
   pub running : AreRunning e.history.committed.facts active m.base m.history e.running.entries m.running
   pub sorted : T (is_sorted nat_cmp m.running)

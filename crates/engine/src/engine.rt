@@ -6,6 +6,7 @@ use crate::history::History;
 use crate::reclaiming::{Gathered, gather_begins};
 use commit_log::Log;
 use model::{KeyRef, Refusal, law_machine_is_serializable};
+use pivot_check::law_few_kept;
 use sector::Sectors;
 use snapshot::Transaction;
 use std::alloc::Global;
@@ -33,11 +34,12 @@ pub struct Engine<D: Sectors> {
 }
 
 impl<D: Sectors> Engine<D> {
-    ghost use Rattle.std.specs.Prelude.{◌≡◌, ◌≢◌, ◌↔◌, ◌≤◌, ◌<◌, ◌-◌, true, false, Some, None, Err, length};
+    ghost use Rattle.std.specs.Prelude.{◌≡◌, ◌≢◌, ◌↔◌, ◌≤◌, ◌<◌, ◌-◌, true, false, Some, None, Err, List, length};
     ghost use Rattle.model.specs.declared.refusals.Refusal.{Refusal as Reason};
     ghost use Rattle.model.specs.Operations.Operation.{Begin, Set, Del, Abort, Ping, Faulty};
     ghost use Rattle.model.specs.Operations.Response.{Done, Pong, Refused};
     ghost use Rattle.model.specs.Machine.{State, IsReached, leave};
+    ghost use Rattle.model.specs.Map.{Bytes};
     ghost use Rattle.model.specs.Laws.{IsIsolated, IsOrderedByPlace, IsSerializable};
     ghost use Rattle.versions.specs.Listings.{IsClassified};
     ghost use Rattle.versions.specs.Meaning.{versions_kept, IsReclaimed, IsReclaimedInPart, is_known};
@@ -48,7 +50,7 @@ impl<D: Sectors> Engine<D> {
     ghost use Rattle.engine.specs.Meaning.{StandsFor, Leads, IsReadOnly, KeepsStates, response_to, device_of, log_of};
     ghost use Rattle.engine.specs.Meaning.{has_engine_stopped, has_engine_written, engine_records, versions_of};
     ghost use Rattle.engine.specs.Meaning.{CountsPages, StandsForSame, pages_looked_at};
-    ghost use Rattle.engine.specs.Meaning.{committed_of, facts_of, open_begins, HasForgottenOld};
+    ghost use Rattle.engine.specs.Meaning.{committed_of, facts_of, open_begins, HasForgottenOld, KeepsFewPostings};
 
     /// Begins a transaction of the session, over the map that is committed now.
     ///
@@ -154,6 +156,16 @@ impl<D: Sectors> Engine<D> {
         ensures { (m : State) → StandsFor self.now m
             → AllByRecursion (λ b. is_known b (versions_of self.now) ≡ true) (open_begins m) }
     {}
+
+    /// Does nothing: little is kept of the written keys, however many commits there were. The runs hold postings, each a key with the
+    /// number and the flag of a commit that wrote it. Of K keys they hold 2 * (2 * 64 + 2) * K * (2 * 64 + 1) at most, once all runs are
+    /// finished and no two beside one another become one (`law_few_kept`).
+    pub fn law_little_is_kept(&self)
+        ensures { (m : State) → StandsFor self.now m → (keys : List Bytes)
+            → KeepsFewPostings (committed_of self.now) keys }
+    {
+        law_few_kept();
+    }
 
     /// A step of what `reclaim` does, which is short however much garbage there is. Answers whether it has to be called again until all is
     /// done: where it needn't be, what holds after `reclaim` holds.

@@ -10,6 +10,7 @@ use Rattle.sector.specs.declared.device.Sectors.{Ghosts}
 use Rattle.commit_log.specs.LogImage.{span}
 use Rattle.commit_log.specs.LogState.{is_log_stopped, used_sectors, sector_count}
 use Rattle.commit_log.specs.Recovery.{map_after}
+use Rattle.pivot_check.specs.FewKept.{KeepsLittle}
 use Rattle.pivot_check.specs.Kept.{IsEmpty}
 use Rattle.engine.specs.HistoryValue.{HistoryStandsFor}
 use Rattle.engine.specs.Recovery.{IsStored, committed_map}
@@ -21,8 +22,8 @@ reached_opened map used count h = record { contents = map; sectors_used = used; 
 
 opened_stands : {D : Type 0} {g : Ghosts D} (e : Engine D g) (map : KeyMap) (used count : ℕ) → is_log_stopped e.log ≡ false → used ≡ used_sectors e.log
     → sector_count e.log ≡ count → HistoryStandsFor e.history (λ _. true) map [] → IsEmpty e.history.committed.facts
-    → e.running.entries ≡ [] → (g.keeps_model → IsStored e.log map) → StandsFor e (opened map used count)
-opened_stands e map used count running taken size h facts none stored = grind (arith, common_steps, reached_opened, both_ways)
+    → KeepsLittle e.history.committed → e.running.entries ≡ [] → (g.keeps_model → IsStored e.log map) → StandsFor e (opened map used count)
+opened_stands e map used count running taken size h facts little none stored = grind (arith, common_steps, reached_opened, both_ways)
 
 pub returns-in-Ok-over-clause-finds : goal.returns-in-Ok-over-clause-finds
 returns-in-Ok-over-clause-finds g c keeps =
@@ -31,7 +32,8 @@ returns-in-Ok-over-clause-finds g c keeps =
       found = λ disk lists long reads image.
           let s = finds.found disk lists long reads image in
           opened_stands _ (map_after [] lists) (2 + span lists) _ c.in-Ok.ensures.runs.running (omega (arith, s.0.gate)) c.in-Ok.ensures.runs.size
-          (rw (← s.1) c.in-Ok-over.ensures.stands) c.in-Ok-over.ensures.empty c.new.ensures.empty (λ k. record { lists = lists; stands = s.0; makes = refl });
+          (rw (← s.1) c.in-Ok-over.ensures.stands) c.in-Ok-over.ensures.empty c.in-Ok-over.ensures.little c.new.ensures.empty
+          (λ k. record { lists = lists; stands = s.0; makes = refl });
       damaged = finds.damaged;
       no_log = finds.no_log;
       older = finds.older;
@@ -51,7 +53,7 @@ returns-in-Ok-over-clause-opens g c = record {
   map = c.in-Ok.opened.1;
   used = used_sectors c.in-Ok.opened.0;
   stands = opened_stands _ c.in-Ok.opened.1 _ _ c.in-Ok.ensures.runs.running refl c.in-Ok.ensures.runs.size c.in-Ok-over.ensures.stands
-      c.in-Ok-over.ensures.empty c.new.ensures.empty
+      c.in-Ok-over.ensures.empty c.in-Ok-over.ensures.little c.new.ensures.empty
       (λ keeps. let s = c.in-Ok.ensures.stands keeps in record { lists = s.0; stands = s.1; makes = sym s.2 });
   idle = λ m h. nil_from_length m.running (AllZip-long _ _ m.running h.running ∙ ap length c.new.ensures.empty);
   looked_at = refl;

@@ -17,7 +17,7 @@ returns g c =
     record {
       keeps = record {
         stands = reclaimed_stands e new oldest _ least c.gather_begins-count.ensures.numbers c.reclaim.ensures.reclaims.stands c.reclaim.ensures.reclaims.last
-            c.reclaim.ensures.reclaims.oldest c.reclaim.ensures.reclaims.reach;
+            c.reclaim.ensures.reclaims.oldest c.reclaim.ensures.reclaims.reach c.reclaim.ensures.reclaims.little;
         log = search rules;
       };
       versions = λ m h. subst (IsReclaimed e.history.versions new.versions) (numbers m h) c.reclaim.ensures.reclaimed;

@@ -19,7 +19,8 @@ returns g c =
     record {
       keeps = record {
         stands = reclaimed_stands e new oldest _ least c.gather_begins-count.ensures.numbers c.reclaim_step-2.ensures.reclaims.stands
-            c.reclaim_step-2.ensures.reclaims.last c.reclaim_step-2.ensures.reclaims.oldest c.reclaim_step-2.ensures.reclaims.reach;
+            c.reclaim_step-2.ensures.reclaims.last c.reclaim_step-2.ensures.reclaims.oldest c.reclaim_step-2.ensures.reclaims.reach
+            c.reclaim_step-2.ensures.reclaims.little;
         log = search rules;
       };
       versions = λ m h. subst (IsReclaimedInPart e.history.versions new.versions) (numbers m h) c.reclaim_step-2.ensures.reclaimed;
@@ -38,7 +39,8 @@ returns-then-is_empty-clause-keeps g c =
     let same = c.last-last.ensures ∙ ap (λ (v : CommittedValue). v.facts.last) c.committed.ensures in
     let least = subst (λ n. IsLeast (λ t. t.begin) c.args.self.now.history.committed.facts.last (values c.args.self.now.running) n) (sym same) none.0 in
     let stands = reclaimed_stands c.args.self.now c.reclaim_step.new.self c.last-last.result [] least (λ few. none.1)
-    c.reclaim_step.ensures.reclaims.stands c.reclaim_step.ensures.reclaims.last c.reclaim_step.ensures.reclaims.oldest c.reclaim_step.ensures.reclaims.reach in
+    c.reclaim_step.ensures.reclaims.stands c.reclaim_step.ensures.reclaims.last c.reclaim_step.ensures.reclaims.oldest c.reclaim_step.ensures.reclaims.reach
+    c.reclaim_step.ensures.reclaims.little in
     record { stands = stands; log = search rules }
 
 pub returns-then-is_empty-clause-classified : goal.returns-then-is_empty-clause-classified
