@@ -95,6 +95,7 @@ class Counting(Listening):
         run([program, "create", "--data", data, "--sectors", "65536"])
         words = ["valgrind", "--tool=callgrind", f"--callgrind-out-file={self.figures}", program, "serve", "--data", data, "--listen", "127.0.0.1:0"]
         super().__init__(words, stop_signal=signal.SIGINT, stderr=subprocess.DEVNULL)
+        self.name = "/" + os.path.basename(os.path.realpath(program))
         self.dumps = 0
 
     def instructions(self):
@@ -103,7 +104,7 @@ class Counting(Listening):
         run(["callgrind_control", "--dump", str(self.process.pid)])
         with open(f"{self.figures}.{self.dumps}") as file:
             by_object = costs(file.read())
-        return sum(cost for name, cost in by_object.items() if name.endswith("/ssikvd")), sum(by_object.values())
+        return sum(cost for name, cost in by_object.items() if name.endswith(self.name)), sum(by_object.values())
 
 
 def requests_of(work, number):
