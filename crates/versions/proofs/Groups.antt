@@ -330,6 +330,12 @@ collecting-ended bs old now olds gs most s none k =
     let same = reclaimed-needed bs (find_chain k now) (chain-needed bs now k gs (find_chain k now) refl collected (s.listed k)) in
     grind (arith, s.part k)
 
+-- where nothing is listed, nothing is left to reclaim
+pub reclaimed-unlisted : (bs : List ℕ) (es : Chains) (gs : List GroupValue) → gs ≡ [] → IsListed es gs → IsAllReclaimed bs es es
+reclaimed-unlisted bs es gs none listed k =
+    let left = subst (IsListed es) none listed in
+    sym (reclaimed-needed bs (find_chain k es) (chain-needed bs es k [] (find_chain k es) refl tt (left k)))
+
 -- a step was made
 pub collecting-step : (bs : List ℕ) (old now : PagesValue ChainValue) (olds gs : List GroupValue) (most : ℕ) → KeepsHeld old now
     → Settling bs (entries old.pages) (entries now.pages) olds gs 0 most → ReclaimsStep bs old now olds gs

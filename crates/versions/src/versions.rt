@@ -247,7 +247,8 @@ impl Versions {
     /// though their pin isn't active, or doesn't see all of them, are unclassified, and each call looks at them; no others are
     /// unclassified. Where each of the numbers was active at the calls before, or is at least that of the last commit, there are none.
     ///
-    /// From then on these numbers alone are active, as after `keep_active`.
+    /// Where there is no group, a call does nothing, in constant time. Any other call holds what these numbers see of each page, as
+    /// `keep_active` does. Either way, of the active numbers these alone stay so.
     pub fn reclaim_step(&mut self, begins: &[u64]) -> bool
         ensures reclaimed { IsReclaimedInPart self.old self.new begins.now }
         ensures still { result ≡ nat_lt 0 (garbage_of begins.now self.new) }
@@ -256,6 +257,9 @@ impl Versions {
         ensures classified { ClassifiedWhereActive begins.now self.old self.new }
         ensures stands { length begins.now ≤ HELD_MAX → StandWhereAmong begins.now self.old self.new }
     {
+        if self.groups.is_empty() {
+            return false;
+        }
         hold(&mut self.chains, begins);
         reclaim_versions(&mut self.chains, &mut self.groups, begins)
     }

@@ -1,16 +1,19 @@
 use Rattle.versions.proofs.versions.Versions.reclaim_step.Goals as goal
-use Rattle.std.proofs.Common.{ℕ, Bool, List, ◌≡◌, ◌-◌, ◌&&◌, subst, sym, ap, ◌∙◌, refl, arith}
+use Rattle.std.proofs.Common.{ℕ, Bool, List, [], ◌≡◌, ◌-◌, ◌&&◌, subst, sym, ap, ◌∙◌, refl, arith, inl}
+use Rattle.std.proofs.lemmas.Bool.Decides.{nat_tests}
+use Rattle.std.proofs.lemmas.List.{nil_from_length}
 use Rattle.std.specs.Prelude.{option_map}
 use Rattle.model.specs.Map.{Bytes}
 use Rattle.sorted_pages.specs.Pages.{Page, PagesValue, entries}
-use Rattle.versions.proofs.Histories.{stands-reclaimed}
+use Rattle.versions.proofs.Groups.{reclaimed-unlisted}
+use Rattle.versions.proofs.Histories.{stands-itself, stands-reclaimed}
 use Rattle.versions.proofs.Pages.{held-known}
 use Rattle.versions.proofs.Stores.{reclaimed-part}
 use Rattle.versions.proofs.UnderPins.{groups-classified, under-reclaimed}
 use Rattle.versions.specs.Chains.{ChainValue, Chains, IsKept, find_chain, reclaimed, ChainsValue}
 use Rattle.versions.specs.Groups.{GroupValue}
-use Rattle.versions.specs.Listings.{IsAllReclaimed, IsPartReclaimed}
-use Rattle.versions.specs.Meaning.{garbage_of, lists_a_step, IsReclaimedInPart, is_among, is_known}
+use Rattle.versions.specs.Listings.{IsAllReclaimed, IsListed, IsPartReclaimed}
+use Rattle.versions.specs.Meaning.{garbage_in, garbage_of, lists_a_step, IsReclaimedInPart, is_among, is_known}
 use Rattle.versions.specs.Pins.{AreUnderPins, MoveUnderPins}
 use Rattle.versions.specs.Reclaiming.{ReclaimsChains, ReclaimsPages}
 
@@ -51,6 +54,21 @@ invariant_of-self c =
       },
       omega (arith, e.step.pages.held.last, c.hold.ensures.last, c.self.invariant.4),
     )
+
+-- where no group stands, all is done
+none_listed : (v : ChainsValue) (bs : List ℕ) → v.groups ≡ [] → IsKept v.chains v.last → IsListed v.chains v.groups → IsReclaimedInPart v v bs
+none_listed v bs none kept listed =
+    let garbage : garbage_of bs v ≡ 0 = ap (garbage_in bs) none in
+    reclaimed-part v v bs kept kept refl (omega (arith, garbage)) (λ k. inl refl) (λ _. reclaimed-unlisted bs v.chains v.groups none listed)
+
+pub returns-then-is_empty-clause-reclaimed : goal.returns-then-is_empty-clause-reclaimed
+returns-then-is_empty-clause-reclaimed c =
+    let none : c.self.inside.groups.items ≡ [] = nil_from_length _ (grind (arith, nat_tests, c.is_empty.ensures, c.if-is_empty.true)) in
+    subst (λ (v : ChainsValue). IsReclaimedInPart v v c.args.begins.now) c.self.view_is
+    (none_listed _ c.args.begins.now none c.self.invariant.0 c.self.invariant.1)
+
+pub returns-then-is_empty-clause-stands : goal.returns-then-is_empty-clause-stands
+returns-then-is_empty-clause-stands c = λ few. stands-itself c.args.begins.now c.args.self.now
 
 pub returns-clause-reclaimed : goal.returns-clause-reclaimed
 returns-clause-reclaimed c =
