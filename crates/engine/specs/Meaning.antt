@@ -27,7 +27,7 @@ use Rattle.snapshot.specs.Made.{is_refused, range_read}
 use Rattle.snapshot.specs.RowPairs.{row_pairs}
 use Rattle.snapshot.specs.View.{View}
 use Rattle.snapshot.specs.declared.rows.Rows.{Rows}
-use Rattle.pivot_check.specs.FewKept.{AreAmong}
+use Rattle.pivot_check.specs.FewKept.{AreOfKeys}
 use Rattle.pivot_check.specs.Kept.{Facts, CommittedValue, HasForgotten}
 use Rattle.engine.specs.Changes.{entry_of, AddsOneAtMost}
 use Rattle.engine.specs.Recovery.{HoldsMap, committed_map}
@@ -161,7 +161,7 @@ open_begins m = map (λ e. e.1.begin) m.running
 -- few postings are kept where all are of these written keys, and nothing is left to do for the runs
 abbrev pub KeepsFewPostings : CommittedValue → List Bytes → Type 0
 KeepsFewPostings v keys =
-    AreAmong keys v.facts.postings → AreAtRest v.facts.reach.begins v.facts.oldest v.contents.sizes
+    AreOfKeys keys v.facts.postings → AreAtRest v.facts.reach.begins v.facts.oldest v.contents.sizes
     → length v.facts.postings ≤ 2 * ((2 * OPEN_MAX + 2) * length keys) * (2 * OPEN_MAX + 1)
 
 -- commits that no open transaction may be concurrent with are forgotten

@@ -3,7 +3,7 @@ use Rattle.std.proofs.Common.{◌≡◌, ◌≤◌, ◌<◌, ℕ, zero, suc, tru
 use Rattle.std.specs.List.{list_all}
 use Rattle.std.specs.List.Sorted.{IsStrictlyIncreasing}
 use Rattle.merging_runs.specs.AtRest.{AreAtRest, made_in}
-use Rattle.merging_runs.specs.KeptRuns.{AreKept}
+use Rattle.merging_runs.specs.KeptRuns.{AreSound}
 use Rattle.merging_runs.specs.RunSizes.{RunSize, become_one, has_alike, is_finished, lasts_of}
 
 -- a finished run of so many elements, with that last number
@@ -44,11 +44,11 @@ without_become_one = (refl, rises_thrice, refl)
 -- ---- runs in order
 
 -- runs with a number each that none of theirs is below; of each it holds that it has elements
-abbrev AreKeptUpto : ℕ → List (ℕ × RunSize) → Type 0
-AreKeptUpto last rs = AreKept (λ (r : ℕ × RunSize). 0 < r.1.made) (λ (r : ℕ × RunSize). r.0) (λ (r : ℕ × RunSize). r.1) last rs
+abbrev AreSoundUpto : ℕ → List (ℕ × RunSize) → Type 0
+AreSoundUpto last rs = AreSound (λ (r : ℕ × RunSize). 0 < r.1.made) (λ (r : ℕ × RunSize). r.0) (λ (r : ℕ × RunSize). r.1) last rs
 
 -- the numbers 1 and 2, and those from 3 to 5
-are_in_order : AreKeptUpto 5 ((1, run 2 10) ∷ (3, run 5 4) ∷ [])
+are_in_order : AreSoundUpto 5 ((1, run 2 10) ∷ (3, run 5 4) ∷ [])
 are_in_order = record {
   each = (omega arith, (omega arith, tt));
   upto = (omega arith, (omega arith, tt));
@@ -56,9 +56,9 @@ are_in_order = record {
 }
 
 -- the other way round
-are_out_of_order : AreKeptUpto 5 ((3, run 5 4) ∷ (1, run 2 10) ∷ []) → ⊥
+are_out_of_order : AreSoundUpto 5 ((3, run 5 4) ∷ (1, run 2 10) ∷ []) → ⊥
 are_out_of_order h = let first : 5 ≤ 1 = h.order.0.0 in omega arith
 
 -- one has a number above the last
-are_not_upto : AreKeptUpto 4 ((1, run 2 10) ∷ (3, run 5 4) ∷ []) → ⊥
+are_not_upto : AreSoundUpto 4 ((1, run 2 10) ∷ (3, run 5 4) ∷ []) → ⊥
 are_not_upto h = let second : 5 ≤ 4 = h.upto.1.0 in omega arith

@@ -1,10 +1,10 @@
--- What is kept of runs stays so.
+-- Runs stay sound.
 use Rattle.std.proofs.Common.{◌≡◌, ◌≤◌, ◌<◌, ℕ, zero, suc, List, [], ◌∷◌, ◌++◌, length, get_or, sym, ap, subst, arith}
 use Rattle.std.proofs.Math.ListN.{set}
 use Rattle.std.specs.List.{AllByRecursion, remove}
 use Rattle.std.specs.Prelude.{max, min}
 use Rattle.merging_runs.proofs.RunSteps.{IsOneOfTwo}
-use Rattle.merging_runs.specs.KeptRuns.{AreInOrder, AreKept, StayKept, StayKeptUpto, TakesPlace}
+use Rattle.merging_runs.specs.KeptRuns.{AreInOrder, AreSound, ReplacesRun, StaySound, StaySoundUpto}
 use Rattle.merging_runs.specs.RunSizes.{RunSize, joined}
 
 -- ---- what holds of each of them
@@ -72,37 +72,37 @@ module _ {R : Type 0} (from : R → ℕ) (sizes : R → RunSize) where
     order_joined earlier later first second is last low h.1,
   )
 
--- ---- what is kept
+-- ---- they are sound
 
 module _ {R : Type 0} (Holds : R → Type 0) (from : R → ℕ) (sizes : R → RunSize) where
   -- another in the place of a run
-  pub other_kept : (rs : List R) (i : ℕ) (was is : R) → i < length rs → was ≡ get_or rs i was → TakesPlace Holds from sizes was is
-      → StayKept Holds from sizes rs (set rs i is)
-  other_kept rs i was is lt at place = λ last h. record {
+  pub other_sound : (rs : List R) (i : ℕ) (was is : R) → i < length rs → was ≡ get_or rs i was → ReplacesRun Holds from sizes was is
+      → StaySound Holds from sizes rs (set rs i is)
+  other_sound rs i was is lt at place = λ last h. record {
     each = all_set Holds rs i was is lt at place.holds h.each;
     upto = all_set (λ r. (sizes r).last ≤ last) rs i was is lt at (λ le. omega (arith, le, place.last)) h.upto;
     order = order_set from sizes rs i was is lt at place.last place.rises h.order;
   }
 
   -- a run is taken out
-  pub rest_kept : (rs : List R) (i : ℕ) → i < length rs → StayKept Holds from sizes rs (remove rs i)
-  rest_kept rs i lt = λ last h. record {
+  pub rest_sound : (rs : List R) (i : ℕ) → i < length rs → StaySound Holds from sizes rs (remove rs i)
+  rest_sound rs i lt = λ last h. record {
     each = all_without Holds rs i lt h.each;
     upto = all_without (λ r. (sizes r).last ≤ last) rs i lt h.upto;
     order = order_without from sizes rs i lt h.order;
   }
 
   -- one is made of two, of which it holds where their numbers are no more than `most`
-  pub joined_kept : (most : ℕ) (earlier rs new : List R) (first second is : R) → IsOneOfTwo earlier rs new first second is
+  pub joined_sound : (most : ℕ) (earlier rs new : List R) (first second is : R) → IsOneOfTwo earlier rs new first second is
       → sizes is ≡ joined (sizes first) (sizes second) → min (from first) (from second) ≤ from is
       → ((sizes first).last ≤ most → (sizes second).last ≤ most → (sizes first).last ≤ from second → Holds first → Holds second → Holds is)
-      → StayKeptUpto most Holds from sizes rs new
-  joined_kept most earlier rs new first second is at size low holds = λ last upto was.
-      let h = subst (AreKept Holds from sizes last) at.was was in
+      → StaySoundUpto most Holds from sizes rs new
+  joined_sound most earlier rs new first second is at size low holds = λ last upto was.
+      let h = subst (AreSound Holds from sizes last) at.was was in
       let lasts = two_of (λ r. (sizes r).last ≤ last) earlier at.later first second h.upto in
       let own = order_of_two from sizes earlier at.later first second h.order in
       let greatest : (sizes is).last ≡ max (sizes first).last (sizes second).last = ap (λ r. r.last) size in
-      subst (AreKept Holds from sizes last) (sym at.now) (record {
+      subst (AreSound Holds from sizes last) (sym at.now) (record {
         each = all_joined Holds earlier at.later first second is
             (holds (omega (arith, lasts.0, upto)) (omega (arith, lasts.1, upto)) own) h.each;
         upto = all_joined (λ r. (sizes r).last ≤ last) earlier at.later first second is (λ a b. omega (arith, a, b, greatest)) h.upto;

@@ -2,7 +2,7 @@
 ghost use Rattle.std.specs.Prelude.{◌≡◌, ◌≤◌, ◌<◌, ◌-◌, ◌&&◌, ℕ, Bool, [], ◌∷◌, true, false, length, map, nat_le};
 ghost use Rattle.std.specs.Prelude.{take, drop};
 ghost use Rattle.std.specs.Vec.{vec_len};
-ghost use Rattle.merging_runs.specs.KeptRuns.{StayKept, StayKeptUpto, TakesPlace};
+ghost use Rattle.merging_runs.specs.KeptRuns.{ReplacesRun, StaySound, StaySoundUpto};
 ghost use Rattle.merging_runs.specs.MadeRuns.{AreMade, ChangesOne, IsMade, IsMovedOn};
 ghost use Rattle.merging_runs.specs.RunSizes.{AreMerged, EndsIf, IsMerged, IsMoved, IsTried, IsUnchanged, RestsFrom};
 ghost use Rattle.merging_runs.specs.RunSizes.{are_outside, become_one, released_of, has_alike, is_finished};
@@ -73,7 +73,7 @@ fn open_at<R: Run>(
         (last_after 0 (take (place - 1) (map R.sizes runs.old.items)))
         (take 2 (drop (place - 1) (map R.sizes runs.old.items))) ≡ false }
     ensures stays { result ≡ false → IsUnchanged runs.old runs.new refused.old refused.new }
-    ensures kept { StayKeptUpto (R.since active.now) (R.holds active.now) R.from R.sizes runs.old.items
+    ensures kept { StaySoundUpto (R.since active.now) (R.holds active.now) R.from R.sizes runs.old.items
         runs.new.items }
 {
     let before = last_before(runs, place - 1);
@@ -107,7 +107,7 @@ pub(crate) fn open_last<R: Run>(
     ensures agree { (begins : ℕ → Bool) → R.agree begins runs.new.items runs.old.items }
     ensures tried { IsTried (become_one (R.begin_numbers active.now) oldest) (map R.sizes runs.old.items)
         (map R.sizes runs.new.items) refused.old refused.new }
-    ensures kept { StayKeptUpto (R.since active.now) (R.holds active.now) R.from R.sizes runs.old.items
+    ensures kept { StaySoundUpto (R.since active.now) (R.holds active.now) R.from R.sizes runs.old.items
         runs.new.items }
 {
     for after in 1..runs.len() {
@@ -127,7 +127,7 @@ fn move_on<R: Run>(run: &mut R, oldest: u64, active: &R::Active, most: usize) ->
     ensures most { result ≤ most }
     ensures merged { IsMerged R.each (most - result) (R.sizes run.old) (R.sizes run.new) }
     ensures ended { 0 < result → (R.sizes run.new).left ≡ 0 }
-    ensures kept { TakesPlace (R.holds active.now) R.from R.sizes run.old run.new }
+    ensures kept { ReplacesRun (R.holds active.now) R.from R.sizes run.old run.new }
 {
     let mut rest = most;
     'moves: while 0 < rest && !run.is_at_rest() {
@@ -155,7 +155,7 @@ fn move_at<R: Run>(
     ensures len { vec_len runs.new ≡ vec_len runs.old }
     ensures merged { AreMerged R.each oldest (most - result) (map R.sizes runs.old.items) (map R.sizes runs.new.items) }
     ensures ended { 0 < result → RestsFrom oldest place (map R.sizes runs.old.items) (map R.sizes runs.new.items) }
-    ensures kept { StayKept (R.holds active.now) R.from R.sizes runs.old.items runs.new.items }
+    ensures kept { StaySound (R.holds active.now) R.from R.sizes runs.old.items runs.new.items }
 {
     if place >= runs.len() {
         return most;
@@ -171,7 +171,7 @@ pub(crate) fn move_runs<R: Run>(runs: &mut Vec<R>, oldest: u64, active: &R::Acti
     ensures agree { R.agree (λ b. nat_le oldest b && R.asks active.now b) runs.new.items runs.old.items }
     ensures made { AreMade (R.makes active.now oldest) runs.old.items runs.new.items }
     ensures moved { IsMoved R.each oldest most (map R.sizes runs.old.items) (map R.sizes runs.new.items) }
-    ensures kept { StayKept (R.holds active.now) R.from R.sizes runs.old.items runs.new.items }
+    ensures kept { StaySound (R.holds active.now) R.from R.sizes runs.old.items runs.new.items }
 {
     let mut rest = most;
     for after in 0..runs.len() {

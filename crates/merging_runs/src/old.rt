@@ -1,7 +1,7 @@
 //! Runs of which all numbers are forgotten: whether there is one, and taking it out.
 ghost use Rattle.std.specs.Prelude.{◌≡◌, ◌+◌, nat_lt, nat_le, map, None};
 ghost use Rattle.std.specs.List.{position};
-ghost use Rattle.merging_runs.specs.KeptRuns.{StayKept};
+ghost use Rattle.merging_runs.specs.KeptRuns.{StaySound};
 ghost use Rattle.merging_runs.specs.RunSizes.{left_above};
 ghost use Rattle.merging_runs.specs.Value.{size_partial, size_of, size_old};
 
@@ -30,7 +30,7 @@ pub(crate) fn take_old<R: Run>(runs: &mut Vec<R>, oldest: u64) -> Option<R>
     ensures partial { size_partial R.from R.sizes R.elements oldest runs.new.items
         ≡ size_partial R.from R.sizes R.elements oldest runs.old.items }
     ensures left { left_above oldest (map R.sizes runs.new.items) ≡ left_above oldest (map R.sizes runs.old.items) }
-    ensures kept { (active : R.Active) → StayKept (R.holds active) R.from R.sizes runs.old.items runs.new.items }
+    ensures kept { (active : R.Active) → StaySound (R.holds active) R.from R.sizes runs.old.items runs.new.items }
 {
     match first_old(runs, oldest) {
         Some(place) => Some(runs.remove(place)),

@@ -4,7 +4,7 @@ ghost use Rattle.std.specs.Prelude.{nat_lt, map, All, OnOk, None, false};
 ghost use Rattle.std.specs.List.{list_any};
 ghost use Rattle.merging_runs.specs.Contents.{ForgetsNone, FreesGarbage, HasSamePartial, MaySweep, garbage_upto};
 ghost use Rattle.merging_runs.specs.Contents.{freed_a_forget, size_in, whole_upto};
-ghost use Rattle.merging_runs.specs.KeptRuns.{StayKept, StayKeptUpto};
+ghost use Rattle.merging_runs.specs.KeptRuns.{StaySound, StaySoundUpto};
 ghost use Rattle.merging_runs.specs.MadeRuns.{AreMade};
 ghost use Rattle.merging_runs.specs.Next.{IsNext};
 ghost use Rattle.merging_runs.specs.RunSizes.{IsMoved, IsTried, KeepsMerges, LeavesMerges, become_one, moves_for};
@@ -127,7 +127,7 @@ impl<R: Run> Runs<R> {
             self.old.refused self.new.refused }
         ensures room { OnOk result (0 < self.new.places) }
         ensures forgets { ForgetsNone self.old.contents self.new.contents }
-        ensures kept { StayKeptUpto (R.since active.now) (R.holds active.now) R.from R.sizes self.old.runs
+        ensures kept { StaySoundUpto (R.since active.now) (R.holds active.now) R.from R.sizes self.old.runs
             self.new.runs }
         ensures sizes { self.new.sizes ≡ map R.sizes self.new.runs }
     {
@@ -158,7 +158,7 @@ impl<R: Run> Runs<R> {
         ensures moved { IsMoved R.each oldest (moves_for count) self.old.sizes self.new.sizes }
         ensures refused { self.new.refused ≡ self.old.refused }
         ensures forgets { ForgetsNone self.old.contents self.new.contents }
-        ensures kept { StayKept (R.holds active.now) R.from R.sizes self.old.runs self.new.runs }
+        ensures kept { StaySound (R.holds active.now) R.from R.sizes self.old.runs self.new.runs }
         ensures sizes { self.new.sizes ≡ map R.sizes self.new.runs }
     {
         let most = count.saturating_mul(MOVES_EACH).saturating_add(MOVES_MORE);
@@ -174,7 +174,7 @@ impl<R: Run> Runs<R> {
         ensures taken { self.new.contents.taken ≡ self.old.contents.taken }
         ensures none { result ≡ None → whole_upto oldest self.new.contents ≡ self.new.contents.taken }
         ensures merges { KeepsMerges oldest self.old.sizes self.new.sizes self.old.refused self.new.refused }
-        ensures kept { (active : R.Active) → StayKept (R.holds active) R.from R.sizes self.old.runs self.new.runs }
+        ensures kept { (active : R.Active) → StaySound (R.holds active) R.from R.sizes self.old.runs self.new.runs }
     {
         take_old(&mut self.runs, oldest)
     }
@@ -223,7 +223,7 @@ impl<R: Run> Runs<R> {
         ensures ended { 0 < result → whole_upto oldest self.new.contents ≡ 0 }
         ensures partial { HasSamePartial oldest self.old.contents self.new.contents }
         ensures merges { KeepsMerges oldest self.old.sizes self.new.sizes self.old.refused self.new.refused }
-        ensures kept { (active : R.Active) → StayKept (R.holds active) R.from R.sizes self.old.runs self.new.runs }
+        ensures kept { (active : R.Active) → StaySound (R.holds active) R.from R.sizes self.old.runs self.new.runs }
     {
         let mut left = self.free_part(FREED_MAX);
         'runs: while left > 0 {
@@ -243,7 +243,7 @@ impl<R: Run> Runs<R> {
         ensures frees { FreesGarbage oldest most self.old.contents self.new.contents result }
         ensures above { result ≡ false → All (R.above oldest) self.new.runs }
         ensures merges { LeavesMerges oldest self.old.sizes self.new.sizes self.old.refused self.new.refused }
-        ensures kept { (active : R.Active) → StayKept (R.holds active) R.from R.sizes self.old.runs self.new.runs }
+        ensures kept { (active : R.Active) → StaySound (R.holds active) R.from R.sizes self.old.runs self.new.runs }
         ensures sizes { self.new.sizes ≡ map R.sizes self.new.runs }
     {
         let rest = sweep_for(&mut self.runs, oldest, self.credit + most);
@@ -263,7 +263,7 @@ impl<R: Run> Runs<R> {
         ensures still { result ≡ nat_lt 0 (garbage_upto oldest self.new.contents) }
         ensures above { result ≡ false → All (R.above oldest) self.new.runs }
         ensures merges { LeavesMerges oldest self.old.sizes self.new.sizes self.old.refused self.new.refused }
-        ensures kept { (active : R.Active) → StayKept (R.holds active) R.from R.sizes self.old.runs self.new.runs }
+        ensures kept { (active : R.Active) → StaySound (R.holds active) R.from R.sizes self.old.runs self.new.runs }
         ensures sizes { self.new.sizes ≡ map R.sizes self.new.runs }
     {
         let most = self.free_old(oldest);
@@ -280,7 +280,7 @@ impl<R: Run> Runs<R> {
         ensures garbage { garbage_upto oldest self.new.contents ≡ 0 }
         ensures above { All (R.above oldest) self.new.runs }
         ensures merges { LeavesMerges oldest self.old.sizes self.new.sizes self.old.refused self.new.refused }
-        ensures kept { (active : R.Active) → StayKept (R.holds active) R.from R.sizes self.old.runs self.new.runs }
+        ensures kept { (active : R.Active) → StaySound (R.holds active) R.from R.sizes self.old.runs self.new.runs }
         ensures sizes { self.new.sizes ≡ map R.sizes self.new.runs }
     {
         'old: while self.free_old(oldest) == 0 {}

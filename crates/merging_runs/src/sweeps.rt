@@ -1,7 +1,7 @@
 //! Sweeps runs that have forgotten numbers and later ones: it drops the elements with the former.
 ghost use Rattle.std.specs.Prelude.{◌≡◌, ◌<◌, ◌^◌, IfSome, nat_le, All, None};
 ghost use Rattle.std.specs.List.{position};
-ghost use Rattle.merging_runs.specs.KeptRuns.{StayKept};
+ghost use Rattle.merging_runs.specs.KeptRuns.{StaySound};
 ghost use Rattle.merging_runs.specs.Value.{AreSwept, LooksAt, LooksFor, size_partial, size_old};
 
 use crate::run::Run;
@@ -27,7 +27,7 @@ fn sweep_first<R: Run>(runs: &mut Vec<R>, oldest: u64, most: usize) -> Option<us
     ensures looked { LooksAt result most (size_partial R.from R.sizes R.elements oldest runs.old.items)
         (size_partial R.from R.sizes R.elements oldest runs.new.items) }
     ensures none { result ≡ None → All (R.above oldest) runs.new.items }
-    ensures kept { (active : R.Active) → StayKept (R.holds active) R.from R.sizes runs.old.items runs.new.items }
+    ensures kept { (active : R.Active) → StaySound (R.holds active) R.from R.sizes runs.old.items runs.new.items }
 {
     let place = first_from(runs, oldest)?;
     let work = runs[place].size().saturating_mul(LOOK).min(LOOKED_MAX);
@@ -46,7 +46,7 @@ pub(crate) fn sweep_for<R: Run>(runs: &mut Vec<R>, oldest: u64, most: usize) -> 
     ensures looked { LooksFor result most (size_partial R.from R.sizes R.elements oldest runs.old.items)
         (size_partial R.from R.sizes R.elements oldest runs.new.items) }
     ensures none { result ≡ None → All (R.above oldest) runs.new.items }
-    ensures kept { (active : R.Active) → StayKept (R.holds active) R.from R.sizes runs.old.items runs.new.items }
+    ensures kept { (active : R.Active) → StaySound (R.holds active) R.from R.sizes runs.old.items runs.new.items }
 {
     let mut rest = most;
     'runs: while let Some(work) = sweep_first(runs, oldest, rest) {
@@ -64,7 +64,7 @@ pub(crate) fn sweep_all<R: Run>(runs: &mut Vec<R>, oldest: u64)
     ensures swept { AreSwept R.agree R.from R.sizes R.elements oldest runs.old.items runs.new.items }
     ensures partial { size_partial R.from R.sizes R.elements oldest runs.new.items ≡ 0 }
     ensures none { All (R.above oldest) runs.new.items }
-    ensures kept { (active : R.Active) → StayKept (R.holds active) R.from R.sizes runs.old.items runs.new.items }
+    ensures kept { (active : R.Active) → StaySound (R.holds active) R.from R.sizes runs.old.items runs.new.items }
 {
     'runs: while sweep_first(runs, oldest, LOOKED_MAX).is_some() {}
 }

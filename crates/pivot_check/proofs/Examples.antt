@@ -29,7 +29,7 @@ asking = record { begins = 3 ∷ []; since = 5 }
 
 four_are_kept : AreKeptFor asking (codes "k" ∷ []) kept
 four_are_kept = record {
-  among = (refl, (refl, (refl, (refl, tt))));
+  of_keys = (refl, (refl, (refl, (refl, tt))));
   numbers = refl;
   upto = (omega arith, (omega arith, (omega arith, (omega arith, tt))));
   spaced = refl;

@@ -20,7 +20,7 @@ use Rattle.model.specs.Map.{Bytes, is_same_key, key_cmp}
 use Rattle.pivot_check.proofs.FewPostings.{few_postings}
 use Rattle.pivot_check.proofs.Joined.{none_left}
 use Rattle.pivot_check.proofs.KeptShort.{all_above, numbers_behind, once_spaced, spaced_behind}
-use Rattle.pivot_check.specs.FewKept.{AreAmong, AreKeptFor, FewKeptLaw, KeepsLittleLaw}
+use Rattle.pivot_check.specs.FewKept.{AreKeptFor, AreOfKeys, FewKeptLaw, KeepsLittleLaw}
 use Rattle.pivot_check.specs.Inside.{in_run, postings_in, written_run_size}
 use Rattle.pivot_check.specs.KeptShort.{IsKeptShort, numbers_rise}
 use Rattle.pivot_check.specs.Parts.{left, remaining}
@@ -130,7 +130,7 @@ few_kept reach keys ps rise kept =
     let each = few_of_each most keys ps (λ k.
     let of = of_one reach k ps rise kept.numbers kept.spaced in
     few_postings reach (those_of k ps) of.0 (all-filter (λ p. p.number ≤ reach.since) (is_of k) ps kept.upto) of.1) in
-    let all = all_counted keys ps kept.among in
+    let all = all_counted keys ps kept.of_keys in
     omega (arith, each, all)
 
 -- ---- the postings of all runs
@@ -157,16 +157,16 @@ upto_each last [] h = tt
 upto_each last (p ∷ ps) h = (grind (arith, nat_tests), upto_each last ps (grind (arith, nat_tests)))
 
 -- a finished run holds few postings, where none makes the next redundant for those who might ask then
-few_for : (were : Reach) (keys : List Bytes) (r : WrittenRun) → is_finished (written_run_size r) ≡ true → AreAmong keys (in_run r)
+few_for : (were : Reach) (keys : List Bytes) (r : WrittenRun) → is_finished (written_run_size r) ≡ true → AreOfKeys keys (in_run r)
     → length were.begins ≤ BEGINS_MAX → numbers_rise (remaining r.made ++ remaining r.first) ≡ true → are_upto were.since (in_run r) ≡ true
     → are_spaced were (remaining r.made) ≡ true → left r.made ≤ (2 * BEGINS_MAX + 2) * length keys
-few_for were keys r is among few numbers upto spaced =
+few_for were keys r is of_keys few numbers upto spaced =
     let made = in_made r is in
     let none = finished_left (written_run_size r) is in
     let first = none_left r.first (omega (arith, none)) in
     let rise = subst (λ l. keys_rise l ≡ true) (sym made) r.made.rising in
     let kept : AreKeptFor were keys (in_run r) = record {
-      among = among;
+      of_keys = of_keys;
       numbers = ap numbers_rise (made ∙ sym (append-nil (remaining r.made)) ∙ ap (λ l. remaining r.made ++ l) (sym first)) ∙ numbers;
       upto = upto_each were.since (in_run r) upto;
       spaced = ap (are_spaced were) made ∙ spaced;
@@ -175,33 +175,33 @@ few_for were keys r is among few numbers upto spaced =
     let fewer = mul-le-mul_right {m = 2 * length were.begins + 2} {n = 2 * BEGINS_MAX + 2} (length keys) (omega (arith, few)) in
     omega (arith, held, fewer, length_of r is)
 
-few_in_run : (reach : Reach) (keys : List Bytes) (r : WrittenRun) → is_finished (written_run_size r) ≡ true → AreAmong keys (in_run r)
+few_in_run : (reach : Reach) (keys : List Bytes) (r : WrittenRun) → is_finished (written_run_size r) ≡ true → AreOfKeys keys (in_run r)
     → IsKeptShort reach r → left r.made ≤ (2 * BEGINS_MAX + 2) * length keys
-few_in_run reach keys r is among short = elim short.kept [
+few_in_run reach keys r is of_keys short = elim short.kept [
   | inl one ↦
       -- as if it had been merged where nobody had begun before its last number
       let alone : Reach = record { begins = []; since = r.last } in
-      few_for alone keys r is among (omega arith) short.numbers.first_rises r.upto (once_spaced alone (remaining r.made) one.once)
-  | inr was ↦ few_for was.were keys r is among was.few short.numbers.first_rises was.upto was.spaced
+      few_for alone keys r is of_keys (omega arith) short.numbers.first_rises r.upto (once_spaced alone (remaining r.made) one.once)
+  | inr was ↦ few_for was.were keys r is of_keys was.few short.numbers.first_rises was.upto was.spaced
 ]
 
 few_in_runs : (reach : Reach) (keys : List Bytes) (rs : List WrittenRun) → list_all is_finished (map written_run_size rs) ≡ true
-    → AreAmong keys (postings_in rs) → AllByRecursion (IsKeptShort reach) rs
+    → AreOfKeys keys (postings_in rs) → AllByRecursion (IsKeptShort reach) rs
     → AllByRecursion (λ s. s.made ≤ (2 * BEGINS_MAX + 2) * length keys) (map written_run_size rs)
-few_in_runs reach keys [] done among short = tt
-few_in_runs reach keys (r ∷ rs) done among short =
+few_in_runs reach keys [] done of_keys short = tt
+few_in_runs reach keys (r ∷ rs) done of_keys short =
     let parts = and_parts (is_finished (written_run_size r)) (list_all is_finished (map written_run_size rs)) done in
-    let is_among = λ (p : Posting). list_any (is_same_key p.key) keys ≡ true in (
-      few_in_run reach keys r parts.0 (all-front is_among (in_run r) (postings_in rs) among) short.0,
-      few_in_runs reach keys rs parts.1 (all-back is_among (in_run r) (postings_in rs) among) short.1,
+    let has_key = λ (p : Posting). list_any (is_same_key p.key) keys ≡ true in (
+      few_in_run reach keys r parts.0 (all-front has_key (in_run r) (postings_in rs) of_keys) short.0,
+      few_in_runs reach keys rs parts.1 (all-back has_key (in_run r) (postings_in rs) of_keys) short.1,
     )
 
 pub keeps_little : KeepsLittleLaw
-keeps_little v keys little among rest =
+keeps_little v keys little of_keys rest =
     let most = (2 * BEGINS_MAX + 2) * length keys in
     let sizes = map written_run_size v.runs in
     let rests = subst (AreAtRest v.facts.reach.begins v.facts.oldest) little.sizes rest in
-    let few = few_in_runs v.facts.reach keys v.runs rests.finished (subst (AreAmong keys) little.postings among) little.runs.each in
+    let few = few_in_runs v.facts.reach keys v.runs rests.finished (subst (AreOfKeys keys) little.postings of_keys) little.runs.each in
     let held = runs_hold_little v.facts.reach.begins v.facts.oldest most sizes rests few in
     let fewer = mul-le-mul_left {m = 2 * length v.facts.reach.begins + 1} {n = 2 * BEGINS_MAX + 1} (2 * most) (omega (arith, little.few)) in
     omega (arith, held, fewer, length_in v.runs rests.finished, ap length little.postings)

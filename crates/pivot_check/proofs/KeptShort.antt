@@ -1,16 +1,18 @@
 -- Of one key the numbers don't fall, and none makes the next redundant: what a sweep leaves of that, and who may ask.
-use Rattle.std.proofs.Common.{◌≡◌, ◌<◌, ℕ, Bool, true, false, ◌||◌, List, [], ◌∷◌, refl, sym, subst, arith, inl, inr}
+use Rattle.std.proofs.Common.{◌≡◌, ◌<◌, ℕ, Bool, true, false, ◌||◌, List, [], ◌∷◌, refl, ap, sym, ◌∙◌}
+use Rattle.std.proofs.Common.{subst, arith, inl, inr}
 use Rattle.std.proofs.lemmas.Bool.{and_from, and_parts, cases_Bool}
 use Rattle.std.proofs.lemmas.Bool.Decides.{nat_tests}
 use Rattle.std.proofs.lemmas.Grind.{common_steps}
+use Rattle.std.proofs.lemmas.List.Folds.{list_all-map}
 use Rattle.std.specs.List.{AllByRecursion, list_all, list_any}
 use Rattle.std.specs.Ordering.{is_le, is_lt}
 use Rattle.std.specs.Prelude.{not, nat_le, nat_lt, ◌==◌}
 use Rattle.model.proofs.KeyOrder.{le_of_lt, lt_le_trans, same_keys}
 use Rattle.model.specs.Map.{Bytes, is_same_key, key_cmp}
 use Rattle.pivot_check.proofs.Sweeps.{all_later}
-use Rattle.pivot_check.specs.KeptShort.{keys_come_once, numbers_rise}
-use Rattle.pivot_check.specs.Postings.{Posting, keys_rise, later_than}
+use Rattle.pivot_check.specs.KeptShort.{numbers_rise}
+use Rattle.pivot_check.specs.Postings.{Posting, keys_come_once, keys_rise, later_than}
 use Rattle.pivot_check.specs.Reach.{Reach, may_ask}
 use Rattle.pivot_check.specs.Redundant.{IsWithin, are_spaced, is_redundant}
 
@@ -161,9 +163,28 @@ spaced_later reach o (p ∷ ps) keys numbers spaced =
 
 -- ---- each key once
 
+-- the first key is below those of all others
+once_parts : (p : Posting) (ps : List Posting) → keys_come_once (p ∷ ps) ≡ true
+    → (list_all (λ q. is_lt (key_cmp p.key q.key)) ps ≡ true) × (keys_come_once ps ≡ true)
+once_parts p ps h =
+    let parts = and_parts _ (keys_come_once ps) h in
+    (sym (list_all-map (λ j. is_lt (key_cmp p.key j)) (λ (q : Posting). q.key) ps) ∙ parts.0, parts.1)
+
 pub once_later : (o : ℕ) (ps : List Posting) → keys_come_once ps ≡ true → keys_come_once (later_than o ps) ≡ true
 once_later o [] h = refl
-once_later o (p ∷ ps) h = grind (arith, once_later o ps, all_later (λ q. is_lt (key_cmp p.key q.key)) o ps)
+once_later o (p ∷ ps) h =
+    let parts = once_parts p ps h in
+    let rest = once_later o ps parts.1 in
+    elim (cases_Bool (nat_lt o p.number)) [
+      | inl is ↦
+          let found : later_than o (p ∷ ps) ≡ p ∷ later_than o ps = grind (arith, is) in
+          let below = all_later (λ q. is_lt (key_cmp p.key q.key)) o ps parts.0 in
+          let keys = list_all-map (λ j. is_lt (key_cmp p.key j)) (λ (q : Posting). q.key) (later_than o ps) in
+          ap keys_come_once found ∙ and_from _ _ (keys ∙ below) rest
+      | inr isnt ↦
+          let gone : later_than o (p ∷ ps) ≡ later_than o ps = grind (arith, isnt) in
+          ap keys_come_once gone ∙ rest
+    ]
 
 pub all_le : (k : Bytes) (ps : List Posting) → list_all (λ q. is_lt (key_cmp k q.key)) ps ≡ true → list_all (λ q. is_le (key_cmp k q.key)) ps ≡ true
 all_le k [] h = refl
@@ -172,14 +193,14 @@ all_le k (q ∷ ps) h = let parts = and_parts (is_lt (key_cmp k q.key)) (list_al
 
 pub once_rises : (ps : List Posting) → keys_come_once ps ≡ true → keys_rise ps ≡ true
 once_rises [] h = refl
-once_rises (p ∷ ps) h = let parts = and_parts (list_all (λ q. is_lt (key_cmp p.key q.key)) ps) (keys_come_once ps) h in
+once_rises (p ∷ ps) h = let parts = once_parts p ps h in
     and_from _ _ (all_le p.key ps parts.0) (once_rises ps parts.1)
 
 pub once_numbers : (ps : List Posting) → keys_come_once ps ≡ true → numbers_rise ps ≡ true
 once_numbers [] h = refl
 once_numbers (p ∷ []) h = refl
 once_numbers (p ∷ q ∷ ps) h =
-    let parts = and_parts (list_all (λ q. is_lt (key_cmp p.key q.key)) (q ∷ ps)) (keys_come_once (q ∷ ps)) h in
+    let parts = once_parts p (q ∷ ps) h in
     let lt = and_parts (is_lt (key_cmp p.key q.key)) (list_all (λ q. is_lt (key_cmp p.key q.key)) ps) parts.0 in
     let other = not_same p.key q.key lt.0 in
     and_from _ _ (grind (arith, other)) (once_numbers (q ∷ ps) parts.1)
@@ -187,7 +208,7 @@ once_numbers (p ∷ q ∷ ps) h =
 pub once_spaced : (reach : Reach) (ps : List Posting) → keys_come_once ps ≡ true → are_spaced reach ps ≡ true
 once_spaced reach [] h = refl
 once_spaced reach (p ∷ ps) h =
-    let parts = and_parts (list_all (λ q. is_lt (key_cmp p.key q.key)) ps) (keys_come_once ps) h in
+    let parts = once_parts p ps h in
     spaced_apart reach p ps parts.0 (once_spaced reach ps parts.1)
 
 -- ---- who may ask

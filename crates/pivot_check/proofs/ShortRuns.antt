@@ -8,12 +8,12 @@ use Rattle.std.proofs.lemmas.List.{append-nil, take-append-drop}
 use Rattle.std.proofs.lemmas.List.Elements.{filter-append}
 use Rattle.std.proofs.lemmas.List.Folds.{list_all-append}
 use Rattle.std.specs.List.{AllByRecursion, list_all}
-use Rattle.std.specs.Prelude.{nat_le, nat_lt, is_some, not}
+use Rattle.std.specs.Prelude.{map, nat_le, nat_lt, is_some, not}
 use Rattle.std.specs.Cmp.Lexicographic.{slice_cmp}
 use Rattle.std.specs.FinMap.Entries.{below_all, is_sorted}
 use Rattle.std.specs.Ordering.{is_lt, nat_cmp}
 use Rattle.last_readers.specs.declared.runs.TheConstants.{BEGINS_MAX}
-use Rattle.merging_runs.specs.KeptRuns.{AreInOrder, AreKept}
+use Rattle.merging_runs.specs.KeptRuns.{AreInOrder, AreSound}
 use Rattle.model.proofs.Elements.{all-append, all-each}
 use Rattle.model.proofs.Entries.{parts as both_true}
 use Rattle.model.specs.Map.{Bytes, KeyWrite, key_cmp}
@@ -22,11 +22,11 @@ use Rattle.pivot_check.proofs.KeptShort.{numbers_later, once_later, once_numbers
 use Rattle.pivot_check.proofs.Sweeps.{all_later, all_parts, fewer_left, upto_later}
 use Rattle.pivot_check.specs.Bounds.{are_from_bound}
 use Rattle.pivot_check.specs.Inside.{in_run, number_bound, written_run_size}
-use Rattle.pivot_check.specs.Kept.{keys_of, rise_strictly}
-use Rattle.pivot_check.specs.KeptShort.{AreKeptShort, AreOfCommit, IsKeptShort, NumbersRise, keys_come_once}
-use Rattle.pivot_check.specs.KeptShort.{numbers_rise}
+use Rattle.pivot_check.specs.Kept.{keys_of}
+use Rattle.pivot_check.specs.KeptShort.{AreKeptShort, AreOfCommit, IsKeptShort, NumbersRise, numbers_rise}
 use Rattle.pivot_check.specs.Parts.{left, remaining}
-use Rattle.pivot_check.specs.Postings.{Posting, are_from, are_upto, keys_rise, later_than, least, postings_by}
+use Rattle.pivot_check.specs.Postings.{Posting, are_upto, keys_come_once, keys_rise, later_than, least, postings_by}
+use Rattle.pivot_check.specs.Postings.{postings_from, rise_strictly}
 use Rattle.pivot_check.specs.Reach.{Reach}
 use Rattle.pivot_check.specs.Redundant.{IsWithin, are_spaced}
 use Rattle.pivot_check.specs.declared.bound.Bound.{Bound}
@@ -51,13 +51,13 @@ pub upto_by : (last : ℕ) (ps qs : List Posting) → ((c : Posting → Bool) �
     → are_upto last qs ≡ true
 upto_by last ps qs by h = ap (λ o. not (is_some o)) (by (λ p. nat_lt last p.number) (none_of (least (λ p. nat_lt last p.number) ps) h))
 
-from_bound : (n : ℕ) (b : Bound) (ps : List Posting) → n ≤ b.number → are_from_bound b ps ≡ true → are_from n ps ≡ true
+from_bound : (n : ℕ) (b : Bound) (ps : List Posting) → n ≤ b.number → are_from_bound b ps ≡ true → postings_from n ps ≡ true
 from_bound n b [] le h = refl
 from_bound n b (p ∷ ps) le h = grind (arith, nat_tests, from_bound n b ps le)
 
-from_drop : (n i : ℕ) (ps : List Posting) → are_from n ps ≡ true → are_from n (drop i ps) ≡ true
+from_drop : (n i : ℕ) (ps : List Posting) → postings_from n ps ≡ true → postings_from n (drop i ps) ≡ true
 from_drop n i ps h =
-    (and_parts _ _ (sym (list_all-append (λ p. nat_le n p.number) (take i ps) (drop i ps)) ∙ ap (are_from n) (take-append-drop i ps) ∙ h)).1
+    (and_parts _ _ (sym (list_all-append (λ p. nat_le n p.number) (take i ps) (drop i ps)) ∙ ap (postings_from n) (take-append-drop i ps) ∙ h)).1
 
 -- the first of two lists
 numbers_left : (xs ys : List Posting) → numbers_rise (xs ++ ys) ≡ true → numbers_rise xs ≡ true
@@ -119,7 +119,7 @@ swept_numbers o made first second made_then first_then second_then made_is first
   second_rises = (λ i. numbers_rise (made_is i ++ second_is i)) ∙ both second more_keys rise.second_rises;
   middle = rise.middle;
   upto = ap (are_upto rise.middle) first_is ∙ upto_later rise.middle o first rise.upto;
-  from = ap (are_from rise.middle) second_is ∙ all_later (λ p. nat_le rise.middle p.number) o second rise.from;
+  from = ap (postings_from rise.middle) second_is ∙ all_later (λ p. nat_le rise.middle p.number) o second rise.from;
 }
   where
     both : (xs : List Posting) → keys_rise (made ++ xs) ≡ true → numbers_rise (made ++ xs) ≡ true → numbers_rise (later_than o made ++ later_than o xs) ≡ true
@@ -200,7 +200,7 @@ added_runs reach before last rs r le is from short kept = record {
 
 -- where those may ask whom `holds` tells of
 pub told_runs : (reach : Reach) (few : length reach.begins ≤ BEGINS_MAX) (last : ℕ) (rs : List WrittenRun) → AreKeptShort reach last rs
-    → AreKept (λ r. length reach.begins ≤ BEGINS_MAX → IsKeptShort reach r) number_bound written_run_size last rs
+    → AreSound (λ r. length reach.begins ≤ BEGINS_MAX → IsKeptShort reach r) number_bound written_run_size last rs
 told_runs reach few last rs kept = record {
   each = all-each (IsKeptShort reach) (λ r. length reach.begins ≤ BEGINS_MAX → IsKeptShort reach r) rs (λ r h. λ _. h) kept.each;
   upto = kept.upto;
@@ -208,7 +208,7 @@ told_runs reach few last rs kept = record {
 }
 
 pub runs_told : (reach : Reach) (few : length reach.begins ≤ BEGINS_MAX) (last : ℕ) (rs : List WrittenRun)
-    → AreKept (λ r. length reach.begins ≤ BEGINS_MAX → IsKeptShort reach r) number_bound written_run_size last rs → AreKeptShort reach last rs
+    → AreSound (λ r. length reach.begins ≤ BEGINS_MAX → IsKeptShort reach r) number_bound written_run_size last rs → AreKeptShort reach last rs
 runs_told reach few last rs kept = record {
   each = all-each (λ r. length reach.begins ≤ BEGINS_MAX → IsKeptShort reach r) (IsKeptShort reach) rs (λ r h. h few) kept.each;
   upto = kept.upto;
@@ -217,32 +217,32 @@ runs_told reach few last rs kept = record {
 
 -- what all runs keep where they keep what `holds` tells of
 pub runs_stay : (reach : Reach) (last : ℕ) (was is : List WrittenRun) → length reach.begins ≤ BEGINS_MAX
-    → (AreKept (λ r. length reach.begins ≤ BEGINS_MAX → IsKeptShort reach r) number_bound written_run_size last was
-    → AreKept (λ r. length reach.begins ≤ BEGINS_MAX → IsKeptShort reach r) number_bound written_run_size last is)
+    → (AreSound (λ r. length reach.begins ≤ BEGINS_MAX → IsKeptShort reach r) number_bound written_run_size last was
+    → AreSound (λ r. length reach.begins ≤ BEGINS_MAX → IsKeptShort reach r) number_bound written_run_size last is)
     → AreKeptShort reach last was → AreKeptShort reach last is
 runs_stay reach last was is few stay kept = runs_told reach few last is (stay (told_runs reach few last was kept))
 
 -- ---- what a commit has written
 
-strictly_below : (k : Bytes) (n : ℕ) (flag : Bool) (ks : List Bytes) → list_all (λ j. is_lt (key_cmp k j)) ks ≡ true
-    → list_all (λ (q : Posting). is_lt (key_cmp k q.key)) (postings_by n flag ks) ≡ true
-strictly_below k n flag [] h = refl
-strictly_below k n flag (j ∷ ks) h = let parts = and_parts (is_lt (key_cmp k j)) (list_all (λ j. is_lt (key_cmp k j)) ks) h in
-    and_from _ _ parts.0 (strictly_below k n flag ks parts.1)
+written_keys : (n : ℕ) (flag : Bool) (ks : List Bytes) → map (λ p. p.key) (postings_by n flag ks) ≡ ks
+written_keys n flag [] = refl
+written_keys n flag (k ∷ ks) = ap (λ l. k ∷ l) (written_keys n flag ks)
+
+-- all have its number
+written_upto : (n : ℕ) (flag : Bool) (ks : List Bytes) → are_upto n (postings_by n flag ks) ≡ true
+written_upto n flag [] = refl
+written_upto n flag (k ∷ ks) = grind (arith, nat_tests, written_upto n flag ks)
+
+written_from : (n : ℕ) (flag : Bool) (ks : List Bytes) → postings_from n (postings_by n flag ks) ≡ true
+written_from n flag [] = refl
+written_from n flag (k ∷ ks) = grind (arith, nat_tests, written_from n flag ks)
 
 pub commit_by : (n : ℕ) (flag : Bool) (ks : List Bytes) → rise_strictly ks ≡ true → AreOfCommit n (postings_by n flag ks)
-commit_by n flag [] h = record { once = refl; upto = refl; from = refl }
-commit_by n flag (k ∷ ks) h =
-    let parts = and_parts (list_all (λ j. is_lt (key_cmp k j)) ks) (rise_strictly ks) h in
-    let rest = commit_by n flag ks parts.1 in
-    let once = rest.once in
-    let upto = rest.upto in
-    let from = rest.from in
-    record {
-      once = and_from _ _ (strictly_below k n flag ks parts.0) once;
-      upto = grind (arith, nat_tests, upto);
-      from = grind (arith, nat_tests, from);
-    }
+commit_by n flag ks h = record {
+  once = ap rise_strictly (written_keys n flag ks) ∙ h;
+  upto = written_upto n flag ks;
+  from = written_from n flag ks;
+}
 
 below_each : (k : Bytes) (ws : List KeyWrite) → T (below_all (slice_cmp nat_cmp) k ws) → list_all (λ j. is_lt (key_cmp k j)) (keys_of ws) ≡ true
 below_each k [] h = refl

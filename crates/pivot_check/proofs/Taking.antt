@@ -15,7 +15,7 @@ use Rattle.pivot_check.proofs.KeptShort.{all_above, all_le, is_before, not_same,
 use Rattle.pivot_check.proofs.Redundancy.{dropped_makes, moved_makes, rises_without}
 use Rattle.pivot_check.specs.KeptShort.{NumbersRise, numbers_rise}
 use Rattle.pivot_check.specs.Merging.{BeginsBelow, BeginsUnder, TakesFirst}
-use Rattle.pivot_check.specs.Postings.{Posting, are_from, are_upto, keys_rise}
+use Rattle.pivot_check.specs.Postings.{Posting, are_upto, keys_rise, postings_from}
 use Rattle.pivot_check.specs.Reach.{Reach}
 use Rattle.pivot_check.specs.Redundant.{MakesFor, is_redundant, is_redundant_behind}
 
@@ -57,11 +57,11 @@ without reach (m ∷ n ∷ ms) xs p h numbers =
     and_from _ _ parts.0 (without reach (n ∷ ms) xs p h parts.1)
 
 -- behind a posting stands what has no number below its own
-no_later : (middle : ℕ) (p : Posting) (xs ys : List Posting) → are_upto middle (p ∷ xs) ≡ true → are_from middle ys ≡ true → numbers_rise ys ≡ true
+no_later : (middle : ℕ) (p : Posting) (xs ys : List Posting) → are_upto middle (p ∷ xs) ≡ true → postings_from middle ys ≡ true → numbers_rise ys ≡ true
     → numbers_rise (p ∷ ys) ≡ true
 no_later middle p xs [] upto from numbers = refl
 no_later middle p xs (y ∷ ys) upto from numbers =
-    let parts = and_parts (nat_le middle y.number) (are_from middle ys) from in
+    let parts = and_parts (nat_le middle y.number) (postings_from middle ys) from in
     and_from _ _ (grind (arith, nat_tests)) numbers
 
 -- or what is of other keys
@@ -141,14 +141,14 @@ module _ (reach : Reach) (made xs made_then xs_then : List Posting) (step : Take
   -- the second was
   pub second_numbers : (ys : List Posting) → BeginsUnder xs ys → NumbersRise made ys xs → NumbersRise made_then ys xs_then
   second_numbers ys under rise =
-      let from : are_from rise.middle (step.taken ∷ xs_then) ≡ true = ap (are_from rise.middle) (sym step.was) ∙ rise.from in
+      let from : postings_from rise.middle (step.taken ∷ xs_then) ≡ true = ap (postings_from rise.middle) (sym step.was) ∙ rise.from in
       let above : BeginsUnder (step.taken ∷ []) ys = λ w rest is. under w xs_then (step.was ∙ (λ i. first_is w rest is i ∷ xs_then)) in
       record {
         first_rises = numbers_beside ys rise.second_rises (other_keys step.taken ys above (behind made ys rise.first_rises)) rise.first_rises;
         second_rises = numbers_taken rise.second_rises;
         middle = rise.middle;
         upto = rise.upto;
-        from = (and_parts (nat_le rise.middle step.taken.number) (are_from rise.middle xs_then) from).1;
+        from = (and_parts (nat_le rise.middle step.taken.number) (postings_from rise.middle xs_then) from).1;
       }
     where
       first_is : (w : Posting) (rest : List Posting) → step.taken ∷ [] ≡ w ∷ rest → step.taken ≡ w

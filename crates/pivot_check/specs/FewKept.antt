@@ -12,13 +12,13 @@ use Rattle.pivot_check.specs.Reach.{Reach}
 use Rattle.pivot_check.specs.Redundant.{are_spaced}
 
 -- each posting has one of these keys
-abbrev pub AreAmong : List Bytes → List Posting → Type 0
-AreAmong keys ps = AllByRecursion (λ p. list_any (is_same_key p.key) keys ≡ true) ps
+abbrev pub AreOfKeys : List Bytes → List Posting → Type 0
+AreOfKeys keys ps = AllByRecursion (λ p. list_any (is_same_key p.key) keys ≡ true) ps
 
 -- Postings of these keys are kept for whoever may ask: none makes the next redundant. Their numbers are up to the one
 -- from which on all may ask.
 pub record AreKeptFor (reach : Reach) (keys : List Bytes) (ps : List Posting) : Type 0 where
-  pub among : AreAmong keys ps
+  pub of_keys : AreOfKeys keys ps
   pub numbers : numbers_rise ps ≡ true
   pub upto : AllByRecursion (λ p. p.number ≤ reach.since) ps
   pub spaced : are_spaced reach ps ≡ true
@@ -38,6 +38,6 @@ pub record KeepsLittle (v : CommittedValue) : Type 0 where
 
 -- how many postings are kept of these keys once nothing is to be done for the runs
 abbrev pub KeepsLittleLaw : Type 0
-KeepsLittleLaw = (v : CommittedValue) (keys : List Bytes) → KeepsLittle v → AreAmong keys v.facts.postings
+KeepsLittleLaw = (v : CommittedValue) (keys : List Bytes) → KeepsLittle v → AreOfKeys keys v.facts.postings
     → AreAtRest v.facts.reach.begins v.facts.oldest v.contents.sizes
     → length v.facts.postings ≤ 2 * ((2 * BEGINS_MAX + 2) * length keys) * (2 * BEGINS_MAX + 1)

@@ -1,9 +1,8 @@
 -- What is kept of committed transactions, so that a commit can be checked once older ones are forgotten.
-use Rattle.std.specs.List.{list_all, list_any}
-use Rattle.std.specs.Ordering.{is_lt}
+use Rattle.std.specs.List.{list_any}
 use Rattle.std.specs.Prelude.{◌≡◌, ℕ, ◌<◌, ◌≤◌, nat_le, nat_lt, Bool, true, false, ◌&&◌, ◌||◌, ◌==◌, List, [], ◌∷◌}
 use Rattle.std.specs.Prelude.{Option, Some, None, find, option_map, map, max, ◌+◌, ◌-◌, if◌then◌else◌}
-use Rattle.model.specs.Map.{Bytes, KeyWrite, is_same_key, key_cmp}
+use Rattle.model.specs.Map.{Bytes, KeyWrite, is_same_key}
 use Rattle.model.specs.PrivateCopy.{Mark, is_covered}
 use Rattle.merging_runs.specs.Contents.{Contents, garbage_upto, freed_a_forget}
 use Rattle.merging_runs.specs.Next.{count_upto}
@@ -43,11 +42,6 @@ key_of w = w.0
 
 abbrev pub keys_of : List KeyWrite → List Bytes
 keys_of ws = map key_of ws
-
--- whether the keys rise strictly, so that none comes twice
-abbrev pub rise_strictly : List Bytes → Bool
-rise_strictly [] = true
-rise_strictly (k ∷ ks) = list_all (λ j. is_lt (key_cmp k j)) ks && rise_strictly ks
 
 -- whether one of the records has written the key
 abbrev pub is_key_written : List KeptRecord → Bytes → Bool

@@ -1,21 +1,14 @@
 -- What keeps a run of written keys short: of each key it has few postings.
-use Rattle.std.specs.List.{list_all}
-use Rattle.std.specs.Ordering.{is_lt}
 use Rattle.std.specs.Prelude.{◌≡◌, ◌≤◌, ◌+◌, ◌⊎◌, ℕ, Bool, true, not, ◌&&◌, ◌||◌, nat_le, List, [], ◌∷◌, ◌++◌, length}
 use Rattle.last_readers.specs.declared.runs.TheConstants.{BEGINS_MAX}
-use Rattle.merging_runs.specs.KeptRuns.{AreKept}
-use Rattle.model.specs.Map.{is_same_key, key_cmp}
+use Rattle.merging_runs.specs.KeptRuns.{AreSound}
+use Rattle.model.specs.Map.{is_same_key}
 use Rattle.pivot_check.specs.Inside.{in_run, number_bound, written_run_size}
 use Rattle.pivot_check.specs.Parts.{left, remaining}
-use Rattle.pivot_check.specs.Postings.{Posting, are_from, are_upto}
+use Rattle.pivot_check.specs.Postings.{Posting, are_upto, keys_come_once, postings_from}
 use Rattle.pivot_check.specs.Reach.{Reach}
 use Rattle.pivot_check.specs.Redundant.{IsWithin, are_spaced}
 use Rattle.pivot_check.specs.declared.run.WrittenRun.{WrittenRun}
-
--- whether the keys rise strictly, so that none comes twice
-abbrev pub keys_come_once : List Posting → Bool
-keys_come_once [] = true
-keys_come_once (p ∷ ps) = list_all (λ q. is_lt (key_cmp p.key q.key)) ps && keys_come_once ps
 
 -- whether the numbers of one key don't fall, where its postings stand beside one another
 abbrev pub numbers_rise : List Posting → Bool
@@ -30,13 +23,13 @@ pub record NumbersRise (made first second : List Posting) : Type 0 where
   pub second_rises : numbers_rise (made ++ second) ≡ true
   pub middle : ℕ
   pub upto : are_upto middle first ≡ true
-  pub from : are_from middle second ≡ true
+  pub from : postings_from middle second ≡ true
 
 -- postings of the commit with that number: each key comes once
 pub record AreOfCommit (n : ℕ) (ps : List Posting) : Type 0 where
   pub once : keys_come_once ps ≡ true
   pub upto : are_upto n ps ≡ true
-  pub from : are_from n ps ≡ true
+  pub from : postings_from n ps ≡ true
 
 -- a run is of one commit: it isn't being made of two, and each key comes once
 pub record IsOfOneCommit (r : WrittenRun) : Type 0 where
@@ -60,4 +53,4 @@ pub record IsKeptShort (reach : Reach) (r : WrittenRun) : Type 0 where
 
 -- Each of the runs is. None has a number above `last`, and no number of one is above those of a later one.
 abbrev pub AreKeptShort : Reach → ℕ → List WrittenRun → Type 0
-AreKeptShort reach last rs = AreKept (IsKeptShort reach) number_bound written_run_size last rs
+AreKeptShort reach last rs = AreSound (IsKeptShort reach) number_bound written_run_size last rs

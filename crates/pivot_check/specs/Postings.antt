@@ -2,7 +2,7 @@
 use Rattle.std.specs.List.{AllByRecursion, filter, list_all}
 use Rattle.std.specs.Ordering.{is_le, is_lt}
 use Rattle.std.specs.Prelude.{◌≡◌, ◌≤◌, ℕ, ◌-◌, length, min, Bool, true, not, ◌&&◌, ◌||◌, List, [], ◌∷◌, Option}
-use Rattle.std.specs.Prelude.{Some, None, is_some, if◌then◌else◌, nat_le, nat_lt, take, drop}
+use Rattle.std.specs.Prelude.{Some, None, is_some, if◌then◌else◌, nat_le, nat_lt, take, drop, map}
 use Rattle.model.specs.Map.{Bytes, key_cmp}
 use Rattle.model.specs.PrivateCopy.{Mark, covers, is_covered}
 
@@ -70,6 +70,15 @@ abbrev pub keys_rise : List Posting → Bool
 keys_rise [] = true
 keys_rise (p ∷ ps) = list_all (λ q. is_le (key_cmp p.key q.key)) ps && keys_rise ps
 
+-- whether the keys rise strictly, so that none comes twice
+abbrev pub rise_strictly : List Bytes → Bool
+rise_strictly [] = true
+rise_strictly (k ∷ ks) = list_all (λ j. is_lt (key_cmp k j)) ks && rise_strictly ks
+
+-- whether the keys of the postings do
+abbrev pub keys_come_once : List Posting → Bool
+keys_come_once ps = rise_strictly (map (λ p. p.key) ps)
+
 -- whether no posting has a key below this one
 abbrev pub have_keys_from : Bytes → List Posting → Bool
 have_keys_from low ps = list_all (λ p. not (is_lt (key_cmp p.key low))) ps
@@ -89,8 +98,8 @@ abbrev pub are_upto : ℕ → List Posting → Bool
 are_upto last ps = not (is_some (least (λ p. nat_lt last p.number) ps))
 
 -- whether no posting has a number below this one
-abbrev pub are_from : ℕ → List Posting → Bool
-are_from from ps = list_all (λ p. nat_le from p.number) ps
+abbrev pub postings_from : ℕ → List Posting → Bool
+postings_from from ps = list_all (λ p. nat_le from p.number) ps
 
 -- the postings with numbers above this one
 abbrev pub later_than : ℕ → List Posting → List Posting

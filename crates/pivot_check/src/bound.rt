@@ -1,6 +1,6 @@
 //! Bounds of the commit numbers in a block of 64 written keys, by which a search passes over blocks.
 ghost use Rattle.std.specs.Prelude.{◌≡◌, ◌≤◌, ◌<◌, ◌-◌, ◌^◌, IsTrue, ℕ, min, true, false};
-ghost use Rattle.pivot_check.specs.Postings.{Posting, are_from, is_asked};
+ghost use Rattle.pivot_check.specs.Postings.{Posting, is_asked, postings_from};
 ghost use Rattle.pivot_check.specs.Bounds.{allows, is_from_bound, are_from_bound};
 
 use crate::written::Written;
@@ -66,7 +66,7 @@ impl Bound {
     // The bound of these postings.
     pub(crate) fn of(postings: &[Written]) -> Bound
         ensures bound { IsTrue (are_from_bound result postings.now) }
-        ensures from { (n : ℕ) → n < 2 ^ 64 → IsTrue (are_from n postings.now) → n ≤ result.number }
+        ensures from { (n : ℕ) → n < 2 ^ 64 → IsTrue (postings_from n postings.now) → n ≤ result.number }
     {
         let mut bound = Bound::of_none();
         for posting in postings {

@@ -5,7 +5,7 @@ ghost use Rattle.std.specs.List.{list_any};
 ghost use Rattle.std.specs.Vec.{vec_capacity};
 ghost use Rattle.merging_runs.specs.Next.{IsNext};
 ghost use Rattle.pivot_check.specs.declared.bound.TheConstants.{BLOCK};
-ghost use Rattle.pivot_check.specs.Postings.{are_from, keys_rise, later_than};
+ghost use Rattle.pivot_check.specs.Postings.{keys_rise, later_than, postings_from};
 ghost use Rattle.pivot_check.specs.Bounds.{are_from_bound, AreBounds, bound_count};
 ghost use Rattle.pivot_check.specs.Active.{reach_of};
 ghost use Rattle.pivot_check.specs.Redundant.{is_redundant_behind};
@@ -36,7 +36,7 @@ impl Part {
         requires none { length bounds.items ≡ 0 }
         ensures written { result.written ≡ written }
         ensures start { result.start ≡ 0 }
-        ensures from { (n : ℕ) → n < 2 ^ 64 → IsTrue (are_from n written.items) → n ≤ result.bound.number }
+        ensures from { (n : ℕ) → n < 2 ^ 64 → IsTrue (postings_from n written.items) → n ≤ result.bound.number }
     {
         let bound = Bound::of(&written);
         Part {

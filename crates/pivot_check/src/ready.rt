@@ -1,7 +1,8 @@
 //! Copies of a transaction's written keys, and places for them, made before its record is appended.
 ghost use Rattle.std.specs.Prelude.{◌≡◌, ◌≤◌, ◌-◌, length, IfOk, IsTrue};
 ghost use Rattle.std.specs.Vec.{vec_len, vec_capacity};
-ghost use Rattle.pivot_check.specs.Kept.{keys_of, rise_strictly};
+ghost use Rattle.pivot_check.specs.Kept.{keys_of};
+ghost use Rattle.pivot_check.specs.Postings.{rise_strictly};
 
 use crate::written::Written;
 use model::{Key, Memory, Write};

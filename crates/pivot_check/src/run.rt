@@ -1,7 +1,7 @@
 //! A sorted run of the keys that consecutive commits wrote, at rest or being merged of two.
 ghost use Rattle.std.specs.Prelude.{◌≡◌, ◌≤◌, ◌<◌, ◌+◌, ◌-◌, ◌^◌, ◌++◌, IsTrue, ℕ, length, min};
 ghost use Rattle.std.specs.Vec.{vec_capacity};
-ghost use Rattle.pivot_check.specs.Postings.{are_from, keys_rise, are_upto};
+ghost use Rattle.pivot_check.specs.Postings.{are_upto, keys_rise, postings_from};
 ghost use Rattle.pivot_check.specs.Parts.{remaining, left, remaining_in};
 
 use crate::bound::Bound;
@@ -51,7 +51,7 @@ impl WrittenRun {
         ensures last { result.last ≡ last }
         ensures left { left result.first + left result.second ≡ 0 }
         ensures room { result.room ≡ 0 }
-        ensures from { (n : ℕ) → n < 2 ^ 64 → IsTrue (are_from n written.items)
+        ensures from { (n : ℕ) → n < 2 ^ 64 → IsTrue (postings_from n written.items)
             → n ≤ min result.made.bound.number (min result.first.bound.number result.second.bound.number) }
     {
         let alloc = *written.allocator();

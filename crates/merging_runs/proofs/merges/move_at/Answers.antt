@@ -4,7 +4,7 @@ use Rattle.std.proofs.Common.{inr}
 use Rattle.std.proofs.lemmas.Bool.Decides.{nat_tests}
 use Rattle.std.proofs.lemmas.Option.{slice_get_read}
 use Rattle.std.specs.Prelude.{◌&&◌, nat_le}
-use Rattle.merging_runs.proofs.KeptRuns.{other_kept}
+use Rattle.merging_runs.proofs.KeptRuns.{other_sound}
 use Rattle.merging_runs.proofs.MadeRuns.{one_of}
 use Rattle.merging_runs.proofs.Moves.{as_slow}
 use Rattle.merging_runs.proofs.RunSteps.{as_long, left_changed, lasts_changed, no_longer_changed, none_left}
@@ -39,7 +39,7 @@ returns g c =
         slowly = as_slow _ _ (size was).left (size new).left (g.R.Run.each * (c.args.most - c.move_on.result)) left merged.slowly;
       };
       ended = λ some behind. none_left size o runs.items i (i + 1) new (omega arith) (c.move_on.ensures.ended some) behind;
-      kept = other_kept (g.R.Run.holds c.args.active.now) g.R.Run.from size runs.items i was new within at c.move_on.ensures.kept;
+      kept = other_sound (g.R.Run.holds c.args.active.now) g.R.Run.from size runs.items i was new within at c.move_on.ensures.kept;
     }
 
 pub returns-then-last-oldest-clause-ended : goal.returns-then-last-oldest-clause-ended

@@ -3,7 +3,7 @@ use Rattle.std.proofs.Common.{◌≡◌, ◌≤◌, ◌<◌, ◌-◌, drop, map}
 use Rattle.std.specs.Prelude.{◌&&◌, nat_le}
 use Rattle.std.specs.Vec.{vec_len}
 use Rattle.merging_runs.proofs.MadeRuns.{AreEachFrom}
-use Rattle.merging_runs.specs.KeptRuns.{StayKept}
+use Rattle.merging_runs.specs.KeptRuns.{StaySound}
 use Rattle.merging_runs.specs.MadeRuns.{IsMovedOn}
 use Rattle.merging_runs.specs.RunSizes.{AreMerged, left_above}
 
@@ -15,5 +15,5 @@ invariant-loop-after g l = record {
   most : l.rest ≤ l.most;
   merged : AreMerged g.R.Run.each l.oldest (l.most - l.rest) (map g.R.Run.sizes l.fn.runs.items) (map g.R.Run.sizes l.runs.items);
   ended : 0 < l.rest → left_above l.oldest (drop (vec_len l.fn.runs - l.after) (map g.R.Run.sizes l.runs.items)) ≡ 0;
-  kept : StayKept (g.R.Run.holds l.active) g.R.Run.from g.R.Run.sizes l.fn.runs.items l.runs.items;
+  kept : StaySound (g.R.Run.holds l.active) g.R.Run.from g.R.Run.sizes l.fn.runs.items l.runs.items;
 }

@@ -1,7 +1,7 @@
 use Rattle.merging_runs.proofs.merges.open_at.Goals as goal
 use Rattle.std.proofs.Common.{◌≡◌, ◌<◌, ◌-◌, length, refl, inl, sym, ap, ◌∙◌, map, take, arith}
 use Rattle.std.specs.List.{take-map}
-use Rattle.merging_runs.proofs.KeptRuns.{joined_kept}
+use Rattle.merging_runs.proofs.KeptRuns.{joined_sound}
 use Rattle.merging_runs.proofs.RunSteps.{begun, one_agrees, one_of_two, same_run, unlike_at}
 use Rattle.merging_runs.specs.RunSizes.{become_one, last_after}
 
@@ -32,7 +32,7 @@ returns g c =
       alike = λ t. inl (begun size alike (take (i - 1) runs.items) runs.items _ first second is of.1 are c.join.ensures.sizes, refl);
       none = λ f. absurd cc;
       stays = λ f. absurd cc;
-      kept = joined_kept (g.R.Run.holds c.args.active.now) g.R.Run.from size (g.R.Run.since c.args.active.now) _ runs.items _ first second is of.1
+      kept = joined_sound (g.R.Run.holds c.args.active.now) g.R.Run.from size (g.R.Run.since c.args.active.now) _ runs.items _ first second is of.1
           c.join.ensures.sizes c.join.ensures.from (c.join.ensures.holds c.args.active.now);
     }
 

@@ -1,7 +1,7 @@
 use Rattle.merging_runs.proofs.old.take_old.Goals as goal
 use Rattle.std.proofs.Common.{◌+◌, map, sym, ap, ◌∙◌}
 use Rattle.std.specs.Prelude.{nat_le}
-use Rattle.merging_runs.proofs.KeptRuns.{rest_kept}
+use Rattle.merging_runs.proofs.KeptRuns.{rest_sound}
 use Rattle.merging_runs.proofs.OldRuns.{old_at, partial_without, part_of, none_old}
 use Rattle.merging_runs.proofs.RunSteps.{left_without, rest_agrees}
 use Rattle.merging_runs.specs.Contents.{partial_upto, size_upto}
@@ -25,7 +25,7 @@ returns-in-Some g c =
       size = part_of contents o rs i r found.0 at found.1 ∙ ap (λ l. (contents r).size + size_upto o (map contents l)) (sym items);
       partial = ap (λ l. partial_upto o (map contents l)) items ∙ partial_without contents o rs i r found.0 at found.1;
       left = ap (λ l. left_above o (map size l)) items ∙ left_without size o rs i r found.0 at found.1;
-      kept = λ active. rw items (rest_kept (g.R.Run.holds active) g.R.Run.from size rs i found.0);
+      kept = λ active. rw items (rest_sound (g.R.Run.holds active) g.R.Run.from size rs i found.0);
     }
 
 pub returns-in-None-clause-agree : goal.returns-in-None-clause-agree

@@ -2,7 +2,7 @@ use Rattle.merging_runs.proofs.sweeps.sweep_first.Goals as goal
 use Rattle.std.proofs.Common.{◌≡◌, ◌*◌, ap, sym, ◌∙◌, arith}
 use Rattle.std.proofs.lemmas.Bool.Decides.{nat_tests}
 use Rattle.std.specs.Prelude.{◌^◌, min, nat_le}
-use Rattle.merging_runs.proofs.KeptRuns.{other_kept}
+use Rattle.merging_runs.proofs.KeptRuns.{other_sound}
 use Rattle.merging_runs.proofs.RunSteps.{other_agrees, same_run}
 use Rattle.merging_runs.proofs.SweptRuns.{found_at, left_swept, partial_at, partial_swept, none_found, whole_swept}
 use Rattle.merging_runs.specs.Value.{contents_of}
@@ -57,7 +57,7 @@ returns-then-work-most g c =
       };
       looked = (omega (arith, looked), omega (arith, looked), omega (arith, looked, partial), grind (arith, nat_tests, looked, partial));
       none = λ none. absurd cc;
-      kept = λ active. other_kept (g.R.Run.holds active) g.R.Run.from size rs i was is found.within at (record {
+      kept = λ active. other_sound (g.R.Run.holds active) g.R.Run.from size rs i was is found.within at (record {
         last = swept.last;
         rises = c.sweep.ensures.rises;
         holds = c.sweep.ensures.holds active;

@@ -2,7 +2,7 @@ use Rattle.merging_runs.proofs.runs.Runs.free_old.Given as goal
 use Rattle.std.proofs.Common.{◌≡◌, ◌≤◌, ◌<◌, ◌+◌}
 use Rattle.std.specs.Prelude.{nat_le}
 use Rattle.merging_runs.specs.Contents.{partial_upto, whole_upto}
-use Rattle.merging_runs.specs.KeptRuns.{StayKept}
+use Rattle.merging_runs.specs.KeptRuns.{StaySound}
 use Rattle.merging_runs.specs.RunSizes.{left_above}
 
 abbrev pub invariant-runs : goal.invariant-runs
@@ -13,7 +13,7 @@ invariant-runs g l = record {
   credit : l.self.contents.credit ≡ l.fn.self.contents.credit;
   left : left_above l.oldest l.self.sizes ≡ left_above l.oldest l.fn.self.sizes;
   refused : l.self.refused ≡ l.fn.self.refused;
-  kept : (active : _) → StayKept (g.R.Run.holds active) g.R.Run.from g.R.Run.sizes l.fn.self.runs l.self.runs;
+  kept : (active : _) → StaySound (g.R.Run.holds active) g.R.Run.from g.R.Run.sizes l.fn.self.runs l.self.runs;
   most : l.left ≤ 1024;
   ended : 0 < l.left → l.self.contents.taken ≡ 0;
 }

@@ -6,7 +6,7 @@ use Rattle.std.proofs.lemmas.List.Folds.{list_all_more}
 use Rattle.std.specs.Prelude.{nat_le}
 use Rattle.pivot_check.proofs.Passing.{more_from}
 use Rattle.pivot_check.specs.Bounds.{is_from_bound}
-use Rattle.pivot_check.specs.Postings.{Posting, are_from}
+use Rattle.pivot_check.specs.Postings.{Posting, postings_from}
 
 pub loop-posting-preserved : goal.loop-posting-preserved
 loop-posting-preserved c =
@@ -23,4 +23,4 @@ loop-posting-preserved c =
 
 pub returns-clause-from : goal.returns-clause-from
 returns-clause-from c = λ n fits h.
-    c.loop-posting.invariant.from n fits (ap (are_from n) (take_all c.loop-posting.posting-index c.args.postings.now (omega arith)) ∙ h)
+    c.loop-posting.invariant.from n fits (ap (postings_from n) (take_all c.loop-posting.posting-index c.args.postings.now (omega arith)) ∙ h)
