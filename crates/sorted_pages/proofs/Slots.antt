@@ -2,27 +2,28 @@
 use Rattle.std.proofs.Common.{◌≡◌, ℕ, ◌+◌, ◌-◌, ◌*◌, ◌%◌, ◌^◌, ◌<◌, ◌≤◌, Bool, true, false, cond, List, [], ◌∷◌, ◌++◌}
 use Rattle.std.proofs.Common.{length, take, drop}
 use Rattle.std.proofs.Common.{get_or, set, map, refl, sym, ap, subst, ◌∙◌, arith, zero, suc, max, min, bit_or, Some}
-use Rattle.std.proofs.Common.{None, inl, inr, w64}
-use Rattle.std.proofs.lemmas.Bool.{both_ways, cases_Bool, cases_eq, cond-true, eqb-true, eqb-false, eq-eqb, or_cases}
-use Rattle.std.proofs.lemmas.Bool.{or_left, or_parts, or_right, false_from_ne_true, true_from_ne_false}
+use Rattle.std.proofs.Common.{None, inl, inr, replicate, w64}
+use Rattle.std.proofs.lemmas.Bool.{both_ways, cases_Bool, cases_eq, cases_lt, cond-true, eqb-true, eqb-false}
+use Rattle.std.proofs.lemmas.Bool.{eq-eqb, or_cases, or_left, or_parts, or_right, false_from_ne_true}
+use Rattle.std.proofs.lemmas.Bool.{true_from_ne_false}
 use Rattle.std.proofs.lemmas.Bool.Decides.{nat_tests}
 use Rattle.std.proofs.lemmas.Cmp.{nat_eq_equiv}
 use Rattle.std.proofs.lemmas.Iterator.Adapters.{position_from-zero}
-use Rattle.std.proofs.Math.ListN.{drop_of_length-le}
-use Rattle.std.proofs.lemmas.List.{append-nil, take_all, take-append-drop}
+use Rattle.std.proofs.lemmas.List.{get_or-replicate, get_or-set_other, get_or-set_same, length-replicate}
+use Rattle.std.proofs.lemmas.List.{length-set, take-append-drop}
 use Rattle.std.proofs.lemmas.Map.Keys.{IsDistinct-cons, any_passes_from_place}
 use Rattle.std.proofs.lemmas.Map.Made.{length-le_from_is_member}
 use Rattle.std.specs.Set.{is_member}
 use Rattle.std.proofs.lemmas.List.Folds.{list_any-append, list_any_at, list_any_more}
 use Rattle.std.proofs.lemmas.Nat.Bits.{bit_at_and, bit_at_not, bit_at_or, bit_at_set_same, bit_at_set_other}
 use Rattle.std.proofs.lemmas.Nat.Bits.{bit_at-lt, bit_at-zero}
-use Rattle.std.proofs.lemmas.Option.{slice_get-get_or, slice_get_within}
+use Rattle.std.proofs.lemmas.Option.{get_or_from_slice_get, slice_get-get_or, slice_get_within}
 use Rattle.std.specs.Int.{bit_at, bit_not}
 use Rattle.std.specs.Int.Bits.{bit_and}
 use Rattle.std.specs.List.{AllByRecursion, IsDistinct, position_from}
 use Rattle.std.specs.Prelude.{position, slice_get, nat_eq, nat_le, nat_lt, ◌&&◌, ◌==◌, ◌||◌, ◌⊎◌}
-use Rattle.sorted_pages.specs.Held.{AreApart, AreBits, AreBounded, AreHeldFrom, AreHeldOf, IsHeldLate, bit_of}
-use Rattle.sorted_pages.specs.Held.{is_among, with_number}
+use Rattle.sorted_pages.specs.Held.{AreApart, AreBits, AreBounded, AreFreeFrom, AreHeldFrom, AreHeldOf, IsHeldLate}
+use Rattle.sorted_pages.specs.Held.{bit_of, is_among, with_number}
 use Rattle.sorted_pages.specs.declared.held.TheConstants.{FREE}
 
 -- ---- bits, as far as a loop has come
@@ -68,9 +69,12 @@ module _ (p : ℕ → Bool) (ns : List ℕ) (k m d : ℕ) where
           b.above i (omega arith) ∙ sym (ap bit_of (sym (ap p same) ∙ f))
       by i n l at (inr e) = b.below i n (omega arith) at
 
-  -- all of them
-  pub bits-all : AreBitsTo p ns k m → length ns ≤ k → AreBits p ns m
-  bits-all b le i n at = let lt = slice_get_within ns i n at in b.below i n (omega arith) at
+  -- all of them, where p doesn't hold of what stands in the free places behind them
+  pub bits-used : AreBitsTo p ns k m → AreFreeFrom k ns → p FREE ≡ false → AreBits p ns m
+  bits-used b free f i n at = elim (cases_lt i k) [
+    | inl lt ↦ b.below i n lt at
+    | inr le ↦ b.above i le ∙ sym (ap bit_of (ap p (free i n le at) ∙ f))
+  ]
 
 -- ---- the bound of the numbers that are held
 
@@ -87,12 +91,16 @@ none_between bound low high ns below le within = bits_zero _ ns (λ n here. elim
   | inr f ↦ (let lt = below n f here in grind (arith, nat_tests))
 ])
 
--- none is below `high` where the bound is 0
-pub none_below : (high : ℕ) (q : ℕ → Bool) (ns : List ℕ) → AreBounded 0 ns → high ≤ FREE → AreBits (λ n. nat_lt n high && q n) ns 0
-none_below high q ns below within = bits_zero _ ns (λ n here. elim (cases_Bool (n == FREE)) [
-  | inl f ↦ (let is = eqb-true n FREE f in grind (arith, nat_tests))
-  | inr f ↦ absurd (let lt = below n f here in omega arith)
-])
+-- what stands in free places isn't below a number
+pub free_above : (high : ℕ) → high ≤ FREE → nat_lt FREE high ≡ false
+free_above high le = grind (arith, nat_tests)
+
+-- a number that is at least the bound isn't held
+pub none_above : (bound n : ℕ) (ns : List ℕ) → AreBounded bound ns → bound ≤ n → n < FREE → is_among ns n ≡ false
+none_above bound n ns below le lt = false_from_ne_true _ (λ here.
+    let other : (n == FREE) ≡ false = false_from_ne_true _ (λ e. (let is = eqb-true n FREE e in omega arith)) in
+    let less = below n other here in
+    omega arith)
 
 -- a number more, and a bound above it
 pub bounded_more : (ns : List ℕ) (k d bound more : ℕ) → AreBounded bound (take k ns) → k < length ns → d ≡ get_or ns k 0 → d ≤ FREE → bound ≤ more
@@ -148,6 +156,100 @@ module _ (n : ℕ) where
   pub no_place : (ms : List ℕ) → position (λ x. x == n) ms ≡ None → is_among ms n ≡ false
   no_place ms e = none_from ms 0 (sym (position_from-zero (λ x. x == n) ms) ∙ e)
 
+  -- one that isn't among them has no place
+  none_at : (ms : List ℕ) (k : ℕ) → is_among ms n ≡ false → position_from (λ x. x == n) k ms ≡ None
+  none_at [] k h = refl
+  none_at (m ∷ ms) k h = let p = or_parts (m == n) (is_among ms n) h in rw p.0 (none_at ms (k + 1) p.1)
+
+  pub without_place : (ms : List ℕ) → is_among ms n ≡ false → position (λ x. x == n) ms ≡ None
+  without_place ms h = position_from-zero (λ x. x == n) ms ∙ none_at ms 0 h
+
+  -- its first place among the first k is that among all
+  found_early : (ms : List ℕ) (k j i : ℕ) → position_from (λ x. x == n) j (take k ms) ≡ Some i → position_from (λ x. x == n) j ms ≡ Some i
+  found_early [] zero j i e = e
+  found_early [] (suc k) j i e = e
+  found_early (m ∷ ms) zero j i e = cc
+  found_early (m ∷ ms) (suc k) j i e = by (m == n) (found_early ms k (j + 1) i) e
+    where
+      by : (b : Bool)
+          → (position_from (λ x. x == n) (j + 1) (take k ms) ≡ Some i → position_from (λ x. x == n) (j + 1) ms ≡ Some i)
+          → cond b (Some j) (position_from (λ x. x == n) (j + 1) (take k ms)) ≡ Some i
+          → cond b (Some j) (position_from (λ x. x == n) (j + 1) ms) ≡ Some i
+      by true r g = g
+      by false r g = r g
+
+  pub found_used : (ms : List ℕ) (k i : ℕ) → position (λ x. x == n) (take k ms) ≡ Some i → position (λ x. x == n) ms ≡ Some i
+  found_used ms k i e =
+      position_from-zero (λ x. x == n) ms ∙ found_early ms k 0 i (sym (position_from-zero (λ x. x == n) (take k ms)) ∙ e)
+
+  -- what isn't among the first k isn't there at all, where the places behind them are free
+  among_used : (ms : List ℕ) (k : ℕ) → AreFreeFrom k ms → (n == FREE) ≡ false → is_among (take k ms) n ≡ false → is_among ms n ≡ false
+  among_used [] k free f h = refl
+  among_used (m ∷ ms) zero free f h =
+      let here : (m == n) ≡ false = false_from_ne_true _ (λ e. both_ways (n == FREE) f (eq-eqb n FREE (sym (eqb-true m n e) ∙ free 0 m (omega arith) refl))) in
+      rw here (among_used ms zero (λ i q le at. free (suc i) q (omega arith) at) f refl)
+  among_used (m ∷ ms) (suc k) free f h =
+      let p = or_parts (m == n) (is_among (take k ms) n) h in
+      rw p.0 (among_used ms k (λ i q le at. free (suc i) q (omega arith) at) f p.1)
+
+  pub none_used : (ms : List ℕ) (k : ℕ) → AreFreeFrom k ms → (n == FREE) ≡ false → position (λ x. x == n) (take k ms) ≡ None
+      → position (λ x. x == n) ms ≡ None
+  none_used ms k free f e = without_place ms (among_used ms k free f (no_place (take k ms) e))
+
+-- ---- the first free place
+
+-- it is the one behind the first k, where none of these is free
+free_behind : (ms : List ℕ) (k j : ℕ) → AreFreeFrom k ms → k < length ms → position_from (λ x. x == FREE) j (take k ms) ≡ None
+    → position_from (λ x. x == FREE) j ms ≡ Some (j + k)
+free_behind [] k j free lt e = absurd (omega arith)
+free_behind (m ∷ ms) zero j free lt e =
+    let here : (m == FREE) ≡ true = eq-eqb m FREE (free 0 m (omega arith) refl) in
+    let same : j ≡ j + 0 = omega arith in
+    rw here (ap Some same)
+free_behind (m ∷ ms) (suc k) j free lt e =
+    by (m == FREE) (free_behind ms k (j + 1) (λ i q le at. free (suc i) q (omega arith) at) (omega arith)) e
+  where
+    by : (b : Bool)
+        → (position_from (λ x. x == FREE) (j + 1) (take k ms) ≡ None → position_from (λ x. x == FREE) (j + 1) ms ≡ Some (j + 1 + k))
+        → cond b (Some j) (position_from (λ x. x == FREE) (j + 1) (take k ms)) ≡ None
+        → cond b (Some j) (position_from (λ x. x == FREE) (j + 1) ms) ≡ Some (j + suc k)
+    by true r g = cc
+    by false r g = let same : j + 1 + k ≡ j + suc k = omega arith in r g ∙ ap Some same
+
+free_at : (ms : List ℕ) (k : ℕ) → AreFreeFrom k ms → k < length ms → position (λ x. x == FREE) (take k ms) ≡ None
+    → position (λ x. x == FREE) ms ≡ Some k
+free_at ms k free lt e =
+    let found = free_behind ms k 0 free lt (sym (position_from-zero (λ x. x == FREE) (take k ms)) ∙ e) in
+    let same : 0 + k ≡ k = omega arith in
+    position_from-zero (λ x. x == FREE) ms ∙ found ∙ ap Some same
+
+pub free_next : (n : ℕ) (ms : List ℕ) (k : ℕ) → n ≡ FREE → AreFreeFrom k ms → k < length ms → position (λ x. x == n) (take k ms) ≡ None
+    → position (λ x. x == n) ms ≡ Some k
+free_next n ms k is free lt =
+    subst (λ q. position (λ x. x == q) (take k ms) ≡ None → position (λ x. x == q) ms ≡ Some k) (sym is) (free_at ms k free lt)
+
+-- ---- the places that are free
+
+-- all are, where nothing else was put in
+pub free_all : (k used : ℕ) → AreFreeFrom used (replicate k FREE)
+free_all k used i n le at =
+    let same = get_or_from_slice_get (replicate k FREE) i n n at in
+    let within = slice_get_within (replicate k FREE) i n at in
+    sym same ∙ get_or-replicate k i FREE n (omega (arith, length-replicate k FREE))
+
+-- those behind the first that are in use are
+pub free_later : (used k : ℕ) (ns : List ℕ) → AreFreeFrom used ns → used ≤ k → AreFreeFrom k ns
+free_later used k ns free le i n past at = free i n (omega arith) at
+
+-- they stay so where a number comes into a place before them
+free_set : (ms : List ℕ) (used more i n : ℕ) → AreFreeFrom used ms → used ≤ more → i < more → AreFreeFrom more (set ms i n)
+free_set ms used more i n free le lt j q past at =
+    let same = get_or_from_slice_get (set ms i n) j q q at in
+    let other = get_or-set_other ms i j n q (λ e. omega arith) in
+    let within = slice_get_within (set ms i n) j q at in
+    let old = slice_get-get_or ms j q (omega (arith, length-set ms i n)) in
+    sym same ∙ other ∙ free j (get_or ms j q) (omega arith) old
+
 -- ---- a number more, in the first free place
 
 module _ (n : ℕ) where
@@ -175,6 +277,11 @@ module _ (n : ℕ) where
       let f = with_from ms 0 i (sym (position_from-zero (λ x. x == FREE) ms) ∙ e) in
       let same : i - 0 ≡ i = omega arith in
       ap (λ j. set ms j n) (sym same) ∙ f.1
+
+  -- the places behind it stay free
+  pub free_with : (ms : List ℕ) (used more i : ℕ) → position (λ x. x == FREE) ms ≡ Some i → AreFreeFrom used ms → used ≤ more → i < more
+      → AreFreeFrom more (with_number n ms)
+  free_with ms used more i e free le lt = subst (AreFreeFrom more) (with_found ms i e) (free_set ms used more i n free le lt)
 
   without_free : (ms : List ℕ) → is_among ms FREE ≡ false → ms ≡ with_number n ms
   without_free [] h = refl
@@ -272,7 +379,7 @@ kept_of ns n = cond (is_among ns n) n FREE
 
 module _ (ns : List ℕ) where
   -- one place more
-  pub released-more : (old now : List ℕ) (k v : ℕ) → now ≡ map (kept_of ns) (take k old) ++ drop k old → k < length old
+  released-more : (old now : List ℕ) (k v : ℕ) → now ≡ map (kept_of ns) (take k old) ++ drop k old → k < length old
       → v ≡ kept_of ns (get_or old k 0) → set now k v ≡ map (kept_of ns) (take (k + 1) old) ++ drop (k + 1) old
   released-more [] now k v e lt w = absurd (omega arith)
   released-more (x ∷ old) now zero v e lt w = ap (λ l. set l 0 v) e ∙ ap (λ y. y ∷ old) w
@@ -288,10 +395,83 @@ module _ (ns : List ℕ) where
   released-next (x ∷ old) zero lt = refl
   released-next (x ∷ old) (suc k) lt = released-next old k (omega arith)
 
-  pub released-all : (old now : List ℕ) (k : ℕ) → now ≡ map (kept_of ns) (take k old) ++ drop k old → length old ≤ k
-      → now ≡ map (kept_of ns) old
-  released-all old now k e le = e ∙ ap (λ l. map (kept_of ns) l ++ drop k old) (take_all k old le)
-      ∙ ap (λ l. map (kept_of ns) old ++ l) (drop_of_length-le old le) ∙ append-nil (map (kept_of ns) old)
+  -- what is free stays so
+  free_stays : (m : ℕ) → m ≡ FREE → kept_of ns m ≡ FREE
+  free_stays m e = by (is_among ns m)
+    where
+      by : (b : Bool) → cond b m FREE ≡ FREE
+      by true = e
+      by false = refl
+
+  released-used : (old : List ℕ) (k : ℕ) → AreFreeFrom k old → map (kept_of ns) (take k old) ++ drop k old ≡ map (kept_of ns) old
+  released-used [] zero free = refl
+  released-used [] (suc k) free = refl
+  released-used (x ∷ old) zero free =
+      let rest = released-used old zero (λ i q le at. free (suc i) q (omega arith) at) in
+      let here = free 0 x (omega arith) refl in
+      ap (λ y. y ∷ old) (here ∙ sym (free_stays x here)) ∙ ap (λ l. kept_of ns x ∷ l) rest
+  released-used (x ∷ old) (suc k) free = ap (λ l. kept_of ns x ∷ l) (released-used old k (λ i q le at. free (suc i) q (omega arith) at))
+
+  free_kept : (old : List ℕ) (k : ℕ) → AreFreeFrom k old → AreFreeFrom k (map (kept_of ns) old)
+  free_kept [] k free i n le at = free i n le at
+  free_kept (x ∷ old) k free zero n le at =
+      let same : kept_of ns x ≡ n = cc in
+      sym same ∙ free_stays x (free 0 x le refl)
+  free_kept (x ∷ old) zero free (suc i) n le at = free_kept old zero (λ j q l at. free (suc j) q (omega arith) at) i n (omega arith) at
+  free_kept (x ∷ old) (suc k) free (suc i) n le at = free_kept old k (λ j q l at. free (suc j) q (omega arith) at) i n (omega arith) at
+
+  -- the first k places are done: those from `used` on are free
+  pub record ReleasedTo (old : List ℕ) (k used : ℕ) (now : List ℕ) : Type 0 where
+    pub is : now ≡ map (kept_of ns) (take k old) ++ drop k old
+    pub within : used ≤ k
+    pub free : (i n : ℕ) → used ≤ i → i < k → slice_get now i ≡ Some n → n ≡ FREE
+
+  pub released-step : (old now : List ℕ) (k used more v : ℕ) → ReleasedTo old k used now → k < length old → v ≡ kept_of ns (get_or old k 0)
+      → more ≡ cond (v == FREE) used (k + 1) → ReleasedTo old (k + 1) more (set now k v)
+  released-step old now k used more v r lt at counted = record {
+    is = released-more old now k v r.is lt at;
+    within = by (v == FREE) counted;
+    free = λ i n le less here. elim (cases_eq i k) [
+      | inl e ↦ last n (subst (λ j. more ≤ j) e le) (subst (λ j. slice_get (set now k v) j ≡ Some n) e here)
+      | inr other ↦ r.free i n (earlier (v == FREE) counted i le) (omega arith) (before i n other here)
+    ];
+  }
+    where
+      by : (b : Bool) → more ≡ cond b used (k + 1) → more ≤ k + 1
+      by true e = let small = r.within in omega arith
+      by false e = omega arith
+
+      earlier : (b : Bool) → more ≡ cond b used (k + 1) → (i : ℕ) → more ≤ i → used ≤ i
+      earlier true e i le = omega arith
+      earlier false e i le = let small = r.within in omega arith
+
+      before : (i n : ℕ) → (i ≡ k → ⊥) → slice_get (set now k v) i ≡ Some n → slice_get now i ≡ Some n
+      before i n other here =
+          let same = get_or_from_slice_get (set now k v) i n n here in
+          let is = get_or-set_other now k i v n other in
+          let within = slice_get_within (set now k v) i n here in
+          let old = slice_get-get_or now i n (omega (arith, length-set now k v)) in
+          old ∙ ap Some (sym is ∙ same)
+
+      last : (n : ℕ) → more ≤ k → slice_get (set now k v) k ≡ Some n → n ≡ FREE
+      last n le here =
+          let within = slice_get_within (set now k v) k n here in
+          let same = get_or_from_slice_get (set now k v) k n n here in
+          let is = get_or-set_same now k v n (omega (arith, length-set now k v)) in
+          elim (cases_Bool (v == FREE)) [
+            | inl f ↦ sym same ∙ is ∙ eqb-true v FREE f
+            | inr f ↦ absurd (let e = counted ∙ ap (λ b. cond b used (k + 1)) f in omega arith)
+          ]
+
+  -- once each place is done that was in use
+  pub released-all : (old now : List ℕ) (k used : ℕ) → ReleasedTo old k used now → AreFreeFrom k old → now ≡ map (kept_of ns) old
+  released-all old now k used r free = r.is ∙ released-used old k free
+
+  pub free_released : (old now : List ℕ) (k used : ℕ) → ReleasedTo old k used now → AreFreeFrom k old → AreFreeFrom used now
+  free_released old now k used r free i n le at = elim (cases_lt i k) [
+    | inl less ↦ r.free i n le less at
+    | inr past ↦ free_kept old k free i n past (subst (λ l. slice_get l i ≡ Some n) (released-all old now k used r free) at)
+  ]
 
   among_kept : (ms : List ℕ) (q : ℕ) → (q == FREE) ≡ false → is_among (map (kept_of ns) ms) q ≡ true → is_among ms q ≡ true
   among_kept [] q f h = h

@@ -48,3 +48,7 @@ IsHeldLate last n old new =
 -- each of the numbers, but for what stands in free places, is below the bound
 abbrev pub AreBounded : ℕ → List ℕ → Type 0
 AreBounded bound ns = (n : ℕ) → (n == FREE) ≡ false → is_among ns n ≡ true → n < bound
+
+-- each place from this one on is free
+abbrev pub AreFreeFrom : ℕ → List ℕ → Type 0
+AreFreeFrom used ns = (i n : ℕ) → used ≤ i → slice_get ns i ≡ Some n → n ≡ FREE

@@ -1,8 +1,9 @@
 //! The numbers that are held: those at which readers began who may still ask. Each stands in a slot, and has the bit of that slot in what
 //! is known of a page.
 ghost use Rattle.std.specs.Prelude.{◌≡◌, ◌==◌, ◌&&◌, ◌≤◌, ◌<◌, ℕ, true, nat_le, nat_lt, false, if◌then◌else◌};
-ghost use Rattle.sorted_pages.specs.Held.{AreApart, AreBits, AreBounded, AreHeldFrom, AreHeldOf, IsHeldLate};
-ghost use Rattle.sorted_pages.specs.Held.{IsReader, is_among, with_number};
+ghost use Rattle.std.specs.Prelude.{IfSome, length, position};
+ghost use Rattle.sorted_pages.specs.Held.{AreApart, AreBits, AreBounded, AreFreeFrom, AreHeldFrom, AreHeldOf};
+ghost use Rattle.sorted_pages.specs.Held.{IsHeldLate, IsReader, is_among, with_number};
 ghost use Rattle.std.specs.Int.{bit_at};
 ghost use Rattle.sorted_pages.specs.Summaries.{BitsHide, are_hidden};
 
@@ -27,39 +28,51 @@ pub(crate) struct Reader {
 #[derive(Drop)]
 pub(crate) struct Held {
     slots: [u64; HELD_MAX],
+    // the slots from here on are free: only those before it are looked at
+    used: usize,
     // each held number is below it; 0 where none is held
     bound: u64,
 }
 
 impl Model for Held {
-    ghost use Rattle.std.specs.Prelude.{ℕ, List};
-    ghost use Rattle.sorted_pages.specs.Held.{AreApart, AreBounded};
+    ghost use Rattle.std.specs.Prelude.{ℕ, List, ◌≤◌};
+    ghost use Rattle.sorted_pages.specs.Held.{AreApart, AreBounded, AreFreeFrom};
+    ghost use Rattle.sorted_pages.specs.declared.held.TheConstants.{HELD_MAX};
 
     ghost Value = { List ℕ };
 
     ghost view = { λ h. h.slots };
 
-    ghost invariant = { λ h. AreApart h.slots × AreBounded h.bound h.slots };
+    ghost invariant = { λ h.
+        AreApart h.slots × AreBounded h.bound h.slots × AreFreeFrom h.used h.slots × (h.used ≤ HELD_MAX) };
 }
 
 impl Held {
-    ghost use Rattle.std.specs.Prelude.{◌<◌, ◌==◌, IfSome, length, position};
+    ghost use Rattle.std.specs.Prelude.{◌<◌, ◌==◌};
     ghost use Rattle.sorted_pages.specs.declared.held.TheConstants.{HELD_MAX};
 
     // No number is held.
     pub(crate) fn none() -> Held {
         Held {
             slots: [FREE; HELD_MAX],
+            used: 0,
             bound: 0,
         }
     }
 
-    // The first slot of the number.
+    // The first slot of the number, or for `FREE` the first that is free. No number from `bound` on stands in one.
     fn slot_of(&self, number: u64) -> Option<usize>
         ensures first { result ≡ position (λ n. n == number) self.now }
         ensures within { IfSome result (λ slot. slot < HELD_MAX) }
     {
-        self.slots.iter().position(|held| *held == number)
+        if self.bound <= number && number < FREE {
+            return None;
+        }
+        match place_of(number, &self.slots[..self.used]) {
+            Some(slot) => Some(slot),
+            None if number == FREE && self.used < HELD_MAX => Some(self.used),
+            None => None,
+        }
     }
 
     // One who began at the number.
@@ -84,7 +97,7 @@ impl Held {
             return 0;
         }
         let mut bits = 0;
-        for slot in 0..HELD_MAX {
+        for slot in 0..self.used {
             let number = self.slots[slot];
             if is_between(number, low, high) {
                 bits |= 1 << slot;
@@ -104,11 +117,8 @@ impl Held {
         requires { BitsHide V.hides self.now high entries.now known }
         ensures { AreBits (λ n. nat_lt n high && are_hidden (V.hides n) entries.now) self.now result }
     {
-        if self.bound == 0 {
-            return 0;
-        }
         let mut bits = 0;
-        for slot in 0..HELD_MAX {
+        for slot in 0..self.used {
             let number = self.slots[slot];
             if is_hidden(entries, number, high, has_bit(known, slot)) {
                 bits |= 1 << slot;
@@ -123,9 +133,15 @@ impl Held {
         ensures places { length self.new ≡ HELD_MAX }
         ensures apart { AreApart self.new }
     {
-        for slot in 0..HELD_MAX {
-            self.slots[slot] = kept(self.slots[slot], numbers);
+        let mut used = 0;
+        for slot in 0..self.used {
+            let number = kept(self.slots[slot], numbers);
+            self.slots[slot] = number;
+            if number != FREE {
+                used = slot + 1;
+            }
         }
+        self.used = used;
         self.bound = bound_of(numbers);
     }
 
@@ -136,6 +152,7 @@ impl Held {
     {
         if let Some(slot) = self.slot_of(FREE) {
             self.slots[slot] = number;
+            self.used = self.used.max(slot + 1);
             self.bound = self.bound.max(number.saturating_add(1));
         }
     }
@@ -170,6 +187,14 @@ impl Held {
             self.add_late(*number, last);
         }
     }
+}
+
+// The first place of the number among these.
+fn place_of(number: u64, numbers: &[u64]) -> Option<usize>
+    ensures first { result ≡ position (λ n. n == number) numbers.now }
+    ensures within { IfSome result (λ place. place < length numbers.now) }
+{
+    numbers.iter().position(|held| *held == number)
 }
 
 // One more than the greatest of the numbers; 0 where there is none.

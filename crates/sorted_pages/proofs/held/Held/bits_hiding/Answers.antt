@@ -1,9 +1,9 @@
 use Rattle.std.proofs.Common.{◌∙◌, ◌≡◌, ℕ, List, Some, get_or, arith, sym, subst}
-use Rattle.std.proofs.lemmas.Bool.{eqb-true}
+use Rattle.std.proofs.lemmas.Bool.{and_left, eqb-true}
 use Rattle.std.proofs.lemmas.Option.{slice_get-get_or}
 use Rattle.std.specs.Prelude.{nat_lt, slice_get, ◌&&◌}
-use Rattle.sorted_pages.proofs.Slots.{AreBitsTo, bits-all, bits-left, bits-set, none_below}
-use Rattle.sorted_pages.specs.Held.{AreBits, AreBounded}
+use Rattle.sorted_pages.proofs.Slots.{AreBitsTo, bits-left, bits-set, bits-used, free_above, free_later}
+use Rattle.sorted_pages.specs.Held.{AreBits}
 use Rattle.sorted_pages.specs.Summaries.{are_hidden}
 use Rattle.sorted_pages.proofs.held.Held.bits_hiding.Goals.{then-is_hidden, else-is_hidden}
 use Rattle.sorted_pages.proofs.held.Held.bits_hiding.Goals as goal
@@ -19,8 +19,10 @@ loop-slot-preserved g c = elim c.if-is_hidden.branch [
 pub returns : goal.returns
 returns g c =
     let p = λ (n : ℕ). nat_lt n c.args.high && are_hidden (g.V.Versioned.hides n) c.args.entries.now in
+    let free = free_later _ c.loop-slot.slot c.self.inside.slots c.self.invariant.2 (omega arith) in
+    let none = and_left _ _ (free_above c.args.high (omega arith)) in
     subst (λ (ns : List ℕ). AreBits p ns c.loop-slot.bits) c.self.view_is
-    (bits-all p c.self.inside.slots c.loop-slot.slot c.loop-slot.bits 0 c.loop-slot.invariant (omega arith))
+    (bits-used p c.self.inside.slots c.loop-slot.slot c.loop-slot.bits 0 c.loop-slot.invariant free none)
 
 -- its bit is known to be right
 pub is_hidden-requires : goal.is_hidden-requires
@@ -29,11 +31,3 @@ is_hidden-requires g c = λ known below.
     let at = slice_get-get_or c.self.inside.slots c.loop-slot.slot 0 (omega arith) in
     let there = subst (λ (ns : List ℕ). slice_get ns c.loop-slot.slot ≡ Some number) c.self.view_is at in
     c.requires c.loop-slot.slot number there below (eqb-true _ _ (sym c.has_bit.ensures ∙ known))
-
-pub returns-then-self-eq0 : goal.returns-then-self-eq0
-returns-then-self-eq0 g c =
-    let none : c.self.inside.bound ≡ 0 = omega arith in
-    let below = subst (λ b. AreBounded b c.self.inside.slots) none c.self.invariant.1 in
-    let hidden = λ (n : ℕ). are_hidden (g.V.Versioned.hides n) c.args.entries.now in
-    subst (λ (ns : List ℕ). AreBits (λ n. nat_lt n c.args.high && hidden n) ns 0) c.self.view_is
-    (none_below c.args.high hidden c.self.inside.slots below (omega arith))

@@ -1,7 +1,5 @@
 use Rattle.sorted_pages.proofs.held.Held.release_others.Given as goal
-use Rattle.std.specs.Prelude.{◌≡◌, ◌++◌, map, take, drop}
-use Rattle.sorted_pages.proofs.Slots.{kept_of}
+use Rattle.sorted_pages.proofs.Slots.{ReleasedTo}
 
 abbrev pub invariant-loop-slot : goal.invariant-loop-slot
-invariant-loop-slot l =
-    l.self-inside.slots ≡ map (kept_of l.numbers) (take l.slot l.initial.self-inside.slots) ++ drop l.slot l.initial.self-inside.slots
+invariant-loop-slot l = ReleasedTo l.numbers l.initial.self-inside.slots l.slot l.used l.self-inside.slots
