@@ -16,7 +16,7 @@ use Rattle.commit_log.specs.declared.faults.LogFault.{LogFault}
 use Rattle.commit_log.specs.declared.faults.LogFault.TheVariants.{Full}
 use Rattle.commands.specs.LogCounts.{log_line}
 use Rattle.commands.specs.Notices.{copying_line}
-use Rattle.commands.specs.Steps.{Calls, CallsLog, Gives, Step, Try}
+use Rattle.commands.specs.Steps.{Calls, CallsLog, Yields, Step, Try}
 use Rattle.commands.specs.declared.faults.Fault.{Fault}
 use Rattle.commands.specs.declared.faults.Fault.TheVariants.{File, LogFull}
 use Rattle.commands.specs.declared.system.Environment.{Environment}
@@ -66,7 +66,7 @@ module _ {F D : Type 0} (g : Ghosts D) (files : DataFiles F D) where
   ReadsFile name old =
       Try (Calls File (files.reads old name)) (λ opened. opened) λ device opened result new.
       (after : D)
-      × Try (CallsLog (ReadsMap g device)) (λ left. left) (λ found. Gives (Ok (found.0, g.size device))) result after
+      × Try (CallsLog (ReadsMap g device)) (λ left. left) (λ found. Yields (Ok (found.0, g.size device))) result after
       × files.closes opened after new
 
   module _ {P O E : Type 0} (out : Lines O) (err : Lines E) where
@@ -75,7 +75,7 @@ module _ {F D : Type 0} (g : Ghosts D) (files : DataFiles F D) where
     abbrev pub Compacting : List ℕ → List ℕ → Option ℕ → Environment F P O E → Step (Unit {0}) (Environment F P O E)
     Compacting from to requested old =
         Try (ReadsFile from old.files) (λ read. record old { files = read }) λ found read.
-        Try (Gives (copy_count found.1 requested (copy_size found.0)) read) (λ read. record old { files = read })
+        Try (Yields (copy_count found.1 requested (copy_size found.0)) read) (λ read. record old { files = read })
         λ count read.
         Try (Calls File (files.makes read to count)) (λ made. record old { files = made }) λ device made result new.
         (copied : D) × MayReport err old.is_terminal old.err new.err

@@ -18,8 +18,8 @@ Try {A} {V = V} step leaves next result new =
     × MatchResult outcome (λ a. next a left result new) (λ fault. (result ≡ Err fault) × (new ≡ leaves left))
 
 -- no call: this is given and left
-abbrev pub Gives : {A W : Type 0} → Result A Fault → W → Step A W
-Gives given so result left = (result ≡ given) × (left ≡ so)
+abbrev pub Yields : {A W : Type 0} → Result A Fault → W → Step A W
+Yields given so result left = (result ≡ given) × (left ≡ so)
 
 -- one call, whose error is reported as such a fault
 abbrev pub Reports : {A E W : Type 0} → (E → Fault → Type 0) → (Result A E → W → Type 0) → Step A W

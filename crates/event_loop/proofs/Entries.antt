@@ -19,7 +19,7 @@ use Rattle.stream_driver.specs.Buffers.{has_had_share}
 use Rattle.stream_driver.specs.Drives.{LeavesIfGone}
 use Rattle.stream_driver.specs.Entries.{DrivenAll, DrivenIn, DrivenSlot, DrivenOnce, DrivenThen, HaveSessions}
 use Rattle.stream_driver.specs.Entries.{entry_state_after, with_last}
-use Rattle.stream_driver.specs.Sessions.{Point, Leads, IsPresent, Stands, status_at}
+use Rattle.stream_driver.specs.Sessions.{Point, RunLeads, IsPresent, Stands, status_at}
 use Rattle.stream_driver.specs.Traffic.{Traffic, untouched}
 use Rattle.stream_driver.specs.declared.answers.Progress.{Progress}
 use Rattle.stream_driver.specs.declared.answers.Progress.TheVariants.{Gone}
@@ -118,7 +118,7 @@ module _ {T : Type 0} where
 
   module _ {D : Type 0} {g : Ghosts D} (hub later : Hub D g) where
     pub driven_entries : (reports : Type 0) (traffic : T → Traffic) (last : ℕ) (slots new : Slots T) → Stands hub
-        → Leads hub later (λ h k. DrivenThen reports traffic last h slots k new) → HaveEntries hub slots → HaveEntries later new
+        → RunLeads hub later (λ h k. DrivenThen reports traffic last h slots k new) → HaveEntries hub slots → HaveEntries later new
     driven_entries reports traffic last slots new some leads has s without =
         let IsOver : Entry T → Type 0 = λ (x : Entry T). x.session ≡ s → x.state ≡ EntryGone in
         seen_after (hlevel props) some leads

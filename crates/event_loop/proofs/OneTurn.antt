@@ -8,7 +8,7 @@ use Rattle.sessions.specs.StandsFor.{device}
 use Rattle.socket_calls.specs.HappenedCalls.{WasReported}
 use Rattle.stream_driver.specs.Buffers.{traffic_through}
 use Rattle.stream_driver.specs.Entries.{DrivenThen}
-use Rattle.stream_driver.specs.Sessions.{Adds, Leads, Point}
+use Rattle.stream_driver.specs.Sessions.{Adds, RunLeads, Point}
 use Rattle.stream_driver.specs.Traffic.{Traffic}
 use Rattle.event_loop.specs.Leavings.{LingerOn}
 use Rattle.event_loop.specs.Lingerings.{Lingerers, lingers_in, unless_failed}
@@ -41,7 +41,7 @@ module _ {D : Type 0} {g : Ghosts D} (reports : Type 0) (traffic : Socket
 
   abbrev IsRun : (poller : Poller) → Drives poller → (b : Bool) → Accepted b driven accepted → Type 0
   IsRun poller drives b accepts =
-      Leads old.hub new.hub (λ h l. (k : Point) × DrivenThen reports (traffic_through traffic) (writer_of driven.turns) h drives.ready k drives.driven
+      RunLeads old.hub new.hub (λ h l. (k : Point) × DrivenThen reports (traffic_through traffic) (writer_of driven.turns) h drives.ready k drives.driven
       × Adds k (accepted_joins b driven accepted accepts) l)
 
   abbrev Widths : (poller : Poller) → Drives poller → Type 0

@@ -32,7 +32,7 @@ use Rattle.event_loop.proofs.LastDriven.{IsPlaced, place_of, slot_placed, then_l
 use Rattle.event_loop.proofs.Polled.{IsSome, TakesTurns, answered_as_it_was, put_there}
 use Rattle.event_loop.proofs.Slots.{Slots}
 use Rattle.event_loop.proofs.Widths.{count_more}
-use Rattle.event_loop.specs.Numbers.{HasTablePlace, HavePlaces, WasRegisteredAs}
+use Rattle.event_loop.specs.Numbers.{HasTablePlace, HaveTablePlaces, WasRegisteredAs}
 use Rattle.event_loop.specs.Order.{AreNext, ComesNearer, HasNextTurn, after_turn, behind, has_turn, in_turn}
 use Rattle.event_loop.specs.Order.{is_of_kind, is_late_entry, is_one, is_ready_slot, late_below, late_in, light_below}
 use Rattle.event_loop.specs.Order.{light_in, share_at, share_in_turn, share_of_slot, takes_none, takes_turns}
@@ -201,16 +201,16 @@ pub new_registered : (accepted : AcceptedSocket) (key session : ℕ) (b : Buffer
 new_registered accepted key session b new = (new.0.socket, new.1.counts.5, new.4)
 
 module _ {T : Type 0} where
-  pub remain_places : (old new : Slots T) → Remain old new → HavePlaces old → HavePlaces new
+  pub remain_places : (old new : Slots T) → Remain old new → HaveTablePlaces old → HaveTablePlaces new
   remain_places old new remain places key entry e = let b = remain key entry e in subst (HasTablePlace key) b.2 (places key b.0 b.1)
 
-  pub places_after : (old new : Slots T) → KeepSessions old new → HavePlaces old → HavePlaces new
+  pub places_after : (old new : Slots T) → KeepSessions old new → HaveTablePlaces old → HaveTablePlaces new
   places_after old new keep places key entry e = let b = keep key entry e in subst (HasTablePlace key) (sym b.2) (places key b.0 b.1)
 
   module _ {D : Type 0} {g : Ghosts D} {IsNew : AcceptedSocket → ℕ → ℕ → T → Type 0} {hub : Hub D g} {next : ℕ} {slots : Slots T} where
     pub each_placed : {came : List AcceptedSocket} {later : Hub D g} {then : ℕ} {new : Slots T} → AdmitsEach IsNew hub next slots came later then new
         → ((accepted : AcceptedSocket) (key session : ℕ) (stream : T) → IsNew accepted key session stream → WasRegisteredAs key session)
-        → HavePlaces slots → HavePlaces new
+        → HaveTablePlaces slots → HaveTablePlaces new
     each_placed Nobody begins places key entry e = places key entry e
     each_placed (OneMore came accepted mid later number then between new each (inl away)) begins places key entry e =
         each_placed each begins places key entry (ap (λ l. slot_at l key) (sym away.slots_are) ∙ e)

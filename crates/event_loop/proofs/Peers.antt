@@ -23,7 +23,7 @@ use Rattle.stream_driver.specs.Buffers.{fresh, has_had_share, share_of, traffic_
 use Rattle.stream_driver.specs.Drives.{LeavesIfGone, Why}
 use Rattle.stream_driver.specs.Entries.{DrivenAll, DrivenIn, DrivenThen, EndsIn, entry_state_after, state_at_end}
 use Rattle.stream_driver.specs.Entries.{with_last}
-use Rattle.stream_driver.specs.Sessions.{AwaitsMore, Leads, Point, inbox_in, pending_at}
+use Rattle.stream_driver.specs.Sessions.{AwaitsMore, RunLeads, Point, inbox_in, pending_at}
 use Rattle.stream_driver.specs.Traffic.{Traffic}
 use Rattle.stream_driver.specs.Waits.{EachEntry, HasSoundNotes, SaysWhyBlocked, WaitsSince}
 use Rattle.stream_driver.specs.declared.answers.Call.TheVariants.{Read, Write}
@@ -424,7 +424,7 @@ module _ {D : Type 0} {g : Ghosts D} where
       each rested
 
   -- what leads from one hub to another, and keeps what is idle waiting
-  pub leads_lack : (hub later : Hub D g) {P : Point → Point → Type 0} → Leads hub later P → (slots new : Slots (BufferedStream Socket))
+  pub leads_lack : (hub later : Hub D g) {P : Point → Point → Type 0} → RunLeads hub later P → (slots new : Slots (BufferedStream Socket))
       → ((h k : Point) → P h k → IdleWait traffic_of CameShort h.hub slots → IdleWait traffic_of CameShort k.hub new)
       → LackNothing hub slots → LackNothing later new
   leads_lack hub later leads slots new keeps lack = ∥∥₁_map lack (λ w.

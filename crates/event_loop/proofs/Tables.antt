@@ -25,7 +25,7 @@ use Rattle.stream_driver.proofs.Carry.{adds_then}
 use Rattle.stream_driver.proofs.Events.{adds_none}
 use Rattle.stream_driver.proofs.States.{Follow, leads_event, leads_none, leads_then}
 use Rattle.stream_driver.specs.Entries.{HaveSessions, KeepSessions}
-use Rattle.stream_driver.specs.Sessions.{Stands, IsPresent, Leads, status_at, Adds}
+use Rattle.stream_driver.specs.Sessions.{Stands, IsPresent, RunLeads, status_at, Adds}
 use Rattle.stream_driver.specs.Traffic.{one_more}
 use Rattle.stream_driver.specs.declared.entries.Entry.{Entry}
 use Rattle.stream_driver.specs.declared.entries.EntryState.TheVariants.{Ready, Gone}
@@ -207,7 +207,7 @@ module _ (answer : AcceptAnswer) (a : Accepts) (asked counted : ℕ) where
 
 -- one event
 pub leads_one : {D : Type 0} {g : Ghosts D} (old new : Hub D g) (e : HubEvent) (outcome : Outcome) (q : HubLeads old new e outcome) → RunsAlone old new e
-    → failures old ≤ failures new → Leads old new (λ h k. Adds h ((e, q.0) ∷ []) k)
+    → failures old ≤ failures new → RunLeads old new (λ h k. Adds h ((e, q.0) ∷ []) k)
 leads_one old new e outcome q alone counted =
     leads_event old new _ e outcome q alone counted (λ h stands happens is after. record { run_is = refl; events_are = refl })
 

@@ -22,7 +22,7 @@ use Rattle.stream_driver.proofs.Carry.{run_then}
 use Rattle.stream_driver.proofs.Events.{test, adds_none}
 use Rattle.stream_driver.proofs.States.{Follow, leads_map, leads_two_at, leads_then}
 use Rattle.stream_driver.specs.Buffers.{traffic_through}
-use Rattle.stream_driver.specs.Sessions.{Leads, Adds, Point}
+use Rattle.stream_driver.specs.Sessions.{RunLeads, Adds, Point}
 use Rattle.stream_driver.specs.Traffic.{Traffic}
 use Rattle.stream_driver.specs.declared.buffered.BufferedStream.{BufferedStream}
 use Rattle.stream_driver.specs.declared.entries.Entry.{Entry}
@@ -137,7 +137,7 @@ they_speak h slots lawful bytes reports key entry e alive =
 -- ---- the end of a turn
 
 -- a hub that rests
-pub leads_rest : {D : Type 0} {g : Ghosts D} {hub later : Hub D g} → Ran hub later [] → Leads hub later (λ h k. k ≡ h)
+pub leads_rest : {D : Type 0} {g : Ghosts D} {hub later : Hub D g} → Ran hub later [] → RunLeads hub later (λ h k. k ≡ h)
 leads_rest {D} {g} ran = record {
   choices = [];
   ran = ran;
@@ -146,11 +146,11 @@ leads_rest {D} {g} ran = record {
 
 module _ {D : Type 0} {g : Ghosts D} (follow : Follow D g) (old : Hub D g) (driven accepted : EventLoop D g) where
   -- what led to the hub before it accepted, if it did, and then its joins
-  pub then_accepts : (P : Point → Point → Type 0) → Leads old driven.hub P → (due : Bool) (accepts : Accepted due driven accepted)
-      → Leads old accepted.hub (λ h l. (k : Point) × P h k × Adds k (accepted_joins due driven accepted accepts) l)
+  pub then_accepts : (P : Point → Point → Type 0) → RunLeads old driven.hub P → (due : Bool) (accepts : Accepted due driven accepted)
+      → RunLeads old accepted.hub (λ h l. (k : Point) × P h k × Adds k (accepted_joins due driven accepted accepts) l)
   then_accepts P leads true accepts = leads_then follow old driven.hub accepted.hub P _ _ leads accepts.became.1 (λ h k l last p q. (k, p, q))
   then_accepts P leads false untouched =
-      subst (λ (x : Hub D g). Leads old x (λ h l. (k : Point) × P h k × Adds k [] l)) (sym untouched.hub)
+      subst (λ (x : Hub D g). RunLeads old x (λ h l. (k : Point) × P h k × Adds k [] l)) (sym untouched.hub)
       (leads_map old driven.hub P _ leads (λ h k last p. (k, p, adds_none k)))
 
   pub accepts_keep : (slots : Slots (BufferedStream Socket)) → KeepBytes old slots driven.hub driven.table.slots → (due : Bool) → Accepted due driven accepted
@@ -167,7 +167,7 @@ module _ {D : Type 0} {g : Ghosts D} (follow : Follow D g) (old : Hub D g) (driv
 
 -- what led to the hub before it rested leads to it
 module _ {D : Type 0} {g : Ghosts D} (follow : Follow D g) (old : Hub D g) (accepted new : EventLoop D g) (rests : Rests accepted new) where
-  pub rest_leads : (P : Point → Point → Type 0) → Leads old accepted.hub P → Leads old new.hub P
+  pub rest_leads : (P : Point → Point → Type 0) → RunLeads old accepted.hub P → RunLeads old new.hub P
   rest_leads P leads =
       leads_then follow old accepted.hub new.hub P _ P leads (leads_rest rests.hub) (λ h k l stands p same. subst (λ (x : Point). P h x) (sym same) p)
 

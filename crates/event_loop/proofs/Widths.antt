@@ -11,7 +11,7 @@ use Rattle.sessions.specs.declared.hub.Hub.{Hub}
 use Rattle.stream_driver.specs.declared.buffered.BufferedStream.{BufferedStream}
 use Rattle.stream_driver.specs.declared.entries.Entry.{Entry}
 use Rattle.event_loop.proofs.Slots.{Slots}
-use Rattle.event_loop.specs.Numbers.{HavePlaces}
+use Rattle.event_loop.specs.Numbers.{HaveTablePlaces}
 use Rattle.event_loop.specs.Order.{count_below, heavy_streams, is_one, late_below, late_in, light_below, light_in}
 use Rattle.event_loop.specs.Order.{takes_turns, unused_in}
 use Rattle.event_loop.specs.Tables.{after_event, after_poll, reported_slot, slot_at}
@@ -41,7 +41,7 @@ vacant None never = refl
 vacant (Some entry) never = absurd (never entry refl)
 
 -- beyond the places of the table nothing stands
-beyond_places : {T : Type 0} (slots : Slots T) → HavePlaces slots → (key : ℕ) → SESSIONS_MAX ≤ key → slot_at slots key ≡ None
+beyond_places : {T : Type 0} (slots : Slots T) → HaveTablePlaces slots → (key : ℕ) → SESSIONS_MAX ≤ key → slot_at slots key ≡ None
 beyond_places slots places key beyond = vacant (slot_at slots key) (λ entry e. omega (arith, beyond, (places key entry e).place))
 
 -- ---- counts
@@ -99,7 +99,7 @@ module _ {T D : Type 0} {g : Ghosts D} (hub : Hub D g) where
       (λ i beyond. get_or-eq_default slots None beyond)
 
   -- and over those of all sessions, where the poll reported what is ready
-  pub unused_polled : (turns : Turns) (old polled : Slots (BufferedStream T)) (events : List Event) → HavePlaces old
+  pub unused_polled : (turns : Turns) (old polled : Slots (BufferedStream T)) (events : List Event) → HaveTablePlaces old
       → ((key : ℕ) → slot_at polled key ≡ after_poll events key (slot_at old key))
       → unused_in hub turns (slot_at polled) (length polled) ≡ unused_in hub turns (λ key. after_poll events key (slot_at old key)) SESSIONS_MAX
   unused_polled turns old polled events places reported =

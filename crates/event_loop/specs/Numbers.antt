@@ -20,6 +20,6 @@ pub record HasTablePlace (key session : ℕ) : Type 0 where
   pub registered : ∥ WasRegisteredAs key session ∥₁
 
 -- so it is of each
-abbrev pub HavePlaces : {T : Type 0} → List (Option (Entry T)) → Type 0
-HavePlaces {T} slots = (key : ℕ) (entry : Entry T) → slice_index_or slots key None ≡ Some entry
+abbrev pub HaveTablePlaces : {T : Type 0} → List (Option (Entry T)) → Type 0
+HaveTablePlaces {T} slots = (key : ℕ) (entry : Entry T) → slice_index_or slots key None ≡ Some entry
     → HasTablePlace key entry.session

@@ -6,7 +6,7 @@ use Rattle.sessions.specs.SessionStreams.{HubState, SessionStream, replies_text,
 use Rattle.sessions.specs.declared.events.Status.TheVariants.{Open}
 use Rattle.sessions.specs.declared.hub.Hub.{Hub}
 use Rattle.stream_driver.specs.Buffers.{traffic_through}
-use Rattle.stream_driver.specs.Sessions.{Leads}
+use Rattle.stream_driver.specs.Sessions.{RunLeads}
 use Rattle.stream_driver.specs.Traffic.{Traffic}
 use Rattle.stream_driver.specs.declared.buffered.BufferedStream.{BufferedStream}
 use Rattle.stream_driver.specs.declared.entries.Entry.{Entry}
@@ -34,7 +34,7 @@ module _ {T : Type 0} (reports : Type 0) (traffic : T → Traffic) where
 abbrev pub KeepBytes : {D : Type 0} {g : Ghosts D} → Hub D g → List (Option (Entry (BufferedStream Socket))) → Hub D g
     → List (Option (Entry (BufferedStream Socket))) → Type 0
 KeepBytes hub slots later new =
-    Leads hub later (λ h k. HaveBytes SocketsReport (traffic_through traffic_of) h.hub slots
+    RunLeads hub later (λ h k. HaveBytes SocketsReport (traffic_through traffic_of) h.hub slots
     → HaveBytes SocketsReport (traffic_through traffic_of) k.hub new)
 
 -- What came in over a connection is the spellings of its session's requests, and the beginning of one; what went over

@@ -16,7 +16,7 @@ use Rattle.sessions.specs.declared.events.Status.TheVariants.{Absent}
 use Rattle.sessions.specs.declared.events.TheConstants.{SESSIONS_MAX}
 use Rattle.sessions.specs.declared.hub.Hub.{Hub}
 use Rattle.stream_driver.specs.Entries.{EndsDrive, HaveSessions, is_over}
-use Rattle.stream_driver.specs.Sessions.{Adds, Leads, Stands}
+use Rattle.stream_driver.specs.Sessions.{Adds, RunLeads, Stands}
 use Rattle.stream_driver.specs.Traffic.{Traffic}
 use Rattle.stream_driver.specs.declared.buffered.BufferedStream.{BufferedStream}
 use Rattle.stream_driver.specs.declared.entries.Entry.{Entry}
@@ -156,7 +156,7 @@ module _ {T : Type 0} where
           → List (Option (Entry T)) → Type 0
       ComesAs hub next slots answer later then new =
           (admits : Admits hub next slots later then new) × (answer ≡ answer_of hub next slots later then new admits)
-          × Leads hub later (λ h k. Adds h (join_of hub next slots later then new admits) k)
+          × RunLeads hub later (λ h k. Adds h (join_of hub next slots later then new admits) k)
 
       -- how many refusals for memory or by the system there were
       abbrev pub refusals_in : (hub : Hub D g) (next : ℕ) (slots : List (Option (Entry T))) (later : Hub D g) (then : ℕ)
@@ -168,7 +168,7 @@ module _ {T : Type 0} where
       abbrev pub Comes : Hub D g → ℕ → List (Option (Entry T)) → ℕ → Hub D g → ℕ → List (Option (Entry T)) → ℕ → Type 0
       Comes hub next slots refused later then new counted =
           (admits : Admits hub next slots later then new)
-          × Leads hub later (λ h k. Adds h (join_of hub next slots later then new admits) k)
+          × RunLeads hub later (λ h k. Adds h (join_of hub next slots later then new admits) k)
           × (counted ≡ more (refusals_in hub next slots later then new admits) refused)
 
 -- these connections came one after another, and each was let in or turned away
@@ -205,7 +205,8 @@ module _ {T D : Type 0} {g : Ghosts D} where
   abbrev pub ComeEach : (AcceptedSocket → ℕ → ℕ → T → Type 0) → Hub D g → ℕ → List (Option (Entry T)) → ℕ
       → List AcceptedSocket → Hub D g → ℕ → List (Option (Entry T)) → ℕ → Type 0
   ComeEach IsNew hub next slots refused came later then new counted =
-      (each : AdmitsEach IsNew hub next slots came later then new) × Leads hub later (λ h k. Adds h (joins_of each) k)
+      (each : AdmitsEach IsNew hub next slots came later then new)
+      × RunLeads hub later (λ h k. Adds h (joins_of each) k)
       × (counted ≡ more (refusals_of each) refused)
 
   -- so it is of the connections that one turn accepts of a listener

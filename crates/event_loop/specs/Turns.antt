@@ -22,7 +22,7 @@ use Rattle.stream_driver.specs.Appends.{AppendsAtMost, ready_count}
 use Rattle.stream_driver.specs.Buffers.{traffic_through}
 use Rattle.stream_driver.specs.Entries.{DrivenThen}
 use Rattle.stream_driver.specs.Sends.{DrivesAnswering}
-use Rattle.stream_driver.specs.Sessions.{Adds, Leads, Point}
+use Rattle.stream_driver.specs.Sessions.{Adds, RunLeads, Point}
 use Rattle.stream_driver.specs.Traffic.{Traffic}
 use Rattle.stream_driver.specs.Waits.{EachEntry}
 use Rattle.stream_driver.specs.declared.buffered.BufferedStream.{BufferedStream}
@@ -176,7 +176,7 @@ pub record IsTurn {D : Type 0} {g : Ghosts D} (reports : Type 0) (traffic : Sock
   pub accepts : Accepted (accepts_now old.backlog (items new.poller.events)) driven accepted
   pub lingerers_are : lingers_in accepted.lingering ≡ unless_failed accepted.backlog (lingers_in driven.lingering)
   pub rests : Rests accepted new
-  pub run : Leads old.hub new.hub (λ h l. (k : Point)
+  pub run : RunLeads old.hub new.hub (λ h l. (k : Point)
       × DrivenThen reports (traffic_through traffic) (writer_of driven.turns) h drives.ready k drives.driven
       × Adds k (accepted_joins (accepts_now old.backlog (items new.poller.events)) driven accepted accepts) l)
 

@@ -7,7 +7,7 @@ ghost use Rattle.stream_driver.specs.Entries.{HaveSessions};
 ghost use Rattle.event_loop.specs.declared.lingering.TheConstants.{LINGERING_MAX};
 ghost use Rattle.event_loop.specs.declared.order.TheConstants.{WIDTH_MIN, WIDTH_PARTS};
 ghost use Rattle.event_loop.specs.Departures.{IsServing};
-ghost use Rattle.event_loop.specs.Numbers.{SessionsAreBelow, HavePlaces};
+ghost use Rattle.event_loop.specs.Numbers.{SessionsAreBelow, HaveTablePlaces};
 ghost use Rattle.event_loop.specs.Peers.{AreRested, LackNothing};
 ghost use Rattle.event_loop.specs.Tables.{HaveEntries};
 
@@ -66,7 +66,7 @@ pub struct EventLoop<D: Sectors> {
     ghost sessions: { HaveSessions hub table.slots },
     ghost entries: { HaveEntries hub table.slots },
     ghost numbers: { SessionsAreBelow next table.slots },
-    ghost places: { HavePlaces table.slots },
+    ghost places: { HaveTablePlaces table.slots },
     ghost peers: { LackNothing hub table.slots },
     ghost rested: { AreRested table.slots },
     ghost next_place: { turns.next < SESSIONS_MAX },

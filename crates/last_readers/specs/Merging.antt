@@ -42,8 +42,8 @@ abbrev pub with_step : StepValue → ℕ → List StepValue → List StepValue
 with_step m below ts = if is_level below m then ts else m ∷ ts
 
 -- so a step was put in front of what was made, where xs and ys are left; its numbers up to o count as none
-abbrev pub IsMade : ℕ → List StepValue → List StepValue → List StepValue → List StepValue → Type 0
-IsMade o xs ys ts ts' = (m : StepValue) × (m.at ≡ cut o m.at) × (m.above ≡ cut o m.above)
+abbrev pub IsStepMade : ℕ → List StepValue → List StepValue → List StepValue → List StepValue → Type 0
+IsStepMade o xs ys ts ts' = (m : StepValue) × (m.at ≡ cut o m.at) × (m.above ≡ cut o m.above)
     × (ts' ≡ with_step m (later o (end_of xs) (end_of ys)) ts)
 
 -- the numbers of the new lists are none or from n on, where those of the old ones are
@@ -59,7 +59,7 @@ StayMerged o xs ys ts xs' ys' ts' = (k : Bytes) → cut o (merged_at xs ys ts k)
 -- so the greatest key of xs' and ys' has moved in front of ts'
 pub record MovesGreatest (o : ℕ) (xs ys ts xs' ys' ts' : List StepValue) : Type 0 where
   pub same : StayMerged o xs ys ts xs' ys' ts'
-  pub made : IsMade o xs ys ts' ts
+  pub made : IsStepMade o xs ys ts' ts
   pub from : StayFrom xs ys ts xs' ys' ts'
 
 -- the steps of either list rise up to those that are made

@@ -3,7 +3,7 @@ ghost use Rattle.std.specs.Prelude.{◌≡◌, ◌≤◌, ◌<◌, ◌+◌, ◌+
 ghost use Rattle.last_readers.specs.Readers.{IsWithRun, greatest_at};
 ghost use Rattle.last_readers.specs.Steps.{cut, is_named_in, is_run_from};
 ghost use Rattle.last_readers.specs.Inside.{run_of, runs_in, steps_count, read_run_size};
-ghost use Rattle.last_readers.specs.Merging.{IsMade};
+ghost use Rattle.last_readers.specs.Merging.{IsStepMade};
 ghost use Rattle.last_readers.specs.Agreeing.{ReadersAgree, readers_agree_between, run_from_later, no_old_readers};
 ghost use Rattle.std.proofs.Common.{refl, ◌∙◌};
 
@@ -71,7 +71,7 @@ impl Run for ReadRun {
 
     ghost begin_numbers = { λ begins. begins.items };
 
-    ghost makes = { λ active o old new. IsMade o new.first.items new.second.items old.made.items new.made.items };
+    ghost makes = { λ active o old new. IsStepMade o new.first.items new.second.items old.made.items new.made.items };
 
     // a merge drops nothing that someone could ask for
     ghost asks = { λ _ _. true };

@@ -27,7 +27,7 @@ use Rattle.snapshot.proofs.Pages.{end_above}
 use Rattle.snapshot.proofs.Pieces.{merged-range}
 use Rattle.snapshot.specs.Ahead.{merged_pairs, with_ahead}
 use Rattle.snapshot.specs.Made.{HasMade, MakesOneMoreOver, IsFault, IsKnownRange, range_read, is_refused}
-use Rattle.snapshot.specs.Merged.{merged, page_mark, with_page, has_page, all_rows, rows_of, after_range}
+use Rattle.snapshot.specs.Merged.{merged, page_mark, with_page_marks, has_page, all_rows, rows_of, after_range}
 use Rattle.snapshot.specs.Merged.{is_full_range}
 use Rattle.snapshot.specs.View.{View, copy_held, marked}
 use Rattle.snapshot.specs.declared.faults.SnapshotFault.{SnapshotFault}
@@ -117,9 +117,10 @@ module _ (t now : View) (v : ChainsValue) (r : RangeRef) (limit : ℕ) (all : Ke
       → f t.marks r limit (take limit all) ≡ f now.marks r limit (rows_of now (map_seen v now.begin) r limit)
   page_now f = λ i. f (is i).marks r limit (rows_now i)
 
-  pub after_now : (ms : List Mark) → ms ≡ with_page t.marks r limit (take limit all) → record t { marks = ms } ≡ after_range now (map_seen v now.begin) r limit
+  pub after_now : (ms : List Mark) → ms ≡ with_page_marks t.marks r limit (take limit all)
+      → record t { marks = ms } ≡ after_range now (map_seen v now.begin) r limit
   after_now ms e =
-      ap (λ (ns : List Mark). record t { marks = ns }) (e ∙ ap (λ (ps : KeyMap). with_page t.marks r limit (take limit ps)) same)
+      ap (λ (ns : List Mark). record t { marks = ns }) (e ∙ ap (λ (ps : KeyMap). with_page_marks t.marks r limit (take limit ps)) same)
       ∙ elim (is_empty_range (key_bytes r.lo) (end_bytes r.hi)) as
       (λ b. record t { marks = if b then t.marks else with_mark t.marks (page_mark r limit (rows_of t (map_seen v t.begin) r limit)) }
       ≡ (if b then t else marked t (page_mark r limit (rows_of t (map_seen v t.begin) r limit)))) [ true ↦ refl | false ↦ refl ]

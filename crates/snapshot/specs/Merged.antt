@@ -34,8 +34,8 @@ abbrev pub page_mark : RangeRef → ℕ → KeyMap → Mark
 page_mark r limit page = mark_of_reply (key_bytes r.lo) (end_bytes r.hi) limit page
 
 -- the marks with that of the page, which is none where the range is empty
-abbrev pub with_page : List Mark → RangeRef → ℕ → KeyMap → List Mark
-with_page ms r limit page =
+abbrev pub with_page_marks : List Mark → RangeRef → ℕ → KeyMap → List Mark
+with_page_marks ms r limit page =
     if is_empty_range (key_bytes r.lo) (end_bytes r.hi) then ms else with_mark ms (page_mark r limit page)
 
 -- the page needs a mark for which there is no room, and it needs no new mark

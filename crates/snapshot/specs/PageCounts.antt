@@ -6,12 +6,12 @@ use Rattle.snapshot.specs.declared.merge.MergedPairs.{MergedPairs}
 use Rattle.snapshot.specs.declared.rows.Rows.{Rows}
 
 -- a walk that has given the first n of the pairs has counted so many pages
-pub record IsCounted (m : MergedPairs) (n counted : ℕ) : Type 0 where
+pub record CountsPagesBehind (m : MergedPairs) (n counted : ℕ) : Type 0 where
   pub rest : MergedPairs
   pub left : merged_pairs rest ≡ drop n (merged_pairs m)
   pub goes : GoesOn m.pairs rest.pairs
   pub is : counted ≡ pages_looked_at rest.pairs
 
 -- so it is of the rows, when none of them is given yet
-abbrev pub AreCounted : Rows → Type 0
-AreCounted r = IsCounted r.rest r.left r.pages_looked_at
+abbrev pub CountsItsPages : Rows → Type 0
+CountsItsPages r = CountsPagesBehind r.rest r.left r.pages_looked_at

@@ -5,8 +5,8 @@ ghost use Rattle.model.specs.KeyBytes.{key_bytes, end_bytes};
 ghost use Rattle.model.specs.Map.{key_cmp, IsInBounds};
 ghost use Rattle.model.specs.PrivateCopy.{page_end};
 ghost use Rattle.snapshot.specs.Ahead.{page_of};
-ghost use Rattle.snapshot.specs.PageCounts.{IsCounted};
-ghost use Rattle.snapshot.specs.Merged.{with_page, is_full_for_page, has_page};
+ghost use Rattle.snapshot.specs.PageCounts.{CountsPagesBehind};
+ghost use Rattle.snapshot.specs.Merged.{with_page_marks, is_full_for_page, has_page};
 ghost use Rattle.snapshot.specs.Made.{MarkFaults};
 
 use crate::faults::SnapshotFault;
@@ -28,7 +28,7 @@ pub(crate) struct Page<'a> {
 fn find_page<'a>(pairs: MergedPairs<'a>, limit: u8) -> Page<'a>
     ensures len { result.len ≡ length (page_of limit pairs.entry) }
     ensures end { end_bytes result.end ≡ page_end limit (page_of limit pairs.entry) }
-    ensures counts { IsCounted pairs.entry result.len result.pages_looked_at }
+    ensures counts { CountsPagesBehind pairs.entry result.len result.pages_looked_at }
     ensures in_bounds { IsInBounds (page_of limit pairs.entry) }
 {
     let mut rest = pairs;
@@ -61,9 +61,9 @@ pub(crate) fn mark_page<'a>(
 ) -> Result<Page<'a>, SnapshotFault>
     requires { (last : List ℕ) → page_end limit (page_of limit pairs) ≡ Some last
         → IsTrue (is_le (key_cmp (key_bytes range.lo) last)) }
-    ensures ok { OnOk result (marks.new ≡ with_page marks.old range.entry limit (page_of limit pairs.entry)) }
+    ensures ok { OnOk result (marks.new ≡ with_page_marks marks.old range.entry limit (page_of limit pairs.entry)) }
     ensures len { IfOk result (λ page. page.len ≡ length (page_of limit pairs.entry)) }
-    ensures counts { IfOk result (λ page. IsCounted pairs.entry page.len page.pages_looked_at) }
+    ensures counts { IfOk result (λ page. CountsPagesBehind pairs.entry page.len page.pages_looked_at) }
     ensures in_bounds { IsInBounds (page_of limit pairs.entry) }
     ensures err { OnErr result (marks.new ≡ marks.old) }
     ensures faults { MarkFaults result (is_full_for_page marks.old range.entry limit (page_of limit pairs.entry))

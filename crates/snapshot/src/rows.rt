@@ -21,15 +21,15 @@ impl<'a> Rows<'a> {
     ghost use Rattle.std.specs.Iterator.{AlwaysYields, YieldsFirstBy};
     ghost use Rattle.model.specs.KeyBytes.{pair_bytes};
     ghost use Rattle.snapshot.specs.Ahead.{merged_pairs};
-    ghost use Rattle.snapshot.specs.PageCounts.{AreCounted, IsCounted};
+    ghost use Rattle.snapshot.specs.PageCounts.{CountsItsPages, CountsPagesBehind};
     ghost use Rattle.snapshot.specs.RowPairs.{row_pairs, rows_looked_at};
 
     // The first `left` of the pairs, with how many pages the walk that found them has looked at.
     pub(crate) fn new(rest: MergedPairs<'a>, left: usize, pages_looked_at: usize) -> Rows<'a>
         requires within { left ≤ length (merged_pairs rest) }
-        requires counts { IsCounted rest left pages_looked_at }
+        requires counts { CountsPagesBehind rest left pages_looked_at }
         ensures pairs { row_pairs result ≡ take left (merged_pairs rest.entry) }
-        ensures counts { AreCounted result }
+        ensures counts { CountsItsPages result }
     {
         Rows {
             rest,

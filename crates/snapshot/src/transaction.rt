@@ -15,7 +15,7 @@ ghost use Rattle.snapshot.specs.RowPairs.{row_pairs};
 ghost use Rattle.snapshot.specs.Made.{HasMade, WhereMade, WhereSeen, MakesOneMore, IsFullWhen, IsValueReply};
 ghost use Rattle.snapshot.specs.Made.{MarkFaults, IsDoneReply, IsKnownRange, IsLeftByGet, range_read};
 ghost use Rattle.snapshot.specs.PairsReply.{IsPairsReply, IsLeftByRange};
-ghost use Rattle.snapshot.specs.PageCounts.{AreCounted};
+ghost use Rattle.snapshot.specs.PageCounts.{CountsItsPages};
 ghost use Rattle.snapshot.specs.contracts.transaction.Transaction.{the_row};
 
 use crate::faults::SnapshotFault;
@@ -174,7 +174,7 @@ impl Transaction {
             (λ m qs. IsPairsReply result (answer m qs (range_read range.entry limit))) }
         ensures few { IfOk result (λ rows. length (row_pairs rows) ≤ limit) }
         ensures in_bounds { IfOk result (λ rows. IsInBounds (row_pairs rows)) }
-        ensures counts { IfOk result AreCounted }
+        ensures counts { IfOk result CountsItsPages }
         ensures* after { sem 𝓛
             (Rests the_row self.entry (λ new. IsLeftByRange versions.now self.old range.entry limit result new)) }
     {

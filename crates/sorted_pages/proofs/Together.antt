@@ -15,7 +15,7 @@ use Rattle.model.proofs.KeyOrder.{less_trans, same_keys}
 use Rattle.model.specs.Map.{Bytes, key_cmp}
 use Rattle.sorted_pages.proofs.Keys.{first_of}
 use Rattle.sorted_pages.specs.Pages.{HasEntry, IsInOrder, Page, entries, is_together, last_room, room_at}
-use Rattle.sorted_pages.specs.Pages.{starts_alike, starts_by}
+use Rattle.sorted_pages.specs.Pages.{start_together, starts_by}
 
 refuted : (b : Bool) → (b ≡ true → ⊥) → b ≡ false
 refuted true h = absurd (h refl)
@@ -65,41 +65,41 @@ module _ {X : Type 0} where
   -- ---- pages that start alike
 
   abbrev Alike : Bytes → Bytes → List (Page X) → Bool
-  Alike j k ps = list_all (λ (p : Page X). starts_alike j k p.0) ps
+  Alike j k ps = list_all (λ (p : Page X). start_together j k p.0) ps
 
-  same_alike : (j k : Bytes) (es fs : List (Bytes × X)) → ((q : Bytes) → starts_by q es ≡ starts_by q fs) → starts_alike j k es ≡ starts_alike j k fs
+  same_alike : (j k : Bytes) (es fs : List (Bytes × X)) → ((q : Bytes) → starts_by q es ≡ starts_by q fs) → start_together j k es ≡ start_together j k fs
   same_alike j k es fs s = λ i. if s j i then s k i else not (s k i)
 
-  both_alike : (j k : Bytes) (es : List (Bytes × X)) → starts_by j es ≡ true → starts_by k es ≡ true → starts_alike j k es ≡ true
+  both_alike : (j k : Bytes) (es : List (Bytes × X)) → starts_by j es ≡ true → starts_by k es ≡ true → start_together j k es ≡ true
   both_alike j k es s t = ap (λ b. if b then starts_by k es else not (starts_by k es)) s ∙ t
 
-  neither_alike : (j k : Bytes) (es : List (Bytes × X)) → starts_by j es ≡ false → starts_by k es ≡ false → starts_alike j k es ≡ true
+  neither_alike : (j k : Bytes) (es : List (Bytes × X)) → starts_by j es ≡ false → starts_by k es ≡ false → start_together j k es ≡ true
   neither_alike j k es s t = ap (λ b. if b then starts_by k es else not (starts_by k es)) s ∙ ap not t
 
   none_alike : (j k : Bytes) (ps : List (Page X)) → AllByRecursion (λ (p : Page X). starts_by j p.0 ≡ false) ps
       → AllByRecursion (λ (p : Page X). starts_by k p.0 ≡ false) ps → Alike j k ps ≡ true
   none_alike j k [] f g = refl
-  none_alike j k (p ∷ ps) f g = and_from (starts_alike j k p.0) (Alike j k ps) (neither_alike j k p.0 f.0 g.0) (none_alike j k ps f.1 g.1)
+  none_alike j k (p ∷ ps) f g = and_from (start_together j k p.0) (Alike j k ps) (neither_alike j k p.0 f.0 g.0) (none_alike j k ps f.1 g.1)
 
   alike_before : (j k : Bytes) (before : List (Page X)) (page : Page X) (after : List (Page X)) → IsSorted (entries (before ++ page ∷ after))
       → AllByRecursion HasEntry (before ++ page ∷ after) → starts_by j page.0 ≡ true → starts_by k page.0 ≡ true → Alike j k after ≡ true
       → Alike j k (before ++ page ∷ after) ≡ true
-  alike_before j k [] page after h f s t a = and_from (starts_alike j k page.0) (Alike j k after) (both_alike j k page.0 s t) a
+  alike_before j k [] page after h f s t a = and_from (start_together j k page.0) (Alike j k after) (both_alike j k page.0 s t) a
   alike_before j k (b ∷ before) page after h f s t a =
       let rest = before ++ page ∷ after in
       let lt : length before < length rest = omega (arith, length-append before (page ∷ after)) in
       let at = get_or_at before page after page (length before) refl in
       let too = λ (q : Bytes) (w : starts_by q page.0 ≡ true).
       starts_too q b.0 rest (length before) page h f.1 lt (ap (λ (p : Page X). starts_by q p.0) at ∙ w) in
-      and_from (starts_alike j k b.0) (Alike j k rest) (both_alike j k b.0 (too j s) (too k t))
+      and_from (start_together j k b.0) (Alike j k rest) (both_alike j k b.0 (too j s) (too k t))
       (alike_before j k before page after (sorted_right key_cmp b.0 (entries rest) h) f.1 s t a)
 
-  not_alike_next : (j k : Bytes) (before : List (Page X)) (page next : Page X) (after : List (Page X)) → starts_alike j k next.0 ≡ false
+  not_alike_next : (j k : Bytes) (before : List (Page X)) (page next : Page X) (after : List (Page X)) → start_together j k next.0 ≡ false
       → Alike j k (before ++ page ∷ next ∷ after) ≡ false
   not_alike_next j k [] page next after e =
-      and_right (starts_alike j k page.0) (Alike j k (next ∷ after)) (and_left (starts_alike j k next.0) (Alike j k after) e)
+      and_right (start_together j k page.0) (Alike j k (next ∷ after)) (and_left (start_together j k next.0) (Alike j k after) e)
   not_alike_next j k (b ∷ before) page next after e =
-      and_right (starts_alike j k b.0) (Alike j k (before ++ page ∷ next ∷ after)) (not_alike_next j k before page next after e)
+      and_right (start_together j k b.0) (Alike j k (before ++ page ∷ next ∷ after)) (not_alike_next j k before page next after e)
 
   -- ---- in a page, or not
 
@@ -116,37 +116,37 @@ module _ {X : Type 0} where
       → starts_by k next.0 ≡ true → is_together j k (before ++ page ∷ next ∷ after) ≡ false
   behind_page j k before page next after s t = by before
     where
-      e : starts_alike j k next.0 ≡ false
+      e : start_together j k next.0 ≡ false
       e = ap (λ b. if b then starts_by k next.0 else not (starts_by k next.0)) s ∙ ap not t
 
       by : (bs : List (Page X)) → is_together j k (bs ++ page ∷ next ∷ after) ≡ false
-      by [] = and_left (starts_alike j k next.0) (Alike j k after) e
+      by [] = and_left (start_together j k next.0) (Alike j k after) e
       by (b ∷ bs) = not_alike_next j k bs page next after e
 
   -- ---- another page in a page's place, or two
 
-  replaced : (j k : Bytes) (before : List (Page X)) (p r : Page X) (after : List (Page X)) → starts_alike j k r.0 ≡ starts_alike j k p.0
+  replaced : (j k : Bytes) (before : List (Page X)) (p r : Page X) (after : List (Page X)) → start_together j k r.0 ≡ start_together j k p.0
       → Alike j k (before ++ r ∷ after) ≡ Alike j k (before ++ p ∷ after)
   replaced j k [] p r after e = ap (λ b. b && Alike j k after) e
-  replaced j k (b ∷ before) p r after e = ap (λ c. starts_alike j k b.0 && c) (replaced j k before p r after e)
+  replaced j k (b ∷ before) p r after e = ap (λ c. start_together j k b.0 && c) (replaced j k before p r after e)
 
   pub together-replaced : (j k : Bytes) (before : List (Page X)) (p r : Page X) (after : List (Page X))
       → (0 < length before → (q : Bytes) → starts_by q r.0 ≡ starts_by q p.0) → is_together j k (before ++ r ∷ after) ≡ is_together j k (before ++ p ∷ after)
   together-replaced j k [] p r after s = refl
   together-replaced j k (b ∷ before) p r after s = replaced j k before p r after (same_alike j k r.0 p.0 (s (omega arith)))
 
-  alike-split : (j k : Bytes) (before : List (Page X)) (p lo up : Page X) (after : List (Page X)) → starts_alike j k lo.0 ≡ starts_alike j k p.0
+  alike-split : (j k : Bytes) (before : List (Page X)) (p lo up : Page X) (after : List (Page X)) → start_together j k lo.0 ≡ start_together j k p.0
       → Alike j k (before ++ lo ∷ up ∷ after) ≡ true → Alike j k (before ++ p ∷ after) ≡ true
   alike-split j k [] p lo up after e h =
-      let a = and_parts (starts_alike j k lo.0) (starts_alike j k up.0 && Alike j k after) h in
-      and_from (starts_alike j k p.0) (Alike j k after) (sym e ∙ a.0) (and_parts (starts_alike j k up.0) (Alike j k after) a.1).1
+      let a = and_parts (start_together j k lo.0) (start_together j k up.0 && Alike j k after) h in
+      and_from (start_together j k p.0) (Alike j k after) (sym e ∙ a.0) (and_parts (start_together j k up.0) (Alike j k after) a.1).1
   alike-split j k (b ∷ before) p lo up after e h =
-      let a = and_parts (starts_alike j k b.0) (Alike j k (before ++ lo ∷ up ∷ after)) h in
-      and_from (starts_alike j k b.0) (Alike j k (before ++ p ∷ after)) a.0 (alike-split j k before p lo up after e a.1)
+      let a = and_parts (start_together j k b.0) (Alike j k (before ++ lo ∷ up ∷ after)) h in
+      and_from (start_together j k b.0) (Alike j k (before ++ p ∷ after)) a.0 (alike-split j k before p lo up after e a.1)
 
   pub together-split : (j k : Bytes) (before : List (Page X)) (p lo up : Page X) (after : List (Page X)) → ((q : Bytes) → starts_by q p.0 ≡ starts_by q lo.0)
       → is_together j k (before ++ lo ∷ up ∷ after) ≡ true → is_together j k (before ++ p ∷ after) ≡ true
-  together-split j k [] p lo up after s h = (and_parts (starts_alike j k up.0) (Alike j k after) h).1
+  together-split j k [] p lo up after s h = (and_parts (start_together j k up.0) (Alike j k after) h).1
   together-split j k (b ∷ before) p lo up after s h =
       alike-split j k before p lo up after (same_alike j k lo.0 p.0 (λ q. sym (s q))) h
 
@@ -155,7 +155,7 @@ module _ {X : Type 0} where
   last_room-alike : (j k : Bytes) (n : ℕ) (ps : List (Page X)) → Alike j k ps ≡ true → last_room n j ps ≡ last_room n k ps
   last_room-alike j k n [] h = refl
   last_room-alike j k n (p ∷ ps) h =
-      let a = and_parts (starts_alike j k p.0) (Alike j k ps) h in
+      let a = and_parts (start_together j k p.0) (Alike j k ps) h in
       let same = alike_same (starts_by j p.0) (starts_by k p.0) a.0 in
       ap (λ b. last_room (if b then p.1 else n) j ps) same ∙ last_room-alike j k (if starts_by k p.0 then p.1 else n) ps a.1
 
@@ -165,7 +165,7 @@ module _ {X : Type 0} where
 
   alike_itself : (k : Bytes) (ps : List (Page X)) → Alike k k ps ≡ true
   alike_itself k [] = refl
-  alike_itself k (p ∷ ps) = and_from (starts_alike k k p.0) (Alike k k ps) (same_itself (starts_by k p.0)) (alike_itself k ps)
+  alike_itself k (p ∷ ps) = and_from (start_together k k p.0) (Alike k k ps) (same_itself (starts_by k p.0)) (alike_itself k ps)
 
   pub together_itself : (k : Bytes) (ps : List (Page X)) → is_together k k ps ≡ true
   together_itself k [] = refl
@@ -174,7 +174,7 @@ module _ {X : Type 0} where
   alike_as : (j k q : Bytes) (ps : List (Page X)) → Alike j k ps ≡ true → Alike j q ps ≡ Alike k q ps
   alike_as j k q [] h = refl
   alike_as j k q (p ∷ ps) h =
-      let a = and_parts (starts_alike j k p.0) (Alike j k ps) h in
+      let a = and_parts (start_together j k p.0) (Alike j k ps) h in
       let same = alike_same (starts_by j p.0) (starts_by k p.0) a.0 in
       let rest = alike_as j k q ps a.1 in
       λ i. (if same i then starts_by q p.0 else not (starts_by q p.0)) && rest i
@@ -191,10 +191,10 @@ module _ {X : Type 0} where
   alike_between : (i j k : Bytes) (ps : List (Page X)) → key_cmp i j ≡ Less → key_cmp j k ≡ Less → Alike i k ps ≡ true → Alike i j ps ≡ true
   alike_between i j k [] l m h = refl
   alike_between i j k (p ∷ ps) l m h =
-      let a = and_parts (starts_alike i k p.0) (Alike i k ps) h in
+      let a = and_parts (start_together i k p.0) (Alike i k ps) h in
       let here =
       in_middle (starts_by i p.0) (starts_by j p.0) (starts_by k p.0) (λ s. starts_more i j p.0 l s) (λ s. starts_more j k p.0 m s) a.0 in
-      and_from (starts_alike i j p.0) (Alike i j ps) here (alike_between i j k ps l m a.1)
+      and_from (start_together i j p.0) (Alike i j ps) here (alike_between i j k ps l m a.1)
 
   -- a key between two of a page stands there
   pub together_between : (i j k : Bytes) (ps : List (Page X)) → key_cmp i j ≡ Less → key_cmp j k ≡ Less → is_together i k ps ≡ true

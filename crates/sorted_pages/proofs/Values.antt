@@ -20,7 +20,7 @@ use Rattle.model.specs.Map.{Bytes, key_cmp}
 use Rattle.sorted_pages.proofs.Keys.{find_behind, put_behind}
 use Rattle.sorted_pages.proofs.Placings.{page_is, set_is, find_at, grown, inserted}
 use Rattle.sorted_pages.specs.Pages.{Page, entries, starts_by, last_room, room_at, AreBelow, IsPlace, IsInOrder}
-use Rattle.sorted_pages.specs.Pages.{is_together, starts_alike}
+use Rattle.sorted_pages.specs.Pages.{is_together, start_together}
 use Rattle.sorted_pages.specs.Trims.{put_some, changed_at}
 
 -- the page with this value at a key that it has
@@ -101,7 +101,7 @@ module _ {X : Type 0} where
       grind (arith, first, rest)
 
   alike-with_value : (i j : Bytes) (ps : List (Page X)) (k : Bytes) (v : X) → IsSorted (entries ps)
-      → list_all (λ (p : Page X). starts_alike i j p.0) (with_value ps k v) ≡ list_all (λ (p : Page X). starts_alike i j p.0) ps
+      → list_all (λ (p : Page X). start_together i j p.0) (with_value ps k v) ≡ list_all (λ (p : Page X). start_together i j p.0) ps
   alike-with_value i j [] k v h = refl
   alike-with_value i j (p ∷ ps) k v h =
       let first = λ (q : Bytes). starts_found q k v p.0 (sorted_left key_cmp p.0 (entries ps) h) in

@@ -85,13 +85,13 @@ page_entries k [] = []
 page_entries k (p ∷ ps) = (last_page p k ps).0
 
 -- the first key is at most both, or at most neither
-abbrev pub starts_alike : {X : Type 0} → Bytes → Bytes → List (Bytes × X) → Bool
-starts_alike j k es = if starts_by j es then starts_by k es else not (starts_by k es)
+abbrev pub start_together : {X : Type 0} → Bytes → Bytes → List (Bytes × X) → Bool
+start_together j k es = if starts_by j es then starts_by k es else not (starts_by k es)
 
 -- j and k stand or would stand in the same page: each page but the first starts by both or by neither
 abbrev pub is_together : {X : Type 0} → Bytes → Bytes → List (Page X) → Bool
 is_together j k [] = true
-is_together j k (p ∷ ps) = list_all (λ p. starts_alike j k p.0) ps
+is_together j k (p ∷ ps) = list_all (λ p. start_together j k p.0) ps
 
 -- where k doesn't stand behind all entries of its page, its page has half as many entries as before, one more or less
 pub record IsHalved {X : Type 0} (k : Bytes) (old new : List (Page X)) : Type 0 where
@@ -179,11 +179,11 @@ pub record IsInsertionPoint {X : Type 0} (ps : List (Page X)) (k : Bytes) (i j :
   pub gap : 0 < length ps → (p : Page X) → IsGap (slice_index_or ps i p).0 k j
 
 -- keys that stand in the same page stood in the same one before
-abbrev pub AreApart : {X : Type 0} → List (Page X) → List (Page X) → Type 0
-AreApart old new = (j k : Bytes) → is_together j k new ≡ true → is_together j k old ≡ true
+abbrev pub StayApart : {X : Type 0} → List (Page X) → List (Page X) → Type 0
+StayApart old new = (j k : Bytes) → is_together j k new ≡ true → is_together j k old ≡ true
 
 -- the same entries, no less room for any key, and no more keys to a page
 pub record IsRoomier {X : Type 0} (old new : List (Page X)) : Type 0 where
   pub entries : entries new ≡ entries old
   pub rooms : (q : Bytes) → room_at q old ≤ room_at q new
-  pub apart : AreApart old new
+  pub apart : StayApart old new

@@ -26,7 +26,7 @@ use Rattle.stream_driver.specs.Appends.{count_if_ready, share_end}
 use Rattle.stream_driver.specs.Calls.{WritesOut, WritesSome}
 use Rattle.stream_driver.specs.Entries.{all_but}
 use Rattle.stream_driver.specs.Sends.{LeadsAnswering}
-use Rattle.stream_driver.specs.Sessions.{Ghosts, Hub, Leads, Stands, pending_at, session_of}
+use Rattle.stream_driver.specs.Sessions.{Ghosts, Hub, RunLeads, Stands, pending_at, session_of}
 use Rattle.stream_driver.specs.Traffic.{EndsFor, ReceivesBytes, Share, TakesOf, Traffic, SendsBytes}
 use Rattle.stream_driver.specs.Traffic.{WritesWithin, bytes_written}
 use Rattle.stream_driver.specs.Types.{Appended, Looked, Empty, Exchange, WriteAnswer, Wrote, WriteBlocked}
@@ -319,7 +319,7 @@ module _ {D : Type 0} {g : Ghosts D} {T : Type 0} {keeps reports : Type 0} {traf
 
   -- so many bytes were written of what was pending
   pub spends_some : {a b : Hub D g} {t u : T} {before after : Traffic} (n : ℕ) → Stands a
-      → Leads a b (λ h k. WritesSome s reports h before (Wrote n) k after) → (keeps → Spends reports traffic share t n u) → AddsNone s a b
+      → RunLeads a b (λ h k. WritesSome s reports h before (Wrote n) k after) → (keeps → Spends reports traffic share t n u) → AddsNone s a b
       → SpendsShare keeps reports traffic share s a t b u
   spends_some {a} {b} n some leads takes adds = record {
     sent = n;

@@ -14,7 +14,7 @@ use Rattle.sessions.specs.SessionStreams.{HubState, SessionStream, HubEvent, Cho
 use Rattle.stream_driver.proofs.Events.{no_events}
 use Rattle.stream_driver.specs.Calls.{Moves}
 use Rattle.stream_driver.specs.Drives.{Carried}
-use Rattle.stream_driver.specs.Sessions.{Adds, ComeInTurn, GoesOn, Point, RunsOneSession, session_of, status_at}
+use Rattle.stream_driver.specs.Sessions.{Adds, ComeInTurn, Continues, Point, RunsOneSession, session_of, status_at}
 use Rattle.stream_driver.specs.Sessions.{IsPresentIn}
 use Rattle.stream_driver.specs.Traffic.{Traffic}
 
@@ -28,7 +28,7 @@ pub texts_then : (gone1 pend1 pend1' pend0 made1 gone2 pend2 made2 : List ℕ) �
 texts_then gone1 pend1 pend1' pend0 made1 gone2 pend2 made2 e same f =
     grind (arith, common_steps)
 
-abbrev pub history_then : (a b b' c : SessionStream) → b' ≡ b → GoesOn a b → GoesOn b' c → GoesOn a c
+abbrev pub history_then : (a b b' c : SessionStream) → b' ≡ b → Continues a b → Continues b' c → Continues a c
 history_then a b b' c same p q =
     let received = grown a.received b.received b'.received c.received p.received q.received p.received_is (ap (λ x. x.received) same) q.received_is in
     let served = grown a.served b.served b'.served c.served p.served q.served p.served_is (ap (λ x. x.served) same) q.served_is in

@@ -22,7 +22,7 @@ use Rattle.sessions.specs.StandsFor.{status_in}
 use Rattle.sessions.specs.declared.events.Outcome.{Outcome}
 use Rattle.sessions.specs.declared.events.Outcome.TheVariants.{Done, Memory, Idle}
 use Rattle.sessions.specs.declared.events.Status.TheVariants.{Absent, Open, Ending, Refused}
-use Rattle.stream_driver.specs.Sessions.{Adds, GoesOn, Point, RunsOneSession, session_of, status_at, IsPresentIn}
+use Rattle.stream_driver.specs.Sessions.{Adds, Continues, Point, RunsOneSession, session_of, status_at, IsPresentIn}
 
 -- ---- sessions in the list of those that are present, after one of them has changed or gone
 
@@ -57,14 +57,14 @@ open_present h s is = λ gone. (let bad : Open ≡ Absent = sym is ∙ gone in c
 -- each list of the history grows by so much
 abbrev pub grows_by : (first last : SessionStream) (received : Bytes) (served : List (List Bytes)) (replies : List Response) (sent : Bytes)
     → last.received ≡ first.received ++ received → last.served ≡ first.served ++ served → last.replies ≡ first.replies ++ replies
-    → last.sent ≡ first.sent ++ sent → sent ++ last.now.pending ≡ first.now.pending ++ flat_map reply_text replies → GoesOn first last
+    → last.sent ≡ first.sent ++ sent → sent ++ last.now.pending ≡ first.now.pending ++ flat_map reply_text replies → Continues first last
 grows_by first last received served replies sent received_is served_is replies_is sent_is texts = search (received_is, served_is, replies_is, sent_is, texts)
 
 abbrev pub still : {A : Type 0} (xs : List A) → xs ≡ xs ++ []
 still xs = sym (append-nil xs)
 
 -- nothing has happened
-abbrev pub same_history : (st : SessionStream) → GoesOn st st
+abbrev pub same_history : (st : SessionStream) → Continues st st
 same_history st = grows_by st st [] [] [] [] (still st.received) (still st.served) (still st.replies) (still st.sent) (still st.now.pending)
 
 abbrev pub adds_none : (p : Point) → Adds p [] p
@@ -93,7 +93,7 @@ fails_then e c risen same some = grind arith
 -- one event that changes its session's history alone
 abbrev pub one_event : (s : ℕ) (p : Point) (e : HubEvent) (c : Choice) (count : ℕ) (first last : SessionStream) → session_of e ≡ s → Happens p e c count
     → stream_of p.hub s ≡ Some first
-    → (hub_step p.hub e c).0.present ≡ set_value (test s) p.hub.present last → GoesOn first last → last.now.status ≢ Absent
+    → (hub_step p.hub e c).0.present ≡ set_value (test s) p.hub.present last → Continues first last → last.now.status ≢ Absent
     → RunsOneSession s p (point_after p e c count)
 one_event s p e c count first last own happens is changes history present =
     let adds : Adds p ((e, c) ∷ []) (point_after p e c count) = record { run_is = refl; events_are = refl } in
@@ -116,7 +116,7 @@ pub receives : (h : HubState) (s : ℕ) (piece : Bytes) (c : Choice) (st : Sessi
 unfolding hub_step
 receives h s piece c st is opened fits = let test : nat_lt (room st.now) (length piece) ≡ false = grind (arith, nat_tests) in rw (is, opened, test) refl
 
-abbrev pub bytes_came : (st : SessionStream) (piece : Bytes) → GoesOn st (received_by st piece)
+abbrev pub bytes_came : (st : SessionStream) (piece : Bytes) → Continues st (received_by st piece)
 bytes_came st piece =
     grows_by st (received_by st piece) piece [] [] [] refl (still st.served) (still st.replies) (still st.sent) (still st.now.pending)
 
@@ -133,7 +133,7 @@ pub sends : (h : HubState) (s n : ℕ) (c : Choice) (st : SessionStream) → str
 unfolding hub_step
 sends h s n c st is fits = let test : nat_le n (length st.now.pending) ≡ true = grind (arith, nat_tests) in rw (is, test) refl
 
-abbrev pub bytes_went : (st : SessionStream) (n : ℕ) → GoesOn st (sent_from st n)
+abbrev pub bytes_went : (st : SessionStream) (n : ℕ) → Continues st (sent_from st n)
 bytes_went st n =
     grows_by st (sent_from st n) [] [] [] (take n st.now.pending) (still st.received) (still st.served) (still st.replies) refl
     (take-append-drop n st.now.pending ∙ still st.now.pending)
@@ -162,7 +162,8 @@ pub effect_replied : (head : Head) (c : Choice) (m : State) (s : ℕ) (n : Sessi
     → (serve_head head c m s n).now.pending ≢ []
 effect_replied head c m s n done = grind (arith, common_steps, reply_some)
 
-abbrev pub was_served : (st : SessionStream) (e : Effect) → st.now.pending ≡ [] → e.now.pending ≡ flat_map reply_text e.replies → GoesOn st (after_effect st e)
+abbrev pub was_served : (st : SessionStream) (e : Effect) → st.now.pending ≡ [] → e.now.pending ≡ flat_map reply_text e.replies
+    → Continues st (after_effect st e)
 was_served st e nothing texts =
     grows_by st (after_effect st e) [] e.served e.replies [] (still st.received) refl refl (still st.sent)
     (texts ∙ sym (ap (λ l. l ++ flat_map reply_text e.replies) nothing))

@@ -25,7 +25,7 @@ use Rattle.stream_driver.specs.Calls.{Moves, WritesSome, ReadsSome, WritesOut, E
 use Rattle.stream_driver.specs.Calls.{WrittenSoFar, ReadSoFar, DrivenSoFar, DrivenOut, served_in}
 use Rattle.stream_driver.specs.Drives.{Carried, Disconnects, Drove, LeavesIfGone, Why}
 use Rattle.stream_driver.specs.Sends.{LeadsAnswering}
-use Rattle.stream_driver.specs.Sessions.{Ghosts, Hub, Leads, Stands, Point, RunsOneSession, AwaitsMore, status_at}
+use Rattle.stream_driver.specs.Sessions.{Ghosts, Hub, RunLeads, Stands, Point, RunsOneSession, AwaitsMore, status_at}
 use Rattle.stream_driver.specs.Sessions.{pending_at, inbox_room, inbox_at, inbox_in, IsPresentIn}
 use Rattle.stream_driver.specs.Traffic.{Traffic, AllMoved, CountsLast}
 use Rattle.stream_driver.specs.Types.{Read, Write, ReadAnswer, WriteAnswer, Moved, Blocked, Failed, Ended, Wrote}
@@ -332,7 +332,7 @@ module _ {D : Type 0} {g : Ghosts D} (follow : Follow D g) {a b c : Hub D g} {s 
 
   -- the session leaves after a write of the output
   pub leaves : {d : Hub D g} {answer : Progress} {flush : OutputState} → answer ≡ Gone
-      → LeadsAnswering s reports b between c behind (λ k l. WritesOut s reports k between flush l behind) → Leads c d (λ l m. Disconnects s l m)
+      → LeadsAnswering s reports b between c behind (λ k l. WritesOut s reports k between flush l behind) → RunLeads c d (λ l m. Disconnects s l m)
       → ((h k l m : Point) → StandsFor c l.hub → DrivenOut s reports h before k between count → WritesOut s reports k between flush l behind → Disconnects s l m
       → Drove s reports h before Gone m behind)
       → LeadsAnswering s reports a before d behind (λ h m. Drove s reports h before answer m behind)

@@ -16,14 +16,14 @@ use Rattle.stream_driver.proofs.Events.{found, point_after, one_event, received_
 use Rattle.stream_driver.proofs.Events.{sends, bytes_went, open_present}
 use Rattle.stream_driver.proofs.States.{leads_event, leads_none, present_in}
 use Rattle.stream_driver.specs.Calls.{WritesSome, ReadsSome}
-use Rattle.stream_driver.specs.Sessions.{Ghosts, Hub, AwaitsMore, Leads, RunsOneSession, inbox_room}
+use Rattle.stream_driver.specs.Sessions.{Ghosts, Hub, AwaitsMore, RunLeads, RunsOneSession, inbox_room}
 use Rattle.stream_driver.specs.Traffic.{Traffic, CountsLast, ReadsWithin, bytes_read, bytes_written}
 use Rattle.stream_driver.specs.Types.{Read, Write, ReadAnswer, Moved, WriteAnswer, Wrote}
 
 module _ {D : Type 0} {g : Ghosts D} {hub new : Hub D g} {s : ℕ} {reports : Type 0} {b a : Traffic} where
   pub wrote_moved : (n : ℕ) → 0 < n → {outcome : Outcome} → HubLeads hub new (Sends s n) outcome → RunsAlone hub new (Sends s n) → failures hub ≤ failures new
       → status_of hub s ≢ Absent → n ≤ length (pending_of hub s) → (reports → a.sent ≡ b.sent ++ take n (pending_of hub s))
-      → (reports → a.received ≡ b.received) → CountsLast (Write (Wrote n)) b a → Leads hub new (λ h k. WritesSome s reports h b (Wrote n) k a)
+      → (reports → a.received ≡ b.received) → CountsLast (Write (Wrote n)) b a → RunLeads hub new (λ h k. WritesSome s reports h b (Wrote n) k a)
   wrote_moved n some {outcome} leads alone counted present long sent received calls =
       leads_event hub new _ (Sends s n) outcome leads alone counted (λ h stands happens outcome_is after.
       let c = leads.0 in
@@ -48,7 +48,7 @@ module _ {D : Type 0} {g : Ghosts D} {hub new : Hub D g} {s : ℕ} {reports : Ty
   pub read_moved : (n : ℕ) → 0 < n → (piece : Bytes) → {outcome : Outcome} → HubLeads hub new (Receives s piece) outcome → RunsAlone hub new (Receives s piece)
       → failures hub ≤ failures new
       → length piece ≡ n → {room : ℕ} → n ≤ room → (reports → a.received ≡ b.received ++ piece) → (reports → a.sent ≡ b.sent) → CountsLast (Read (Moved n)) b a
-      → Leads hub new (λ h k. AwaitsMore h.hub s → room ≡ inbox_room h.hub s → ReadsSome s reports h b (Moved n) k a)
+      → RunLeads hub new (λ h k. AwaitsMore h.hub s → room ≡ inbox_room h.hub s → ReadsSome s reports h b (Moved n) k a)
   read_moved n some piece {outcome} leads alone counted long {room} within received sent calls =
       leads_event hub new _ (Receives s piece) outcome leads alone counted (λ h stands happens outcome_is after awaits room_is.
       let c = leads.0 in
@@ -78,7 +78,7 @@ reads_within answer len room within le = grind arith
 module _ {D : Type 0} {g : Ghosts D} {hub : Hub D g} (none : NoneRuns hub) {s : ℕ} {reports : Type 0} {b a : Traffic} where
   pub wrote_none : (answer : WriteAnswer) → ((n : ℕ) → answer ≢ Wrote n) → status_of hub s ≢ Absent
       → (from : List ℕ) → (reports → a.received ≡ b.received) → (reports → a.sent ≡ b.sent ++ take (bytes_written answer) from) → CountsLast (Write answer) b a
-      → Leads hub hub (λ h k. WritesSome s reports h b answer k a)
+      → RunLeads hub hub (λ h k. WritesSome s reports h b answer k a)
   wrote_none (Wrote n) differs present from received sent calls = absurd (differs n refl)
   wrote_none answer differs present from received sent calls =
       leads_none hub none _ (λ h stands. record {
@@ -90,7 +90,7 @@ module _ {D : Type 0} {g : Ghosts D} {hub : Hub D g} (none : NoneRuns hub) {s : 
 
   pub read_none : (room : ℕ) (into : List ℕ) → (reports → a.sent ≡ b.sent) → (answer : ReadAnswer) → ((n : ℕ) → answer ≢ Moved n)
       → (reports → a.received ≡ b.received ++ take (bytes_read answer) into) → CountsLast (Read answer) b a
-      → Leads hub hub (λ h k. AwaitsMore h.hub s → room ≡ inbox_room h.hub s → ReadsSome s reports h b answer k a)
+      → RunLeads hub hub (λ h k. AwaitsMore h.hub s → room ≡ inbox_room h.hub s → ReadsSome s reports h b answer k a)
   read_none room into sent (Moved n) differs received calls = absurd (differs n refl)
   read_none room into sent answer differs received calls = leads_none hub none _ (λ h stands awaits room_is.
       let moves = answered (open_present h.hub s awaits.0) received (λ t. rw append-nil (sent t)) in

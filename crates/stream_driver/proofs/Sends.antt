@@ -14,7 +14,7 @@ use Rattle.stream_driver.proofs.Events.{Happens, point_after}
 use Rattle.stream_driver.proofs.States.{Follow, at_point, leads_event, leads_map, leads_two_at, point_of}
 use Rattle.stream_driver.specs.Drives.{Carried}
 use Rattle.stream_driver.specs.Sends.{IsAnswered, WasAnsweredBefore, WereAnsweredBefore, HasSent, LeadsAnswering}
-use Rattle.stream_driver.specs.Sessions.{Ghosts, Hub, Leads, Point}
+use Rattle.stream_driver.specs.Sessions.{Ghosts, Hub, RunLeads, Point}
 use Rattle.stream_driver.specs.Traffic.{Departure, DepartAt, IsBeginning, Traffic}
 
 module _ (s : ℕ) (h : HubState) (es fs : List (HubEvent × Choice)) (bytes : List ℕ) where
@@ -97,7 +97,7 @@ answered_now s h es bytes st is begins = record { by = []; since = es; events_ar
 
 module _ {D : Type 0} {g : Ghosts D} {s : ℕ} {reports : Type 0} where
   -- the stream was not called
-  pub reports_still : {a b : Hub D g} {t : Traffic} {P : Point → Point → Type 0} → Leads a b P → LeadsAnswering s reports a t b t P
+  pub reports_still : {a b : Hub D g} {t : Traffic} {P : Point → Point → Type 0} → RunLeads a b P → LeadsAnswering s reports a t b t P
   reports_still {a} {b} {t} p = record {
     leads = p;
     answering = λ _ h stands has. none_left s h a b p.choices t t refl;
@@ -109,7 +109,7 @@ module _ {D : Type 0} {g : Ghosts D} {s : ℕ} {reports : Type 0} where
   reports_map {a} {b} {t} {u} {P} {Q} p f = record { leads = leads_map a b P Q p.leads f; answering = p.answering; answered = p.answered }
 
   -- one call of the stream, which moved no more than was pending
-  pub reports_call : {a b : Hub D g} {t u : Traffic} {P : Point → Point → Type 0} → NoneRuns a → Leads a b P → (moment : ℕ) → moment ≡ g.moment (device a)
+  pub reports_call : {a b : Hub D g} {t u : Traffic} {P : Point → Point → Type 0} → NoneRuns a → RunLeads a b P → (moment : ℕ) → moment ≡ g.moment (device a)
       → (reports → DepartAt moment t u)
       → (reports → (bytes : List ℕ) × IsBeginning bytes (pending_of a s) × (u.sent ≡ t.sent ++ bytes)) → LeadsAnswering s reports a t b u P
   reports_call {a} {b} {t} {u} none p moment now departs took = record {

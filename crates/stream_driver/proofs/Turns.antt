@@ -21,7 +21,7 @@ use Rattle.stream_driver.specs.Entries.{HaveSessions, DrivenEntry, DrivenIn, Dri
 use Rattle.stream_driver.specs.Entries.{LeadsAll, LeadsThen, all_but, entry_state_after, with_last, KeepSessions}
 use Rattle.stream_driver.specs.Sends.{DrivesAnswering, LeadsAnswering, WereAnsweredBefore, IsAnswered, HasSent}
 use Rattle.stream_driver.specs.Sends.{HaveSent}
-use Rattle.stream_driver.specs.Sessions.{Ghosts, Hub, Point, Leads, IsPresent, StandsAt}
+use Rattle.stream_driver.specs.Sessions.{Ghosts, Hub, Point, RunLeads, IsPresent, StandsAt}
 use Rattle.stream_driver.specs.Traffic.{Traffic}
 use Rattle.stream_driver.specs.Types.{Progress, Gone, EntryState, Ready, EntryGone, Idle, Entry}
 
@@ -203,7 +203,7 @@ module _ {T : Type 0} (reports : Type 0) (traffic : T → Traffic) where
 
   module _ {D : Type 0} {g : Ghosts D} {hub later : Hub D g} (slots : List (Option (Entry T))) (key : ℕ) {old : Entry T} (new : Entry T)
       (is : get_or slots key None ≡ Some old) (same : new.session ≡ old.session)
-      (stays : old.state ≡ EntryGone → new.state ≡ EntryGone) (leads : Leads hub later (λ h k. DrivenEntry reports traffic h old k new)) where
+      (stays : old.state ≡ EntryGone → new.state ≡ EntryGone) (leads : RunLeads hub later (λ h k. DrivenEntry reports traffic h old k new)) where
     still_present : new.state ≢ EntryGone → IsPresent hub old.session → IsPresent later new.session
     still_present alive has = present_after old.session new.session has leads (λ h k p d. entry_present reports traffic old.state h old k new refl d alive p)
 

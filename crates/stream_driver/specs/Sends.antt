@@ -4,7 +4,7 @@ use Rattle.std.specs.Prelude.{◌≡◌, ◌≢◌, ◌⊎◌, ℕ, List, ◌++�
 use Rattle.sessions.specs.Laws.{Ran}
 use Rattle.sessions.specs.SessionStreams.{HubState, HubEvent, Choice, SessionStream, run, stream_of}
 use Rattle.sessions.specs.StandsFor.{StandsFor, device}
-use Rattle.stream_driver.specs.Sessions.{Ghosts, Hub, Leads, Point}
+use Rattle.stream_driver.specs.Sessions.{Ghosts, Hub, RunLeads, Point}
 use Rattle.stream_driver.specs.Traffic.{Departure, IsBeginning, Traffic}
 use Rattle.stream_driver.specs.Types.{EntryGone as Gone, Entry}
 
@@ -49,7 +49,7 @@ pub record HasSent (s : ℕ) (h : HubState) (t : Traffic) : Type 0 where
 -- what it still buffers may leave later.
 pub record LeadsAnswering {D : Type 0} {g : Ghosts D} (s : ℕ) (reports : Type 0) (old : Hub D g) (before : Traffic)
     (new : Hub D g) (after : Traffic) (P : Point → Point → Type 0) : Type 0 where
-  pub leads : Leads old new P
+  pub leads : RunLeads old new P
   pub answering : reports → (h : HubState) → StandsFor old h → HasSent s h before
       → WereAnsweredBefore s h old new leads.choices before after
   pub answered : reports → (h : HubState) → StandsFor old h → HasSent s h before
@@ -82,7 +82,7 @@ module _ {T : Type 0} (traffic : T → Traffic) where
   pub record DrivesAnswering {D : Type 0} {g : Ghosts D} (reports : Type 0) (old : Hub D g)
       (slots : List (Option (Entry T))) (new : Hub D g) (later : List (Option (Entry T))) (P : Point → Point
       → Type 0) : Type 0 where
-    pub leads : Leads old new P
+    pub leads : RunLeads old new P
     pub answering : reports → (h : HubState) → StandsFor old h → HaveSent h slots
         → AllAnsweredBefore h old new leads.choices slots later
     pub answered : reports → (h : HubState) → StandsFor old h → HaveSent h slots

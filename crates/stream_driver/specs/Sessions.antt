@@ -66,14 +66,14 @@ pub record Adds (old : Point) (choices : List (HubEvent × Choice)) (new : Point
 -- By these events, each with its choice, a run leads from the old hub to the new one: lawful at each moment, and what a
 -- crash leaves known. From every point at which the old hub stands they lead to one at which the new hub stands and
 -- that is so related to it.
-pub record Leads {D : Type 0} {g : Ghosts D} (old new : Hub D g) (P : Point → Point → Type 0) : Type 0 where
+pub record RunLeads {D : Type 0} {g : Ghosts D} (old new : Hub D g) (P : Point → Point → Type 0) : Type 0 where
   pub choices : List (HubEvent × Choice)
   pub ran : Ran old new choices
   pub to : LeadsBy StandsAt old new (λ h k. Adds h choices k × P h k)
 
 -- it is a run of the hub, whatever else is said of the points
 abbrev pub LeadsAreRuns : {D : Type 0} {g : Ghosts D} → Hub D g → Type 0
-LeadsAreRuns {D} {g} hub = (old new : Hub D g) → Leads old new (λ h k. Unit {0}) → HasRun old new
+LeadsAreRuns {D} {g} hub = (old new : Hub D g) → RunLeads old new (λ h k. Unit {0}) → HasRun old new
 
 -- whose event it is
 abbrev pub session_of : HubEvent → ℕ
@@ -85,7 +85,7 @@ session_of (Leaves s) = s
 
 -- what came in, the requests that were served, the machine's replies and what was reported as sent go on; what was
 -- sent, followed by what is pending, is what was pending, followed by the texts of these replies
-pub record GoesOn (first last : SessionStream) : Type 0 where
+pub record Continues (first last : SessionStream) : Type 0 where
   pub received : Bytes
   pub received_is : last.received ≡ first.received ++ received
   pub served : List (List Bytes)
@@ -109,7 +109,7 @@ pub record RunsOneSession (s : ℕ) (old new : Point) : Type 0 where
   pub last : SessionStream
   pub first_is : stream_of old.hub s ≡ Some first
   pub last_is : stream_of new.hub s ≡ Some last
-  pub history : GoesOn first last
+  pub history : Continues first last
   pub present : IsPresentIn new.hub s
   pub others : (t : ℕ) → t ≢ s → stream_of new.hub t ≡ stream_of old.hub t
 

@@ -1,7 +1,7 @@
 //! One drive of a session: it reads, serves requests and writes, until the stream blocks, the session leaves, or 64 requests were served.
 ghost use Rattle.std.specs.Prelude.{◌≡◌, ◌≢◌, ◌<◌, length};
 ghost use Rattle.sessions.specs.StandsFor.{pending_of, records_of, status_of};
-ghost use Rattle.stream_driver.specs.Sessions.{IsPresent, Leads, Stands};
+ghost use Rattle.stream_driver.specs.Sessions.{IsPresent, RunLeads, Stands};
 ghost use Rattle.stream_driver.specs.Appends.{AppendsOnce, KeepsShare, ServesInShare, ServesOnce, SpendsShare};
 ghost use Rattle.stream_driver.specs.Sends.{LeadsAs};
 ghost use Rattle.stream_driver.specs.Drives.{Drove, Disconnects};
@@ -173,7 +173,7 @@ fn serve_in_share<D: Sectors, S: Stream>(
 // The session leaves.
 fn disconnect<D: Sectors>(hub: &mut Hub<D>, s: u64) -> Progress
     ensures answer { result ≡ Progress.Gone }
-    ensures left { Leads hub.old hub.new (λ h k. Disconnects s h k) }
+    ensures left { RunLeads hub.old hub.new (λ h k. Disconnects s h k) }
     ensures records { Stands hub.old → records_of hub.new ≡ records_of hub.old }
 {
     let _ = hub.step(&Event::Left(s));

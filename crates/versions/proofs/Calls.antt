@@ -15,7 +15,7 @@ use Rattle.model.proofs.Entries.{IsSorted}
 use Rattle.model.proofs.InOrder.{parts, sorted_left}
 use Rattle.model.specs.Map.{Bytes, key_cmp, KeyMap, KeyWrite, IsMap, value_at}
 use Rattle.sorted_pages.proofs.Together.{together_itself}
-use Rattle.sorted_pages.specs.Pages.{AreApart, Page, is_together, room_at}
+use Rattle.sorted_pages.specs.Pages.{StayApart, Page, is_together, room_at}
 use Rattle.versions.proofs.Listings.{groups-found, listed-write}
 use Rattle.versions.proofs.Stores.{IsPlaced, place-more, placed-roomier, sorted_base, places-apart, written_map}
 use Rattle.versions.proofs.Stores.{written_number, ready-apart, maps-step, newest-step, kept-step, ready-prepared}
@@ -49,7 +49,7 @@ next_of ws i w lt is = drop-cons ws i w lt ∙ ap (λ y. y ∷ drop (suc i) ws) 
 
 -- room for one more of the writes
 pub preparing : (ws : List KeyWrite) (i : ℕ) (w : KeyWrite) (k : Bytes) (es fs : Chains) (ps qs : List (Page ChainValue)) (us : List KeyWrite) → i < length ws
-    → w ≡ get_or ws i w → k ≡ w.0 → us ≡ drop i ws → AreRoomier es fs → ((q : Bytes) → room_at q ps ≤ room_at q qs) → AreApart ps qs
+    → w ≡ get_or ws i w → k ≡ w.0 → us ≡ drop i ws → AreRoomier es fs → ((q : Bytes) → room_at q ps ≤ room_at q qs) → StayApart ps qs
     → ((j : ℕ) → j < i → IsPlaced es ps (drop j ws)) → ChainHasRoom (find_chain k fs) → HasPlace (count_together k qs us) (room_at k qs) (find_chain k fs)
     → (j : ℕ) → j < i + 1 → IsPlaced fs qs (drop j ws)
 preparing ws i w k es fs ps qs us lt is key at more rooms apart p room place =
@@ -76,7 +76,7 @@ placed-from es ps (w ∷ ws) (suc i) h g = placed-from es ps ws i h.1 g.1
 
 -- where the writes were prepared before, there is room in each chain, and where its key would stand
 pub placed-at : (ws : List KeyWrite) (i : ℕ) (w : KeyWrite) (k : Bytes) (es fs : Chains) (ps qs : List (Page ChainValue)) (us : List KeyWrite) → i < length ws
-    → w ≡ get_or ws i w → k ≡ w.0 → us ≡ drop i ws → AreRoomier es fs → ((q : Bytes) → room_at q ps ≤ room_at q qs) → AreApart ps qs
+    → w ≡ get_or ws i w → k ≡ w.0 → us ≡ drop i ws → AreRoomier es fs → ((q : Bytes) → room_at q ps ≤ room_at q qs) → StayApart ps qs
     → AllByRecursion (λ w. ChainHasRoom (find_chain w.0 es)) ws → HavePlaces ps es ws → IsPlacedAt k fs qs us
 placed-at ws i w k es fs ps qs us lt is key at more rooms apart h g =
     let next = next_of ws i w lt is in

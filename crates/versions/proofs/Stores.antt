@@ -20,7 +20,7 @@ use Rattle.model.proofs.Lookups.{same_key, same_key_itself, same_key_comm, same_
 use Rattle.model.specs.Map.{Bytes, KeyMap, KeyWrite, IsMap, key_cmp, value_at, after_writes}
 use Rattle.sorted_pages.proofs.Together.{room-together, together_as, together_between}
 use Rattle.sorted_pages.specs.Changes.{ChangesValue}
-use Rattle.sorted_pages.specs.Pages.{AreApart, Page, entries, is_together, room_at}
+use Rattle.sorted_pages.specs.Pages.{StayApart, Page, entries, is_together, room_at}
 use Rattle.sorted_pages.specs.Trims.{put_some, changed_at}
 use Rattle.versions.proofs.ChainLaws.{seen-added, rising-added, version_at-reclaimed, version_at-newest}
 use Rattle.versions.proofs.ChainLaws.{tight-reclaimed, rising-seen_by, reclaimed_twice}
@@ -182,7 +182,7 @@ IsPlaced es ps [] = Unit {0}
 IsPlaced es ps (w ∷ ws) = ChainHasRoom (find_chain w.0 es) × HasPlace (count_together w.0 ps (w ∷ ws)) (room_at w.0 ps) (find_chain w.0 es)
 
 -- no more of them come to one page once pages are split
-pub count-apart : (k : Bytes) (ps qs : List (Page ChainValue)) (ws : List KeyWrite) → AreApart ps qs → count_together k qs ws ≤ count_together k ps ws
+pub count-apart : (k : Bytes) (ps qs : List (Page ChainValue)) (ws : List KeyWrite) → StayApart ps qs → count_together k qs ws ≤ count_together k ps ws
 count-apart k ps qs [] apart = omega arith
 count-apart k ps qs (w ∷ ws) apart =
     let rest = count-apart k ps qs ws apart in
@@ -199,7 +199,7 @@ place-more n m r s None f h = f h
 place-more n m r s (Some c) f h = tt
 
 -- what was made for the write is still there
-pub placed-roomier : (es fs : Chains) (ps qs : List (Page ChainValue)) → AreRoomier es fs → ((q : Bytes) → room_at q ps ≤ room_at q qs) → AreApart ps qs
+pub placed-roomier : (es fs : Chains) (ps qs : List (Page ChainValue)) → AreRoomier es fs → ((q : Bytes) → room_at q ps ≤ room_at q qs) → StayApart ps qs
     → (ws : List KeyWrite) → IsPlaced es ps ws → IsPlaced fs qs ws
 placed-roomier es fs ps qs h more apart [] p = p
 placed-roomier es fs ps qs h more apart (w ∷ ws) p =

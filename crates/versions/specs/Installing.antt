@@ -4,7 +4,7 @@ use Rattle.std.specs.Prelude.{◌≡◌, ◌≤◌, ◌+◌, ◌-◌, ◌<◌, �
 use Rattle.std.specs.Vec.{vec_len, vec_capacity}
 use Rattle.std.specs.declared.vec.Vec.{Vec}
 use Rattle.model.specs.Map.{Bytes, KeyWrite}
-use Rattle.sorted_pages.specs.Pages.{AreApart, KeepsHeld, KeepsHeldTo, Page, PagesValue, entries, is_together}
+use Rattle.sorted_pages.specs.Pages.{StayApart, KeepsHeld, KeepsHeldTo, Page, PagesValue, entries, is_together}
 use Rattle.sorted_pages.specs.Pages.{room_at}
 use Rattle.versions.specs.Chains.{ChainValue, Chains, ChainsValue, ChainHasRoom, CanAddVersion, HasPlaceAt}
 use Rattle.versions.specs.Chains.{HavePlaces, IsKept, AreRoomier, find_chain}
@@ -17,14 +17,14 @@ use Rattle.versions.specs.Pins.{IsAddedTo}
 pub record HaveMoreRoom (old new : PagesValue ChainValue) : Type 0 where
   pub chains : AreRoomier (entries old.pages) (entries new.pages)
   pub rooms : (q : Bytes) → room_at q old.pages ≤ room_at q new.pages
-  pub apart : AreApart old.pages new.pages
+  pub apart : StayApart old.pages new.pages
   pub held : KeepsHeld old new
 
 -- so it is of all versions
 pub record HasMoreRoom (old new : ChainsValue) : Type 0 where
   pub chains : AreRoomier old.chains new.chains
   pub rooms : (q : Bytes) → room_at q old.pages ≤ room_at q new.pages
-  pub apart : AreApart old.pages new.pages
+  pub apart : StayApart old.pages new.pages
   pub held : new.held ≡ old.held
   pub listed_spare : new.listed_spare ≡ old.listed_spare
   pub groups_spare : new.groups_spare ≡ old.groups_spare

@@ -1,14 +1,14 @@
 use Rattle.last_readers.proofs.runs.ReadRunRun.release.Goals as goal
 use Rattle.std.proofs.Common.{◌≡◌, ◌∷◌, ℕ, List, [], ap, sym, length, arith}
 use Rattle.std.proofs.lemmas.Bool.Decides.{nat_tests}
-use Rattle.last_readers.specs.Merging.{IsMade, with_step}
+use Rattle.last_readers.specs.Merging.{IsStepMade, with_step}
 use Rattle.last_readers.specs.Steps.{StepValue, cut}
 
 cut_none : (o : ℕ) → cut o 0 ≡ 0
 cut_none o = grind (arith, nat_tests)
 
 -- of no steps none is made: it would say that nobody reads, as the keys below it do
-made_of_none : (o : ℕ) (xs ys ts : List StepValue) → length xs ≡ 0 → length ys ≡ 0 → IsMade o xs ys ts ts
+made_of_none : (o : ℕ) (xs ys ts : List StepValue) → length xs ≡ 0 → length ys ≡ 0 → IsStepMade o xs ys ts ts
 made_of_none o [] [] ts first second =
     let is = sym (cut_none o) in
     (record { key = []; at = 0; above = 0 }, is, is, ap (λ n. with_step (record { key = []; at = 0; above = 0 }) n ts) is)
