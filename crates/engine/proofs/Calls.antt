@@ -30,13 +30,14 @@ use Rattle.versions.specs.Laws.{HoldingLaw}
 use Rattle.versions.specs.Meaning.{is_among, map_seen}
 use Rattle.snapshot.specs.Made.{HasMade, WhereMade, WhereSeen, is_refused}
 use Rattle.snapshot.specs.View.{View, new_view}
+use Rattle.pivot_check.specs.FewKept.{KeepsLittle}
 use Rattle.engine.proofs.Sessions.{IsFound, beside_none, beside_some, beside_insert, beside_remove, beside_set}
 use Rattle.engine.proofs.Sessions.{beside_weaker}
 use Rattle.engine.proofs.Steps.{step_is, reached_by, reached_next, reached_map}
 use Rattle.engine.specs.Changes.{entry_of, IsSameStore, EndsTransaction}
-use Rattle.engine.specs.HistoryValue.{HistoryStandsFor}
+use Rattle.engine.specs.HistoryValue.{HistoryValue, HistoryStandsFor}
 use Rattle.engine.specs.Meaning.{StandsForSame, IsNotRefused, Leads}
-use Rattle.engine.specs.StandsFor.{StandsFor, IsRunning, AreRunning}
+use Rattle.engine.specs.StandsFor.{Represents, StandsFor, IsRunning, AreRunning}
 use Rattle.engine.specs.declared.engine.Engine.{Engine}
 
 -- a request that changed nothing is one more own request
@@ -72,12 +73,21 @@ module _ {D : Type 0} {g : Ghosts D} where
   stands_with e e' m es rs active same h reached history entries running sorted few = grind (arith, common_steps)
 
   -- the same open transactions
-  pub stands_same : (e e' : Engine D g) (m : State) → IsSameStore e e' → e'.running.entries ≡ e.running.entries → StandsFor e m → StandsFor e' m
-  stands_same e e' m same entries h = grind (arith, common_steps)
+  represents_same : (e e' : Engine D g) (m : State) → IsSameStore e e' → e'.running.entries ≡ e.running.entries → Represents e m → Represents e' m
+  represents_same e e' m same entries h = grind (arith, common_steps)
 
   pub same_states : (e e' : Engine D g) → IsSameStore e e' → e'.running.entries ≡ e.running.entries → StandsForSame e e'
-  same_states e e' same entries m =
-      (stands_same e e' m same entries, λ _ _. stands_same e' e m (record { log = sym same.log; history = sym same.history }) (sym entries))
+  same_states e e' same entries = (
+    λ m. (represents_same e e' m same entries, represents_same e' e m (record { log = sym same.log; history = sym same.history }) (sym entries)),
+    subst (λ (v : HistoryValue). KeepsLittle v.committed) (sym same.history),
+  )
+
+  -- each state that the old engine stood for, the new one stands for
+  pub stands_still : (e e' : Engine D g) → StandsForSame e e' → (m : State) → StandsFor e m → StandsFor e' m
+  stands_still e e' same m h = record { state = (same.0 m).0 h.state; little = same.1 h.little }
+
+  stands_same : (e e' : Engine D g) (m : State) → IsSameStore e e' → e'.running.entries ≡ e.running.entries → StandsFor e m → StandsFor e' m
+  stands_same e e' m same entries = stands_still e e' (same_states e e' same entries) m
 
   pub not_open : (e : Engine D g) (m : State) (s : ℕ) → StandsFor e m → entry_of s e ≡ None → running_of m s ≡ None
   not_open e m s h none = beside_none (Active e m h) s e.running.entries m.running h.running none

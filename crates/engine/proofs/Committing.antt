@@ -31,7 +31,6 @@ use Rattle.versions.specs.Meaning.{is_among}
 use Rattle.snapshot.specs.Made.{HasMade, is_refused}
 use Rattle.snapshot.specs.View.{View}
 use Rattle.pivot_check.proofs.SameHistories.{in_reach_still, stand_back, still_cleared}
-use Rattle.pivot_check.specs.FewKept.{KeepsLittle}
 use Rattle.pivot_check.specs.Kept.{Facts, CommittedValue, IsInReach, may_ask}
 use Rattle.pivot_check.specs.StandsFor.{IsRecordOf, IsVerdict, IsClear, IsCleared, StandForSame}
 use Rattle.pivot_check.specs.StandsFor.{StandsFor as CommittedStandsFor}
@@ -48,7 +47,7 @@ use Rattle.engine.specs.Meaning.{StandsForSame, Leads, IsNotRefused, IsReadOnly,
 use Rattle.engine.specs.Meaning.{response_to}
 use Rattle.engine.specs.Recovery.{IsStored, WhereStored, SurvivesAppend, LeavesInDoubt, HoldsMap, committed_map}
 use Rattle.engine.specs.Recovery.{IsInDoubt}
-use Rattle.engine.specs.StandsFor.{StandsFor, IsRunning, AreRunning}
+use Rattle.engine.specs.StandsFor.{Represents, StandsFor, IsRunning, AreRunning}
 use Rattle.engine.specs.declared.engine.Engine.{Engine}
 use Rattle.engine.specs.declared.faults.EngineFault.{EngineFault}
 use Rattle.engine.specs.declared.faults.EngineFault.TheVariants.{Refused as Refusing}
@@ -122,12 +121,13 @@ module _ {D : Type 0} {g : Ghosts D} where
   same_with : (e e' : Engine D g) (m : State) → e'.log ≡ e.log → e'.running.entries ≡ e.running.entries
       → StandForSame e.history.committed.facts e'.history.committed.facts
       → ((active : ℕ → Bool) (base : KeyMap) (history : List Record) → VersionsStandFor e.history.versions active base history
-      → VersionsStandFor e'.history.versions active base history) → KeepsLittle e'.history.committed → StandsFor e m → StandsFor e' m
-  same_with e e' m log entries same stands little h =
+      → VersionsStandFor e'.history.versions active base history) → Represents e m → Represents e' m
+  same_with e e' m log entries same stands h =
       let stopped : is_log_stopped e'.log ≡ is_log_stopped e.log = ap (λ (l : Log D g). is_log_stopped l) log in
       let used : used_sectors e'.log ≡ used_sectors e.log = ap (λ (l : Log D g). used_sectors l) log in
       let count : sector_count e'.log ≡ sector_count e.log = ap (λ (l : Log D g). sector_count l) log in
-      let running = beside_weaker (Active e m h) (λ t r. IsRunning e'.history.committed.facts h.active m.base m.history t r)
+      let running = beside_weaker (λ t r. IsRunning e.history.committed.facts h.active m.base m.history t r)
+      (λ t r. IsRunning e'.history.committed.facts h.active m.base m.history t r)
       (runs_beside e.history.committed.facts e'.history.committed.facts h.active m.base m.history same) e.running.entries m.running h.running in
       let oldest = same.oldest in
       let kept = h.kept in
@@ -141,7 +141,6 @@ module _ {D : Type 0} {g : Ghosts D} where
         active = h.active;
         history = record { versions = stands h.active m.base m.history h.history.versions; committed = (same.stands m.history).0 h.history.committed };
         kept = omega (arith, kept, oldest);
-        little = little;
         few = h.few;
         running = subst (λ (es : List (ℕ × View)). AreRunning e'.history.committed.facts h.active m.base m.history es m.running) (sym entries) running;
         sorted = h.sorted;
@@ -245,8 +244,10 @@ module _ {D : Type 0} {g : Ghosts D} where
   left_by e e' log history s same leaves m h =
       leave_call (record e { history = history }) (record e' { log = e.log }) s
       (record { store = record { log = refl; history = leaves.store.history }; entries = leaves.entries; fewer = leaves.fewer }) m
-      (same_with e (record e { history = history }) m refl refl same.committed (λ active base history. (same.stands active base history).0)
-      (same.little h.little) h)
+      (record {
+        state = same_with e (record e { history = history }) m refl refl same.committed (λ active base history. (same.stands active base history).0) h.state;
+        little = same.little h.little;
+      })
 
   -- ---- a commit in which the device failed
 
@@ -281,11 +282,10 @@ module _ {D : Type 0} {g : Ghosts D} where
   pub commit_memory : (e e' : Engine D g) (s : ℕ) (t : View) → IsToCommit e s t
       → e'.log ≡ e.log → e'.running.entries ≡ e.running.entries → IsSameHistory e.history e'.history → StandsForSame e e' × IsNotRefused e s Commit
   commit_memory e e' s t j log entries same =
-      let there = λ (m : State) (h : StandsFor e m). same_with e e' m log entries same.committed (λ active base history. (same.stands active base history).0)
-      (same.little h.little) h in
-      let back = λ (m some : State) (was : StandsFor e some). same_with e' e m (sym log) (sym entries) (stand_back _ _ same.committed)
-      (λ active base history. (same.stands active base history).1) was.little in (
-        λ m. (there m, back m),
+      let there = λ (m : State). same_with e e' m log entries same.committed (λ active base history. (same.stands active base history).0) in
+      let back = λ (m : State). same_with e' e m (sym log) (sym entries) (stand_back _ _ same.committed)
+      (λ active base history. (same.stands active base history).1) in (
+        (λ m. (there m, back m), same.little),
         λ m h. ap (λ (p : State × Response). is_refused p.1) (step_joined e s t false j (λ _. refl) m h (found_open e m s t h j.asked.entry)),
       )
 

@@ -27,11 +27,11 @@ use Rattle.snapshot.specs.Made.{is_refused, range_read}
 use Rattle.snapshot.specs.RowPairs.{row_pairs}
 use Rattle.snapshot.specs.View.{View}
 use Rattle.snapshot.specs.declared.rows.Rows.{Rows}
-use Rattle.pivot_check.specs.FewKept.{AreOfKeys}
+use Rattle.pivot_check.specs.FewKept.{AreOfKeys, KeepsLittle}
 use Rattle.pivot_check.specs.Kept.{Facts, CommittedValue, HasForgotten}
 use Rattle.engine.specs.Changes.{entry_of, AddsOneAtMost}
 use Rattle.engine.specs.Recovery.{HoldsMap, committed_map}
-pub use Rattle.engine.specs.StandsFor.{StandsFor}
+pub use Rattle.engine.specs.StandsFor.{Represents, StandsFor}
 use Rattle.engine.specs.declared.engine.Engine.{Engine}
 use Rattle.engine.specs.declared.engine.TheConstants.{OPEN_MAX}
 use Rattle.engine.specs.declared.faults.EngineFault.{EngineFault}
@@ -41,6 +41,16 @@ use Rattle.engine.specs.declared.faults.ReadFault.{ReadFault}
 -- the log
 abbrev pub log_of : {D : Type 0} {g : Ghosts D} → Engine D g → Log D g
 log_of e = e.log
+
+-- the versions that are kept, and what is kept to check later commits
+abbrev pub versions_of : {D : Type 0} {g : Ghosts D} → Engine D g → ChainsValue
+versions_of e = e.history.versions
+
+abbrev pub committed_of : {D : Type 0} {g : Ghosts D} → Engine D g → CommittedValue
+committed_of e = e.history.committed
+
+abbrev pub facts_of : {D : Type 0} {g : Ghosts D} → Engine D g → Facts
+facts_of e = e.history.committed.facts
 
 -- how many pages its ranges have looked at
 abbrev pub pages_looked_at : {D : Type 0} {g : Ghosts D} → Engine D g → ℕ
@@ -64,11 +74,11 @@ has_risen before now = nat_lt before now || (before == 2 ^ 64 - 1)
 abbrev pub has_failed : {D : Type 0} {g : Ghosts D} → Engine D g → Engine D g → Bool
 has_failed old new = has_risen (failures_of old) (failures_of new)
 
--- every state that the old engine stood for is one of the new engine and, where it stood for one, no other is
+-- the new engine has exactly the states that the old one had, and keeps little where the old one did
 abbrev pub StandsForSame : {D : Type 0} {g : Ghosts D} → Engine D g → Engine D g → Type 0
 StandsForSame old new =
-    (m : State) → (StandsFor old m → StandsFor new m)
-    × ((some : State) → StandsFor old some → StandsFor new m → StandsFor old m)
+    ((m : State) → Represents old m ↔ Represents new m)
+    × (KeepsLittle (committed_of old) → KeepsLittle (committed_of new))
 
 -- the machine refuses the request in no state that the engine stands for, the device's failure aside
 abbrev pub IsNotRefused : {D : Type 0} {g : Ghosts D} → Engine D g → ℕ → Operation → Type 0
@@ -143,16 +153,6 @@ has_engine_written e s = has_writes (entry_of s e)
 -- how many records its log has
 abbrev pub engine_records : {D : Type 0} {g : Ghosts D} → Engine D g → ℕ
 engine_records e = record_count e.log
-
--- the versions that are kept, and what is kept to check later commits
-abbrev pub versions_of : {D : Type 0} {g : Ghosts D} → Engine D g → ChainsValue
-versions_of e = e.history.versions
-
-abbrev pub committed_of : {D : Type 0} {g : Ghosts D} → Engine D g → CommittedValue
-committed_of e = e.history.committed
-
-abbrev pub facts_of : {D : Type 0} {g : Ghosts D} → Engine D g → Facts
-facts_of e = e.history.committed.facts
 
 -- the begin numbers of the open transactions
 abbrev pub open_begins : State → List ℕ

@@ -29,7 +29,8 @@ abbrev pub AreRunning : Facts → (ℕ → Bool) → KeyMap → List Record → 
 AreRunning facts active base history es rs =
     AllZip (λ e r. (e.0 ≡ r.0) × IsRunning facts active base history e.1 r.1) es rs
 
-pub record StandsFor {D : Type 0} {g : Ghosts D} (e : Engine D g) (m : State) : Type 0 where
+-- the engine has the machine's state: its log, its history and its open transactions are those of the state
+pub record Represents {D : Type 0} {g : Ghosts D} (e : Engine D g) (m : State) : Type 0 where
   pub reached : IsReached m
   pub stopped : m.stopped ≡ is_log_stopped e.log
   pub used : m.used ≡ used_sectors e.log
@@ -42,9 +43,14 @@ pub record StandsFor {D : Type 0} {g : Ghosts D} (e : Engine D g) (m : State) : 
   pub active : ℕ → Bool
   pub history : HistoryStandsFor e.history active m.base m.history
   pub kept : e.history.committed.facts.oldest ≤ length m.history
-  -- few postings are kept of each key that was written
-  pub little : KeepsLittle e.history.committed
   pub few : length m.history ≤ 2 ^ 63 - 1
   pub running : AreRunning e.history.committed.facts active m.base m.history e.running.entries m.running
   pub sorted : T (is_sorted nat_cmp m.running)
   pub few_open : length e.running.entries ≤ 64
+
+-- it stands for the state where it also keeps little
+pub record StandsFor {D : Type 0} {g : Ghosts D} (e : Engine D g) (m : State) : Type 0 where
+  pub state : Represents e m
+  pub open state use *
+  -- few postings are kept of each key that was written
+  pub little : KeepsLittle e.history.committed

@@ -15,6 +15,7 @@ use Rattle.sector.specs.SectorModel.{LeavesOnly}
 use Rattle.sector.specs.declared.device.Sectors.{Ghosts}
 use Rattle.commit_log.specs.declared.log.Log.{Log}
 use Rattle.snapshot.specs.Made.{is_refused}
+use Rattle.engine.proofs.Calls.{stands_still}
 use Rattle.engine.specs.Changes.{UsesLogOnce}
 use Rattle.engine.specs.Meaning.{StandsFor, Leads, IsNotRefused, device_of, failures_of, has_risen, response_to}
 use Rattle.engine.specs.Meaning.{response_to_read, IsLeftByCommit, StandsForSame}
@@ -81,7 +82,7 @@ module _ {D : Type 0} {g : Ghosts D} (old new : Engine D g) (s : ℕ) (q : Opera
       → Writes response after r → Executes old new s q b after r
   executes_from (Some response) after r takes leads said = executes_always response after r leads said
   executes_from None after (Ok done) takes leads said = absurd said
-  executes_from None after (Err refused) takes leads said = (takes, λ m h. (m, (leads.0 m).0 h, refl), said, leads.1)
+  executes_from None after (Err refused) takes leads said = (takes, λ m h. (m, stands_still old new leads.0 m h, refl), said, leads.1)
 
   -- the same with the flag that such a request doesn't see
   pub executes_flag : (after : Bytes) (r : Result (Unit {0}) Memory) → is_commit q ≡ false → Executes old new s q false after r → Executes old new s q b after r
@@ -120,7 +121,7 @@ module _ {D : Type 0} {g : Ghosts D} (old new : Engine D g) (s : ℕ) (q : Opera
 -- to an engine that stands for the same states
 pub leads_same : {D : Type 0} {g : Ghosts D} (old mid new : Engine D g) (s : ℕ) (q : Operation) (failed : Bool) (response : Response)
     → Leads old mid s q failed (Some response) → StandsForSame mid new → Leads old new s q failed (Some response)
-leads_same old mid new s q failed response leads same m h = let n = leads m h in (n.0, (same n.0).0 n.1, n.2)
+leads_same old mid new s q failed response leads same m h = let n = leads m h in (n.0, stands_still mid new same n.0 n.1, n.2)
 
 -- a read's refusal doesn't depend on what it reads
 same_refusal : {T : Type 0} (f : T → Response) (fault : ReadFault) → response_to_read f (Err fault) ≡ refusal_to_read fault
