@@ -18,8 +18,9 @@ from ssikvd_harness.settings import TOP
 
 PAGE = "docs/DEFINITIONS.md"
 STATED = r"^Stated as `(\w+)`, in `(\w+)/(\w+)`"
-# A relation of which the clauses say only that it holds at the beginning and from call to call: what it is said with need not be read.
-UNKNOWN = ("crates/engine/specs/StandsFor.antt", "StandsFor")
+# Relations of which the clauses say only that they hold at the beginning and from call to call: what they are said with need not be read.
+UNKNOWN = (("crates/engine/specs/StandsFor.antt", "StandsFor"), ("crates/engine/specs/StandsFor.antt", "Represents"),
+           ("crates/pivot_check/specs/FewKept.antt", "KeepsLittle"))
 DEFINING = ("abbrev", "unfoldable", "record", "data", "pub", "opaque")
 
 
@@ -139,7 +140,7 @@ class Reading:
     """What is to be read for some clauses, in order."""
 
     def __init__(self):
-        self.order, self.types, self.seen = [], [], {UNKNOWN}
+        self.order, self.types, self.seen = [], [], set(UNKNOWN)
 
     def follow(self, text, names, own=None):
         """All that a text names; `own` is the file that it stands in, if it is one of specs/."""
@@ -259,9 +260,10 @@ def follow_promise(reading, head, clauses, named):
 
 
 def follow_unknown(reading):
-    """What the relation that may be unknown is stated with."""
-    reading.seen.discard(UNKNOWN)
-    reading.add("definition", *UNKNOWN)
+    """What the relations that may be unknown are stated with."""
+    reading.seen.difference_update(UNKNOWN)
+    for relation in UNKNOWN:
+        reading.add("definition", *relation)
 
 
 STATES = "One state: isolated, and serializable"
@@ -269,7 +271,7 @@ BEHIND = "Behind the refinement relation"
 BEHIND_INTRO = (
     " None of them need be read. The clauses say little of this relation of an engine and a state of the machine. Some state is represented at an"
     " opening. Each call leads from each represented state to one that is so related. And equations say what is seen meanwhile: replies, faults,"
-    " images. That is refinement for any relation, also one that nobody knows.")
+    " images. That is refinement for any relation, also one that nobody knows. So it is of what is kept of written keys (`KeepsLittle`).")
 
 HEAD = """# Definitions
 
