@@ -203,7 +203,7 @@ impl Versions {
     }
 
     /// From now on these numbers alone are active, so what they see of each page is held, as far as it was known. Where they are more than
-    /// 64, that of some isn't. Nothing else changes. Its time grows with the square of how many there are. Takes no memory.
+    /// 64, that of some isn't. Nothing else changes. Its time grows with how many there are times how many are held. Takes no memory.
     pub fn keep_active(&mut self, begins: &[u64])
         ensures kept { self.new ≡ record self.old { held = self.new.held } }
         ensures held { length begins.now ≤ HELD_MAX → AreHeldWhereKnown begins.now self.old self.new }
