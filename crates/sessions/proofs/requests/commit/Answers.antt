@@ -1,6 +1,7 @@
 use Rattle.sessions.proofs.requests.commit.Goals as goal
 use Rattle.std.proofs.Common.{refl, ap, ◌∙◌, Err}
 use Rattle.commit_log.specs.LogState.{log_device}
+use Rattle.engine.proofs.Calls.{stands_still}
 use Rattle.sessions.proofs.RequestSteps.{uses_before, survives_after, executes_commit}
 
 pub returns-in-Ok-clause-crash : goal.returns-in-Ok-clause-crash
@@ -27,7 +28,7 @@ returns-in-Err-Refused-clause-step g c =
 pub returns-in-Err-Memory-clause-step : goal.returns-in-Err-Memory-clause-step
 returns-in-Err-Memory-clause-step g c =
     let same = rw (c.in-Err-Memory.is ∙ ap Err c.in-Err-Memory.field-0-is) at c.commit.ensures.step in
-    (refl, (λ m h. (m, (same.0 m).0 h, refl)), c.requires, same.1)
+    (refl, (λ m h. (m, stands_still c.args.engine.now c.commit.new.self same.0 m h, refl)), c.requires, same.1)
 
 pub returns-in-Ok-clause-once : goal.returns-in-Ok-clause-once
 returns-in-Ok-clause-once g c =
