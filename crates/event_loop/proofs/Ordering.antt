@@ -2,7 +2,7 @@
 use Rattle.std.proofs.Common.{◌≡◌, ◌⊎◌, inl, inr, ℕ, zero, suc, ◌<◌, ◌≤◌, ◌-◌, Bool, true, false, cond, not, List, []}
 use Rattle.std.proofs.Common.{◌∷◌, ◌+◌, ◌*◌, ◌/◌, ◌≢◌, Option, Some, None, set, refl, sym, ap, subst, ◌∙◌, arith}
 use Rattle.std.proofs.Common.{◌==◌}
-use Rattle.std.proofs.lemmas.Bool.{cases_eq, cases_Bool}
+use Rattle.std.proofs.lemmas.Bool.{both_ways, cases_eq, cases_Bool, false_from_ne_true}
 use Rattle.std.proofs.lemmas.Bool.Decides.{nat_tests}
 use Rattle.std.proofs.lemmas.Grind.{common_steps}
 use Rattle.std.proofs.lemmas.List.{get_or-set_other}
@@ -46,9 +46,11 @@ use Rattle.event_loop.specs.Turns.{Accepted, IsDrivenSoon, IsPutOff, IsTurn, acc
 use Rattle.event_loop.specs.declared.server.EventLoop.{EventLoop}
 use Rattle.event_loop.specs.declared.socket.Socket.{Socket}
 
--- of the keys so many places behind this one, and of those before them, none waits
-abbrev pub NoneWithin : (ℕ → Bool) → ℕ → ℕ → Type 0
-NoneWithin waits last places = (key : ℕ) → key < 128 → behind last key ≤ places → waits key ≡ false
+-- of the keys below `end`, this is the first behind the last one that waits, or the last one still
+pub record IsNearest (waits : ℕ → Bool) (last next end : ℕ) : Type 0 where
+  pub place : next < 128
+  pub waiting : (next ≡ last) ⊎ (waits next ≡ true)
+  pub first : (key : ℕ) → key < end → waits key ≡ true → behind last next ≤ behind last key
 
 -- a share is a light one at least
 share_some : (takes has late light : Bool)
@@ -250,6 +252,62 @@ behind_few last key place = elim (cases_Bool (nat_lt last key)) [
 
 apart : (a b : ℕ) → (a == b) ≡ false → a ≡ b → ⊥
 apart a b differs same = grind (arith, common_steps, nat_tests)
+
+-- who stands as far behind as the last one itself is that
+behind_all : (last key : ℕ) → last < 128 → key < 128 → behind last last ≤ behind last key → key ≡ last
+behind_all last key place within far = elim (cases_Bool (nat_lt last key)) [
+  | inl above ↦ grind (arith, common_steps, nat_tests)
+  | inr below ↦ grind (arith, common_steps, nat_tests)
+]
+
+module _ (waits : ℕ → Bool) (last next end : ℕ) (near : IsNearest waits last next end) where
+  -- the one at `end` waits and is nearer
+  pub nearer_waits : end < 128 → waits end ≡ true → behind last end < behind last next → IsNearest waits last end (end + 1)
+  nearer_waits within is less = record {
+    place = within;
+    waiting = inr is;
+    first = λ key below waiting. elim (cases_eq key end) [
+      | inl same ↦ omega (arith, ap (behind last) same)
+      | inr other ↦ (let least = near.first key (omega arith) waiting in omega (arith, least, less))
+    ];
+  }
+
+  -- it doesn't, or isn't
+  pub nearer_not : (behind last next ≤ behind last end) ⊎ (waits end ≡ false) → IsNearest waits last next (end + 1)
+  nearer_not why = record {
+    place = near.place;
+    waiting = near.waiting;
+    first = λ key below waiting. elim (cases_eq key end) [
+      | inl same ↦ at_end key same waiting why
+      | inr other ↦ near.first key (omega arith) waiting
+    ];
+  }
+    where
+      at_end : (key : ℕ) → key ≡ end → waits key ≡ true → (behind last next ≤ behind last end) ⊎ (waits end ≡ false) → behind last next ≤ behind last key
+      at_end key same waiting (inl far) = omega (arith, far, ap (behind last) same)
+      at_end key same waiting (inr none) = absurd (both_ways (waits end) none (subst (λ k. waits k ≡ true) same waiting))
+
+  -- none waits from `end` on
+  pub nearest_of_all : last < 128 → ((key : ℕ) → end ≤ key → key < 128 → waits key ≡ false) → HasNextTurn waits last next
+  nearest_of_all place beyond = elim (cases_Bool (waits next)) [
+    | inl is ↦ inl (record { place = near.place; waiting = is; first = λ key within waiting. near.first key (before key within waiting) waiting })
+    | inr none ↦ elim near.waiting [
+      | inl same ↦ inr (same, λ key within. false_from_ne_true (waits key) (λ waiting. alone same none key within waiting))
+      | inr is ↦ absurd (both_ways (waits next) none is)
+    ]
+  ]
+    where
+      before : (key : ℕ) → key < 128 → waits key ≡ true → key < end
+      before key within waiting = elim (cases_Bool (nat_lt key end)) [
+        | inl below ↦ grind (arith, nat_tests)
+        | inr above ↦ absurd (both_ways (waits key) (beyond key (grind (arith, nat_tests)) within) waiting)
+      ]
+
+      alone : next ≡ last → waits next ≡ false → (key : ℕ) → key < 128 → waits key ≡ true → ⊥
+      alone same none key within waiting =
+          let far = near.first key (before key within waiting) waiting in
+          let is = behind_all last key place within (omega (arith, far, ap (behind last) same)) in
+          both_ways (waits next) none (subst (λ k. waits k ≡ true) (is ∙ sym same) waiting)
 
 not_first : (a b : Bool) → (a || b) ≡ false → a ≡ false
 not_first true b is = absurd (cc)

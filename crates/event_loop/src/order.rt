@@ -134,23 +134,21 @@ fn writes_at<D: Sectors>(
     }
 }
 
-// The key so many places behind another, round the table.
-fn key_behind(last: usize, places: usize) -> usize
+// How many places a key stands behind another, round the table: from 1, and `SESSIONS_MAX` behind itself.
+fn places_behind(last: usize, key: usize) -> usize
     requires last { last < SESSIONS_MAX }
-    requires some { 1 ≤ places }
-    requires few { places ≤ SESSIONS_MAX }
-    ensures place { result < SESSIONS_MAX }
-    ensures places { behind last result ≡ places }
+    requires place { key < SESSIONS_MAX }
+    ensures { result ≡ behind last key }
 {
-    let key = last + places;
-    if key < SESSIONS_MAX {
-        key
+    if last < key {
+        key - last
     } else {
-        key - SESSIONS_MAX
+        SESSIONS_MAX + key - last
     }
 }
 
 // The key of the next in turn: of those of a kind that wait, the first behind this one, round the table; where none waits, this one still.
+// It looks at the places that the table has room for.
 fn next_in_turn<D: Sectors>(
     hub: &Hub<D>,
     table: &Slab<Entry<BufferedStream<Socket>>>,
@@ -161,13 +159,13 @@ fn next_in_turn<D: Sectors>(
     ensures next { HasNextTurn (λ key. waits_as hub.now kind (slot_at table.now.slots key)) last result }
     ensures place { result < SESSIONS_MAX }
 {
-    for places in 0..SESSIONS_MAX {
-        let key = key_behind(last, places + 1);
-        if waits_as(hub, table, kind, key) {
-            return key;
+    let mut next = last;
+    for key in 0..table.capacity().min(SESSIONS_MAX) {
+        if places_behind(last, key) < places_behind(last, next) && waits_as(hub, table, kind, key) {
+            next = key;
         }
     }
-    last
+    next
 }
 
 /// Who has this turn, after those that had the last, and of those that take no turns so many. Takes no memory.
