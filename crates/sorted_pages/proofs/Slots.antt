@@ -22,7 +22,8 @@ use Rattle.std.specs.Int.{bit_at, bit_not}
 use Rattle.std.specs.Int.Bits.{bit_and}
 use Rattle.std.specs.List.{AllByRecursion, IsDistinct, position_from}
 use Rattle.std.specs.Prelude.{position, slice_get, nat_eq, nat_le, nat_lt, ◌&&◌, ◌==◌, ◌||◌, ◌⊎◌}
-use Rattle.sorted_pages.specs.Held.{AreApart, AreBits, AreBounded, AreFreeFrom, AreHeldFrom, AreHeldOf, IsHeldLate}
+use Rattle.sorted_pages.specs.Held.{AreAmong, AreApart, AreBits, AreBounded, AreFreeFrom, AreHeldFrom, AreHeldOf}
+use Rattle.sorted_pages.specs.Held.{IsHeldLate}
 use Rattle.sorted_pages.specs.Held.{bit_of, is_among, with_number}
 use Rattle.sorted_pages.specs.declared.held.TheConstants.{FREE}
 
@@ -703,3 +704,30 @@ module _ (held : List ℕ) (last number hidden newest : ℕ) where
       by : (b : Bool) → min (bit_at hidden i) (1 - bit_of b) ≡ cond b 0 (bit_at hidden i)
       by true = omega arith
       by false = let few = bit_at-lt hidden i in omega arith
+
+-- ---- a set of numbers by their places
+
+module _ (ns : List ℕ) where
+  -- at first each place is free
+  pub none-placed : (k : ℕ) → AreAmong ns (replicate k FREE)
+  none-placed k i n at = inl (free_all k 0 i n (omega arith) at)
+
+  -- then each number comes into a place
+  pub one-placed : (places : List ℕ) (k d i : ℕ) → AreAmong ns places → i < length ns → AreAmong ns (set places k (get_or ns i d))
+  one-placed places k d i among less j n at = by (cases_eq j k)
+    where
+      within : j < length places
+      within = subst (λ l. j < l) (length-set places k (get_or ns i d)) (slice_get_within (set places k (get_or ns i d)) j n at)
+
+      is : get_or (set places k (get_or ns i d)) j 0 ≡ n
+      is = get_or_from_slice_get (set places k (get_or ns i d)) j n 0 at
+
+      by : (j ≡ k) ⊎ (j ≡ k → ⊥) → (n ≡ FREE) ⊎ (is_among ns n ≡ true)
+      by (inl same) =
+          let here : get_or ns i d ≡ n =
+          sym (get_or-set_same places k (get_or ns i d) 0 (subst (λ m. m < length places) same within))
+          ∙ ap (λ m. get_or (set places k (get_or ns i d)) m 0) (sym same) ∙ is in
+          inr (list_any_at (λ m. m == n) ns i d less (eq-eqb (get_or ns i d) n here))
+      by (inr differs) =
+          among j n (slice_get-get_or places j 0 within
+          ∙ ap (λ m. Some m) (sym (get_or-set_other places k j (get_or ns i d) 0 differs) ∙ is))

@@ -10,6 +10,10 @@ use Rattle.sorted_pages.specs.declared.held.TheConstants.{FREE}
 abbrev pub is_among : List ℕ → ℕ → Bool
 is_among ns n = list_any (λ m. m == n) ns
 
+-- what stands in a place is one of these, or the place is free
+abbrev pub AreAmong : List ℕ → List ℕ → Type 0
+AreAmong ns places = (i n : ℕ) → slice_get places i ≡ Some n → (n ≡ FREE) ⊎ (is_among ns n ≡ true)
+
 abbrev pub bit_of : Bool → ℕ
 bit_of b = if b then 1 else 0
 

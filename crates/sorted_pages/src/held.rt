@@ -7,6 +7,7 @@ ghost use Rattle.sorted_pages.specs.Held.{IsHeldLate, IsReader, is_among, with_n
 ghost use Rattle.std.specs.Int.{bit_at};
 ghost use Rattle.sorted_pages.specs.Summaries.{BitsHide, are_hidden};
 
+use crate::number_set::NumberSet;
 use crate::versioned::Versioned;
 use model::Key;
 use std::marker::Model;
@@ -15,7 +16,7 @@ use std::marker::Model;
 pub const HELD_MAX: usize = 64;
 
 // What stands in a slot of no number. No value changes with a number above it.
-const FREE: u64 = u64::MAX;
+pub(crate) const FREE: u64 = u64::MAX;
 
 // One who reads: the number at which it began, and the bit of its slot, or none where the number isn't held.
 #[derive(Clone, Copy)]
@@ -128,7 +129,7 @@ impl Held {
     }
 
     // Releases all numbers but these.
-    fn release_others(&mut self, numbers: &[u64])
+    fn release_others(&mut self, numbers: &NumberSet<'_>)
         ensures kept { AreHeldOf numbers.now self.old self.new }
         ensures places { length self.new ≡ HELD_MAX }
         ensures apart { AreApart self.new }
@@ -142,7 +143,7 @@ impl Held {
             }
         }
         self.used = used;
-        self.bound = bound_of(numbers);
+        self.bound = bound_of(numbers.numbers());
     }
 
     // Holds the number, where a slot is free.
@@ -182,7 +183,7 @@ impl Held {
         if self.bound == 0 && numbers.is_empty() {
             return;
         }
-        self.release_others(numbers);
+        self.release_others(&NumberSet::of(numbers));
         for number in numbers {
             self.add_late(*number, last);
         }
@@ -209,10 +210,10 @@ fn bound_of(numbers: &[u64]) -> u64
 }
 
 // What stands in the number's slot when only these are held.
-fn kept(number: u64, numbers: &[u64]) -> u64
+fn kept(number: u64, numbers: &NumberSet<'_>) -> u64
     ensures { result ≡ (if is_among numbers.now number then number else FREE) }
 {
-    if number == FREE || numbers.contains(&number) {
+    if number == FREE || numbers.contains(number) {
         number
     } else {
         FREE

@@ -7,6 +7,7 @@ mod flagging;
 mod heads;
 mod held;
 mod insertion_point;
+mod number_set;
 mod page;
 mod page_list;
 mod pages;
@@ -21,6 +22,7 @@ mod versioned;
 
 pub use held::HELD_MAX;
 pub use insertion_point::InsertionPoint;
+pub use number_set::NumberSet;
 pub use pages::SortedPages;
 pub use range::Entries;
 pub use value_place::ValuePlace;

@@ -34,7 +34,7 @@ invariant_of-self c =
     let free = free_later _ c.loop-slot.slot old c.self.invariant.2 (omega arith) in
     let all = released-all ns old now c.loop-slot.slot c.loop-slot.used c.loop-slot.invariant free in (
       subst AreApart (sym all) (apart_kept ns old c.self.invariant.0),
-      subst (AreBounded _) (sym all) (bounded_kept ns old _ c.bound_of-self-inside.ensures),
+      subst (AreBounded _) (sym all) (bounded_kept ns old _ (subst (AreBounded _) c.numbers.ensures c.bound_of-self-inside.ensures)),
       free_released ns old now c.loop-slot.slot c.loop-slot.used c.loop-slot.invariant free,
       (let small = c.loop-slot.invariant.within in omega arith),
     )
