@@ -2,7 +2,7 @@
 use Rattle.std.proofs.Common.{◌||◌, ◌≡◌, ℕ, zero, suc, ◌+◌, ◌^◌, ◌<◌, ◌≤◌, true, false, Some, None, List, [], ◌∷◌}
 use Rattle.std.proofs.Common.{◌++◌, length, take, get_or, set, map, refl, sym, ap, subst, ◌∙◌, arith}
 use Rattle.std.proofs.Math.Seq.{map-set_same}
-use Rattle.std.proofs.lemmas.Bool.{both_ways, or_left, or_right, eq-eqb}
+use Rattle.std.proofs.lemmas.Bool.{both_ways, or_from, or_left, or_right, eq-eqb}
 use Rattle.std.proofs.lemmas.Bool.Decides.{nat_tests}
 use Rattle.std.proofs.lemmas.Grind.{common_steps}
 use Rattle.std.proofs.lemmas.List.{get_or-map, get_or-take, get_or_default, length-map, length-take, take_more}
@@ -12,9 +12,9 @@ use Rattle.std.proofs.lemmas.List.Folds.{list_any-append, list_any_none}
 use Rattle.std.proofs.lemmas.List.Quantifiers.{position-Some}
 use Rattle.std.proofs.lemmas.List.Recursion.{is_sum_by}
 use Rattle.std.proofs.lemmas.List.Sums.{fails_before_first}
-use Rattle.std.specs.List.{list_any, remove, sum_by, position}
+use Rattle.std.specs.List.{AllByRecursion, list_any, remove, sum_by, position}
 use Rattle.std.specs.Prelude.{nat_lt, max, fold, ◌==◌, if◌then◌else◌}
-use Rattle.model.proofs.Elements.{all-each}
+use Rattle.model.proofs.Elements.{all-append, all-each}
 use Rattle.versions.specs.Groups.{GroupValue}
 use Rattle.versions.specs.Listings.{pin_for, pins, AreApart, AreAmong, CanJoin, lists_in}
 use Rattle.versions.specs.Meaning.{is_among}
@@ -78,6 +78,21 @@ pub apart-next : (gs : List GroupValue) (i : ℕ) → i < length gs → AreApart
 apart-next gs i lt h other =
     let long : i < length (pins gs) = omega (arith, lt, length-map gs (λ (g : GroupValue). g.pin)) in
     subst AreApart (sym (take_more (pins gs) i 0 long)) (apart-push (take i (pins gs)) (get_or (pins gs) i 0) h other)
+
+-- the pins up to a number
+pub none-above : (ns : List ℕ) (greatest n : ℕ) → AllByRecursion (λ m. m ≤ greatest) ns → greatest < n → is_among ns n ≡ false
+none-above [] greatest n all less = refl
+none-above (m ∷ ns) greatest n all less =
+    let differs : (m == n) ≡ false = grind (arith, nat_tests, all.0) in
+    or_from (m == n) (is_among ns n) differs (none-above ns greatest n all.1 less)
+
+pub greatest-next : (gs : List GroupValue) (i greatest next : ℕ) → i < length gs → AllByRecursion (λ m. m ≤ greatest) (take i (pins gs)) → greatest ≤ next
+    → get_or (pins gs) i 0 ≤ next → AllByRecursion (λ m. m ≤ next) (take (i + 1) (pins gs))
+greatest-next gs i greatest next lt all more own =
+    let long : i < length (pins gs) = omega (arith, lt, length-map gs (λ (g : GroupValue). g.pin)) in
+    subst (AllByRecursion (λ m. m ≤ next)) (sym (take_more (pins gs) i 0 long))
+    (all-append (λ m. m ≤ next) (take i (pins gs)) (get_or (pins gs) i 0 ∷ []) (all-each (λ m. m ≤ greatest) (λ m. m ≤ next) (take i (pins gs))
+    (λ m less. omega (arith, less, more)) all) (own, tt))
 
 pub take-remove : {X Y : Type 0} (f : X → Y) (xs : List X) (i : ℕ) → take i (map f (remove xs i)) ≡ take i (map f xs)
 take-remove f xs zero = refl

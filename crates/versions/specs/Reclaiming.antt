@@ -1,6 +1,6 @@
 -- What a step of a reclaim does to chains, to the versions that are listed of them, and to the groups.
 use Rattle.std.specs.List.{AllByRecursion}
-use Rattle.std.specs.Prelude.{◌≡◌, ◌≤◌, ◌+◌, ◌-◌, ℕ, List, ◌∷◌, take, get_or, false}
+use Rattle.std.specs.Prelude.{◌≡◌, ◌≤◌, ◌<◌, ◌+◌, ◌-◌, ℕ, List, ◌∷◌, take, get_or, length, false}
 use Rattle.sorted_pages.specs.Pages.{KeepsHeld, PagesValue, entries}
 use Rattle.sorted_pages.specs.Summaries.{HoldsAmong}
 use Rattle.versions.specs.Chains.{ChainValue, Chains, IsKept}
@@ -105,6 +105,11 @@ pub record KeepsListed (gs hs : List GroupValue) : Type 0 where
   pub unclassified : (bs : List ℕ) (chains : Chains) → AreUnclassifiedCollected bs chains gs
       → AreUnclassifiedCollected bs chains hs
   pub each : GroupsStayUnder gs hs
+
+-- a group stands in place i, and no group before it has a pin above this
+pub record StandsBehind (greatest i : ℕ) (gs : List GroupValue) : Type 0 where
+  pub within : i < length gs
+  pub pins_before : AllByRecursion (λ n. n ≤ greatest) (take i (pins gs))
 
 -- the groups are the same, and none before place i has the pin of the group there
 pub record StaysApart (gs : List GroupValue) (i : ℕ) (hs : List GroupValue) : Type 0 where

@@ -7,6 +7,7 @@ ghost use Rattle.versions.specs.Listings.{versions_in};
 ghost use Rattle.versions.specs.Meaning.{garbage_for, is_among};
 
 use model::{Key, Memory};
+use sorted_pages::NumberSet;
 use std::collections::LinkedList;
 use std::marker::Model;
 
@@ -100,6 +101,20 @@ impl Group {
         }
     }
 
+    // The number that sees its lists.
+    pub(crate) fn pin(&self) -> u64
+        ensures { result ≡ self.now.pin }
+    {
+        self.pin
+    }
+
+    // Is its pin greater than this?
+    pub(crate) fn is_above(&self, pin: u64) -> bool
+        ensures { result ≡ nat_lt pin self.now.pin }
+    {
+        pin < self.pin
+    }
+
     // How many lists are garbage.
     pub(crate) fn garbage(&self) -> usize
         ensures { result ≡ self.now.garbage }
@@ -126,10 +141,10 @@ impl Group {
     }
 
     // Is a list garbage where these numbers are active?
-    pub(crate) fn is_garbage(&self, begins: &[u64]) -> bool
+    pub(crate) fn is_garbage(&self, begins: &NumberSet<'_>) -> bool
         ensures { result ≡ nat_lt 0 (garbage_for begins.now self.now) }
     {
-        !self.garbage.is_empty() || !is_among(begins, self.pin) && !self.lists.is_empty()
+        !self.garbage.is_empty() || !begins.contains(self.pin) && !self.lists.is_empty()
     }
 }
 
@@ -158,13 +173,6 @@ pub(crate) fn reserve_list(
         list.reserve(more)?;
     }
     Ok(())
-}
-
-// Is the number among these?
-pub(crate) fn is_among(numbers: &[u64], n: u64) -> bool
-    ensures { result ≡ is_among numbers.now n }
-{
-    numbers.iter().any(|number| *number == n)
 }
 
 // The greatest of the numbers below this one, and 0 where none is.

@@ -14,14 +14,14 @@ ghost use Rattle.versions.specs.Pins.{GroupStaysUnder};
 ghost use Rattle.versions.specs.Listings.{AreApart, ListsAreFilled, AreIn, CanJoin, IsListed, IsRepinned};
 ghost use Rattle.versions.specs.Listings.{IsTrulyUnclassified, has_version, lists_in, versions_in, pin_for, pins};
 ghost use Rattle.versions.specs.Reclaiming.{AreLookedAt, DropsFromGroup, DropsUnseen, IsLookedAfter, IsReclaimable};
-ghost use Rattle.versions.specs.Reclaiming.{KeepsListed, ReclaimsPages, ReclaimsStep, StaysApart, TakesGroup};
-ghost use Rattle.versions.specs.Reclaiming.{TakesLists};
+ghost use Rattle.versions.specs.Reclaiming.{KeepsListed, ReclaimsPages, ReclaimsStep, StandsBehind, StaysApart};
+ghost use Rattle.versions.specs.Reclaiming.{TakesGroup, TakesLists};
 ghost use Rattle.versions.specs.Reclaiming.{TakesVersions};
 ghost use Rattle.versions.specs.Meaning.{garbage_for, garbage_in, is_among};
 
 use crate::chain::Chain;
-use crate::listing::{Group, OldVersion, are_empty, are_seen_from, greatest_below, is_among};
-use sorted_pages::SortedPages;
+use crate::listing::{Group, OldVersion, are_empty, are_seen_from, greatest_below};
+use sorted_pages::{NumberSet, SortedPages};
 use std::collections::LinkedList;
 use std::mem;
 
@@ -136,7 +136,7 @@ fn collect_lists(
 impl Group {
     // Takes in which numbers are active. Where the pin is none of them, the greatest of them below it becomes the pin, or 0 where there is
     // none, and the lists that it saw are garbage, before those that already were.
-    fn repin(&mut self, begins: &[u64])
+    fn repin(&mut self, begins: &NumberSet<'_>)
         ensures found { AreIn self.old.versions self.new.versions }
         ensures garbage { self.new.garbage ≡ garbage_for begins.now self.old }
         ensures repinned { IsRepinned begins.now self.new }
@@ -144,7 +144,7 @@ impl Group {
         ensures lists { self.new.lists ≡ self.old.lists }
         ensures each { GroupStaysUnder self.old self.new }
     {
-        if is_among(begins, self.pin) {
+        if begins.contains(self.pin) {
             return;
         }
         let alloc = *self.lists.allocator();
@@ -154,12 +154,12 @@ impl Group {
             mem::replace(&mut self.garbage, LinkedList::new(alloc)),
         );
         self.garbage = lists;
-        self.pin = greatest_below(begins, self.pin);
+        self.pin = greatest_below(begins.numbers(), self.pin);
     }
 
     // Puts lists that were looked at under the pin, where it is active and sees all of them, and else leaves them unclassified. Takes no
     // memory.
-    fn keep(&mut self, lists: LinkedList<Vec<OldVersion>>, begins: &[u64])
+    fn keep(&mut self, lists: LinkedList<Vec<OldVersion>>, begins: &NumberSet<'_>)
         requires fits { self.old.lists + length lists < 2 ^ 63 }
         requires filled { ListsAreFilled lists }
         requires repinned { IsRepinned begins.now self.old }
@@ -168,7 +168,7 @@ impl Group {
         ensures repinned { IsRepinned begins.now self.new }
         ensures truly { self.old.unclassified ≡ [] → IsTrulyUnclassified begins.now self.new }
     {
-        if is_among(begins, self.pin) && are_seen_from(&lists, self.pin) {
+        if begins.contains(self.pin) && are_seen_from(&lists, self.pin) {
             append(&mut self.lists, lists);
         } else {
             append(&mut self.unclassified, lists);
@@ -176,7 +176,12 @@ impl Group {
     }
 
     // Looks at the first `count` of the garbage lists.
-    fn look_at_garbage(&mut self, chains: &mut SortedPages<Chain>, begins: &[u64], count: usize)
+    fn look_at_garbage(
+        &mut self,
+        chains: &mut SortedPages<Chain>,
+        begins: &NumberSet<'_>,
+        count: usize,
+    )
         requires count { count ≤ self.old.garbage }
         requires repinned { IsRepinned begins.now self.old }
         requires kept { IsReclaimable begins.now chains.old }
@@ -188,15 +193,15 @@ impl Group {
         if count == 0 {
             return;
         }
-        let pin = Some(self.pin).filter(|pin| is_among(begins, *pin));
+        let pin = begins.contains(self.pin).then_some(self.pin);
         let mut lists = take_front(&mut self.garbage, count);
-        collect_lists(chains, &mut lists, begins, pin);
+        collect_lists(chains, &mut lists, begins.numbers(), pin);
         self.keep(lists, begins);
     }
 
     // Looks at the unclassified lists, and puts them under the pin where it now sees all of them. If no list is garbage, the whole group
     // was then looked at.
-    fn look_at_unclassified(&mut self, chains: &mut SortedPages<Chain>, begins: &[u64])
+    fn look_at_unclassified(&mut self, chains: &mut SortedPages<Chain>, begins: &NumberSet<'_>)
         requires repinned { IsRepinned begins.now self.old }
         requires kept { IsReclaimable begins.now chains.old }
         ensures chains { ReclaimsPages begins.now chains.old chains.new }
@@ -209,12 +214,17 @@ impl Group {
         }
         let alloc = *self.unclassified.allocator();
         let mut unclassified = mem::replace(&mut self.unclassified, LinkedList::new(alloc));
-        collect_lists(chains, &mut unclassified, begins, None);
+        collect_lists(chains, &mut unclassified, begins.numbers(), None);
         self.keep(unclassified, begins);
     }
 
     // Takes in which numbers are active, looks at up to `most` of the garbage lists, and answers how many fewer than `most` it looked at.
-    fn reclaim(&mut self, chains: &mut SortedPages<Chain>, begins: &[u64], most: usize) -> usize
+    fn reclaim(
+        &mut self,
+        chains: &mut SortedPages<Chain>,
+        begins: &NumberSet<'_>,
+        most: usize,
+    ) -> usize
         requires kept { IsReclaimable begins.now chains.old }
         ensures spare { result ≡ most - garbage_for begins.now self.old }
         ensures garbage { garbage_for begins.now self.new ≡ garbage_for begins.now self.old - most }
@@ -244,7 +254,7 @@ impl Group {
 
 // Takes in which numbers are active, and looks at the first garbage lists, from the last group on: what none of the numbers sees goes. So
 // the list of a commit is looked at before those that others left, and no chain grows while these are many.
-fn reclaim_groups(chains: &mut SortedPages<Chain>, groups: &mut [Group], begins: &[u64])
+fn reclaim_groups(chains: &mut SortedPages<Chain>, groups: &mut [Group], begins: &NumberSet<'_>)
     requires kept { IsReclaimable begins.now chains.old }
     requires listed { IsListed (entries chains.old.pages) groups.old }
     ensures step { ReclaimsStep begins.now chains.old chains.new groups.old groups.new }
@@ -265,9 +275,10 @@ fn place_of(groups: &[Group], pin: u64) -> Option<usize>
     groups.iter().position(|group| group.pin == pin)
 }
 
-// Joins a group to one before it with the same pin. Is there one? Takes no memory.
-fn join(groups: &mut Vec<Group>, i: usize) -> bool
-    requires within { i < vec_len groups.old }
+// Joins a group to one before it with the same pin. Is there one? The pins before it are no greater than `greatest`, so none is looked for
+// where its own is. Takes no memory.
+fn join(groups: &mut Vec<Group>, i: usize, greatest: u64) -> bool
+    requires place { StandsBehind greatest i groups.old.items }
     requires few { lists_in groups.old.items < 2 ^ 63 }
     ensures keeps { KeepsListed groups.old.items groups.new.items }
     ensures lists { lists_in groups.new.items ≡ lists_in groups.old.items }
@@ -275,6 +286,9 @@ fn join(groups: &mut Vec<Group>, i: usize) -> bool
     ensures joined { IsTrue result → vec_len groups.new + 1 ≡ vec_len groups.old }
     ensures apart { result ≡ false → StaysApart groups.old.items i groups.new.items }
 {
+    if groups[i].is_above(greatest) {
+        return false;
+    }
     match place_of(&groups[..i], groups[i].pin) {
         Some(place) => {
             let group = groups.remove(i);
@@ -293,17 +307,19 @@ fn join_groups(groups: &mut Vec<Group>)
     ensures apart { AreApart (pins groups.new.items) }
 {
     let mut i = 0;
+    let mut greatest = 0;
     while i < groups.len() {
         if groups[i].is_empty() {
             let _ = groups.remove(i);
-        } else if !join(groups, i) {
+        } else if !join(groups, i, greatest) {
+            greatest = greatest.max(groups[i].pin());
             i += 1;
         }
     }
 }
 
 // Is a list of some group garbage where these numbers are active?
-fn are_garbage(groups: &[Group], begins: &[u64]) -> bool
+fn are_garbage(groups: &[Group], begins: &NumberSet<'_>) -> bool
     ensures { result ≡ list_any (λ g. nat_lt 0 (garbage_for begins.now g)) groups.now }
 {
     groups.iter().any(|group| group.is_garbage(begins))
@@ -324,7 +340,8 @@ pub(crate) fn reclaim_versions(
     ensures groups { AreLookedAt begins.now (entries chains.new.pages) groups.old.items groups.new.items }
     ensures few { length groups.new.items ≤ length begins.now + 1 }
 {
-    reclaim_groups(chains, groups, begins);
+    let begins = NumberSet::of(begins);
+    reclaim_groups(chains, groups, &begins);
     join_groups(groups);
-    are_garbage(groups, begins)
+    are_garbage(groups, &begins)
 }

@@ -1,18 +1,24 @@
 use Rattle.versions.proofs.reclaiming.join_groups.Goals as goal
-use Rattle.std.proofs.Common.{◌+◌, List, take, sym, ap, subst, refl, ◌∙◌, arith}
+use Rattle.std.proofs.Common.{◌+◌, ◌<◌, ◌≤◌, List, length, take, sym, ap, subst, refl, ◌∙◌, arith}
 use Rattle.std.specs.List.{AllByRecursion}
 use Rattle.model.proofs.Elements.{all-remove}
 use Rattle.versions.proofs.Groups.{garbage-empty, found-remove, keeps-itself, keeps-on}
 use Rattle.versions.proofs.UnderPins.{IsUnder}
-use Rattle.versions.proofs.Pins.{apart-next, among-remove, take-remove, lists-remove}
+use Rattle.versions.proofs.Pins.{apart-next, among-remove, greatest-next, lists-remove, take-get, take-remove}
 use Rattle.versions.specs.Groups.{GroupValue}
 use Rattle.versions.specs.Listings.{AreAmong, AreApart, AreUnclassifiedCollected, IsCollected, IsTrulyUnclassified}
 use Rattle.versions.specs.Listings.{lists_in, pins}
 use Rattle.versions.specs.Reclaiming.{KeepsListed}
 use Rattle.versions.specs.Pins.{AreUnderPins}
 
+pub join-requires : goal.join-requires
+join-requires c = record {
+  place = record { within = omega arith; pins_before = c.loop-i.invariant.greatest };
+  few = (let before = c.loop-i.invariant.lists in let most = c.requires in omega (arith, before, most));
+}
+
 pub loop-i-init : goal.loop-i-init
-loop-i-init c = record { keeps = keeps-itself c.args.groups.now.items; lists = omega arith; apart = tt }
+loop-i-init c = record { keeps = keeps-itself c.args.groups.now.items; lists = omega arith; apart = tt; greatest = tt }
 
 pub loop-i-preserved-then-is_empty : goal.loop-i-preserved-then-is_empty
 loop-i-preserved-then-is_empty c =
@@ -36,6 +42,8 @@ loop-i-preserved-then-is_empty c =
           before = c.loop-i.invariant.lists in omega (arith, sum, now, before));
       apart = subst AreApart (sym (ap (λ (l : List GroupValue). take i (pins l)) less ∙ take-remove (λ (g : GroupValue). g.pin) gs i))
           c.loop-i.invariant.apart;
+      greatest = subst (AllByRecursion (λ n. n ≤ c.loop-i.greatest))
+          (sym (ap (λ (l : List GroupValue). take i (pins l)) less ∙ take-remove (λ (g : GroupValue). g.pin) gs i)) c.loop-i.invariant.greatest;
     }
 
 pub loop-i-preserved : goal.loop-i-preserved
@@ -46,6 +54,7 @@ loop-i-preserved c =
       keeps = keeps-on c.args.groups.now.items c.loop-i.groups.items c.join.new.groups.items inv.keeps e.keeps;
       lists = omega (arith, e.lists, inv.lists);
       apart = subst AreApart (sym e.first) inv.apart;
+      greatest = subst (AllByRecursion (λ n. n ≤ c.loop-i.greatest)) (sym e.first) inv.greatest;
     }
 
 pub loop-i-preserved-then-not-join : goal.loop-i-preserved-then-not-join
@@ -53,9 +62,19 @@ loop-i-preserved-then-not-join c =
     let e = c.join.ensures in
     let inv = c.loop-i.invariant in
     let alone = c.if-not-join.ensures.apart refl in
+    let hs = c.join.new.groups.items in
+    let within : c.loop-i.i < length hs = omega (arith, ap (λ (l : List GroupValue). length l) alone.same) in
     record {
       keeps = keeps-on c.args.groups.now.items c.loop-i.groups.items c.join.new.groups.items inv.keeps e.keeps;
       lists = omega (arith, e.lists, inv.lists);
       apart = subst (λ (l : List GroupValue). AreApart (take (c.loop-i.i + 1) (pins l))) (sym alone.same)
           (apart-next c.loop-i.groups.items c.loop-i.i (omega arith) inv.apart alone.other);
+      greatest = greatest-next hs c.loop-i.i c.loop-i.greatest c.max-greatest.result within
+          (subst (AllByRecursion (λ n. n ≤ c.loop-i.greatest)) (sym e.first) inv.greatest) (omega (arith, c.max-greatest.ensures))
+          (let own = take-get (λ (g : GroupValue). g.pin) hs c.loop-i.i c.index-then-not-join.result.now 0 within c.index-then-not-join.ensures in omega (
+            arith,
+            own,
+            c.pin.ensures,
+            c.max-greatest.ensures,
+          ));
     }

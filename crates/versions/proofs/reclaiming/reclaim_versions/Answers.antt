@@ -15,7 +15,7 @@ use Rattle.versions.specs.Pins.{AreUnderPins}
 
 pub returns : goal.returns
 returns c =
-    let bs = c.args.begins.now in
+    let bs = c.of-begins.result in
     let es = entries c.reclaim_groups.new.chains.pages in
     let groups = c.reclaim_groups.new.groups in
     let joined = c.join_groups.ensures.keeps in
@@ -27,7 +27,7 @@ returns c =
     ∙ take-append_seam groups (drop (length groups) c.args.groups.now.items)) in
     let active = joined.active (0 ∷ bs) (subst (λ (l : List GroupValue). AreAmong (0 ∷ bs) (pins l)) are looked.active) in
     let few = apart-few (pins c.join_groups.new.groups.items) (0 ∷ bs) c.join_groups.ensures.apart active in
-    record {
+    rw (sym c.of-begins.ensures) (record {
       still = c.are_garbage.ensures ∙ any-garbage bs c.deref.result.now ∙ ap (λ (gs : List GroupValue). nat_lt 0 (garbage_in bs gs)) c.deref.ensures.value;
       step = record { garbage = search rules; pages = step.pages; all = search rules };
       groups = record {
@@ -41,4 +41,4 @@ returns c =
             joined.each now u (subst (AreUnderPins now u) are (looked.each more now v u stands old)));
       };
       few = omega (arith, few, length-map c.join_groups.new.groups.items (λ (g : GroupValue). g.pin));
-    }
+    })

@@ -8,8 +8,8 @@ use Rattle.model.proofs.Elements.{all-append}
 use Rattle.versions.proofs.Groups.{unseen, unseen-put}
 use Rattle.versions.proofs.Lists.{in-append, in-seen}
 use Rattle.versions.proofs.Parts.{all-seen_more}
-use Rattle.versions.proofs.listing.Group.keep.Goals.{else-is_among-via-then-is_among+else-are_seen_from}
-use Rattle.versions.proofs.listing.Group.keep.Goals.{else-is_among-via-else-is_among}
+use Rattle.versions.proofs.listing.Group.keep.Goals.{else-contains-via-then-contains+else-are_seen_from}
+use Rattle.versions.proofs.listing.Group.keep.Goals.{else-contains-via-else-contains}
 use Rattle.versions.specs.Groups.{GroupValue, Listed}
 use Rattle.versions.specs.Listings.{AreSeenFrom, IsCollected, is_seen_from, versions_in}
 use Rattle.versions.specs.Meaning.{is_among}
@@ -46,8 +46,8 @@ returns-then-are_seen_from-clause-versions c =
       each = λ active v w h hm more. (all (IsUnderPin active v w) h more, unclassified (IsUnderPin active v w) hm);
     }
 
-pub returns-else-is_among-clause-versions : goal.returns-else-is_among-clause-versions
-returns-else-is_among-clause-versions c = record {
+pub returns-else-contains-clause-versions : goal.returns-else-contains-clause-versions
+returns-else-contains-clause-versions c = record {
   found = grind (arith, common_steps);
   kept = grind (arith, common_steps);
   collected = grind (arith, common_steps);
@@ -55,20 +55,20 @@ returns-else-is_among-clause-versions c = record {
   each = grind (arith, common_steps);
 }
 
-pub returns-else-is_among-clause-truly : goal.returns-else-is_among-clause-truly
-returns-else-is_among-clause-truly c = λ none.
+pub returns-else-contains-clause-truly : goal.returns-else-contains-clause-truly
+returns-else-contains-clause-truly c = λ none.
     let bs = c.args.begins.now in
     let w = c.self.inside.pin in
     let unclassified = c.self.inside.unclassified in
-    let unfit : (is_among bs w && list_all (is_seen_from w) (versions_in c.args.lists)) ≡ false = elim c.else-is_among.branch [
-      | else-is_among-via-then-is_among+else-are_seen_from b ↦ unseen bs w c.args.lists (sym b.are_seen_from.ensures ∙ b.if-are_seen_from.false)
-      | else-is_among-via-else-is_among b ↦ and_left _ _ (sym c.is_among.ensures ∙ b.if-is_among.false)
+    let unfit : (is_among bs w && list_all (is_seen_from w) (versions_in c.args.lists)) ≡ false = elim c.else-contains.branch [
+      | else-contains-via-then-contains+else-are_seen_from b ↦ unseen bs w c.args.lists (sym b.are_seen_from.ensures ∙ b.if-are_seen_from.false)
+      | else-contains-via-else-contains b ↦ and_left _ _ (sym c.contains.ensures ∙ b.if-contains.false)
     ] in
-    let put = c.append-else-is_among.ensures in
+    let put = c.append-else-contains.ensures in
     let lists = ap length put ∙ length-append unclassified c.args.lists in
     let listed = ap (λ l. length (versions_in l)) put ∙ ap length (in-append unclassified c.args.lists)
     ∙ length-append (versions_in unclassified) (versions_in c.args.lists) in (
       omega (arith, lists, listed, c.self.invariant.2, c.requires.filled),
-      inr (unseen-put bs w (versions_in unclassified) (versions_in c.args.lists) (versions_in c.append-else-is_among.new.lists) (ap versions_in put
+      inr (unseen-put bs w (versions_in unclassified) (versions_in c.args.lists) (versions_in c.append-else-contains.new.lists) (ap versions_in put
           ∙ in-append unclassified c.args.lists) (ap (λ (x : GroupValue). x.unclassified) c.self.view_is ∙ none) unfit),
     )

@@ -36,3 +36,6 @@ returns-clause-group c =
           own.2
           (looked.each active v w (all-front P (versions_in taken) (versions_in rest) garbage)));
     }
+
+pub collect_lists-requires-clause-next : goal.collect_lists-requires-clause-next
+collect_lists-requires-clause-next c = rw c.numbers.ensures (search rules)

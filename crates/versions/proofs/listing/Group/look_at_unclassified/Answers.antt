@@ -33,6 +33,7 @@ returns-clause-looked_after c =
     let es = entries c.collect_lists.new.chains.pages in
     let none = no-versions (IsCollected bs es) c.replace-unclassified.new.dest (ap length (c.replace-unclassified.ensures.after ∙ c.new.ensures)) in
     let put = c.keep.ensures.versions in
+    let left = rw c.numbers.ensures at c.collect_lists.ensures.versions.collected in
     record {
       collected = λ zero. (
           let active = subst (IsRepinned bs) (sym c.self.view_is) c.requires.repinned in
@@ -40,8 +41,8 @@ returns-clause-looked_after c =
           put.collected es
           (parts-collected bs es c.self.inside.pin c.self.inside.lists c.self.inside.garbage c.replace-unclassified.new.dest active c.self.invariant.0
           no_garbage none)
-          c.collect_lists.ensures.versions.collected);
-      unclassified = put.unclassified es none c.collect_lists.ensures.versions.collected;
+          left);
+      unclassified = put.unclassified es none left;
       truly = grind (arith, common_steps);
     }
 
