@@ -20,3 +20,4 @@ mod Peers
 mod Shorts
 mod Progress
 mod Widths
+mod Classes

@@ -34,7 +34,8 @@ use Rattle.event_loop.proofs.Slots.{Slots}
 use Rattle.event_loop.proofs.Widths.{count_more}
 use Rattle.event_loop.specs.Numbers.{HasTablePlace, HaveTablePlaces, WasRegisteredAs}
 use Rattle.event_loop.specs.Order.{AreNext, ComesNearer, HasNextTurn, after_turn, behind, has_turn, in_turn}
-use Rattle.event_loop.specs.Order.{is_of_kind, is_late_entry, is_one, is_ready_slot, late_below, late_in, light_below}
+use Rattle.event_loop.specs.Order.{is_of_kind, is_writer, is_late_entry, is_one, is_ready_slot, late_below, late_in}
+use Rattle.event_loop.specs.Order.{light_below}
 use Rattle.event_loop.specs.Order.{light_in, share_at, share_in_turn, share_of_slot, takes_none, takes_turns}
 use Rattle.event_loop.specs.Order.{waits_as, writer_of, writes_in}
 use Rattle.event_loop.specs.declared.order.Kind.TheVariants.{Any, Reader, Writer}
@@ -84,7 +85,7 @@ left_less width below one left then more is less more_is =
 
 module _ {T D : Type 0} {g : Ghosts D} (hub : Hub D g) (turns : Turns) where
   abbrev pub turned_slot : (ℕ → Option (Entry (BufferedStream T))) → ℕ → Option (Entry (BufferedStream T))
-  turned_slot slots key = after_turn (share_at hub turns slots key) (slots key)
+  turned_slot slots key = after_turn (writes_in hub (slots key)) (share_at hub turns slots key) (slots key)
 
   slot_some : (light late : Bool) (key : ℕ) (slot : Option (Entry (BufferedStream T))) → IsSome (share_of_slot hub turns light late key slot)
   slot_some light late key None = tt
@@ -96,6 +97,7 @@ module _ {T D : Type 0} {g : Ghosts D} (hub : Hub D g) (turns : Turns) where
       → ((key : ℕ) → slot_at ready key ≡ turned_slot (λ other. after_poll events other (slot_at old other)) key) → TakesTurns old ready events
   turns_taken old ready events turned key =
       let slots : ℕ → Option (Entry (BufferedStream T)) = λ other. after_poll events other (slot_at old other) in (
+        writes_in hub (slots key),
         share_at hub turns slots key,
         turned key,
         slot_some (nat_lt (light_below hub slots key) turns.width) (nat_lt (late_below hub slots key) (turns.width - 1)) key (slots key),
@@ -123,14 +125,15 @@ module _ {T D : Type 0} {g : Ghosts D} (hub : Hub D g) (turns : Turns) where
 
     -- what becomes of it
     abbrev turned_here : Option (Entry (BufferedStream T)) → Option (Entry (BufferedStream T))
-    turned_here slot = after_turn (share_of_slot hub turns (nat_lt 0 light) (nat_lt 0 late) count slot) slot
+    turned_here slot = after_turn (writes_in hub slot) (share_of_slot hub turns (nat_lt 0 light) (nat_lt 0 late) count slot) slot
 
     turned_at : turned_here (slot_at old count) ≡ turned_slot (slot_at old) count
     turned_at =
-        ap (λ b. after_turn (share_of_slot hub turns b (nat_lt 0 late) count (slot_at old count)) (slot_at old count))
-        (some_left turns.width (light_below hub (slot_at old) count) light below.light_is)
-        ∙ ap (λ b. after_turn (share_of_slot hub turns (nat_lt (light_below hub (slot_at old) count) turns.width) b count (slot_at old count))
+        ap (λ b. after_turn (writes_in hub (slot_at old count)) (share_of_slot hub turns b (nat_lt 0 late) count (slot_at old count))
         (slot_at old count))
+        (some_left turns.width (light_below hub (slot_at old) count) light below.light_is)
+        ∙ ap (λ b. after_turn (writes_in hub (slot_at old count))
+        (share_of_slot hub turns (nat_lt (light_below hub (slot_at old) count) turns.width) b count (slot_at old count)) (slot_at old count))
         (some_left (turns.width - 1) (late_below hub (slot_at old) count) late below.late_is)
 
     -- with the one at the key
@@ -153,7 +156,7 @@ module _ {T D : Type 0} {g : Ghosts D} (hub : Hub D g) (turns : Turns) where
     }
 
     pub turned_some : (light' late' : ℕ) (entry after : Entry (BufferedStream T)) → slot_at mid count ≡ Some entry
-        → after ≡ in_turn entry.state (share_in_turn hub turns (nat_lt 0 light) (nat_lt 0 late) count entry) entry
+        → after ≡ in_turn (is_writer hub entry) entry.state (share_in_turn hub turns (nat_lt 0 light) (nat_lt 0 late) count entry) entry
         → light' ≡ light - is_one (light_in hub (Some entry)) → late' ≡ late - is_one (late_in hub (Some entry))
         → TurnedBelow (count + 1) light' late' old (set mid count (Some after))
     turned_some light' late' entry after is taken less fewer =
@@ -171,7 +174,7 @@ module _ {T D : Type 0} {g : Ghosts D} (hub : Hub D g) (turns : Turns) where
         (let same : late ≡ late - 0 = omega arith in same ∙ ap (λ slot. late - is_one (late_in hub slot)) was)
 
 -- the same keys wait
-next_as : (waits then : ℕ → Bool) → ((key : ℕ) → waits key ≡ then key) → (last next : ℕ) → HasNextTurn waits last next → HasNextTurn then last next
+pub next_as : (waits then : ℕ → Bool) → ((key : ℕ) → waits key ≡ then key) → (last next : ℕ) → HasNextTurn waits last next → HasNextTurn then last next
 next_as waits then same last next (inl first) = inl (record {
   place = first.place;
   waiting = sym (same next) ∙ first.waiting;
@@ -208,6 +211,13 @@ module _ {T : Type 0} where
 
   pub places_after : (old new : Slots T) → KeepSessions old new → HaveTablePlaces old → HaveTablePlaces new
   places_after old new keep places key entry e = let b = keep key entry e in subst (HasTablePlace key) (sym b.2) (places key b.0 b.1)
+
+  -- a poll moves no entry
+  pub polled_places : (old polled : Slots (BufferedStream T)) (events : List Event) → ((key : ℕ) → slot_at polled key ≡ after_poll events key (slot_at old key))
+      → HaveTablePlaces old → HaveTablePlaces polled
+  polled_places old polled events reported places key entry e =
+      let b = answered_as_it_was (λ (x : T). untouched) events key (slot_at old key) entry (sym (reported key) ∙ e) in
+      subst (HasTablePlace key) (sym b.2.session) (places key b.0 b.1)
 
   module _ {D : Type 0} {g : Ghosts D} {IsNew : AcceptedSocket → ℕ → ℕ → T → Type 0} {hub : Hub D g} {next : ℕ} {slots : Slots T} where
     pub each_placed : {came : List AcceptedSocket} {later : Hub D g} {then : ℕ} {new : Slots T} → AdmitsEach IsNew hub next slots came later then new
@@ -383,15 +393,16 @@ module _ {T : Type 0} (reports : Type 0) (traffic : T → Traffic) (moment : ℕ
       (mid, is ∙ ap (λ b. cond b None (Some mid)) lasts, ready, ended_heavy was.stream mid.stream finished)
 
   -- as it is passed over
-  passed : (entry : Entry (BufferedStream T)) → entry.state ≡ Ready
-      → (after : Entry (BufferedStream T)) × (after_turn None (Some entry) ≡ Some after) × (after.state ≡ Idle) × (after.stream.share ≡ 0)
+  passed : (writes : Bool) (entry : Entry (BufferedStream T)) → entry.state ≡ Ready
+      → (after : Entry (BufferedStream T)) × (after_turn writes None (Some entry) ≡ Some after) × (after.state ≡ Idle) × (after.stream.share ≡ 0)
       × (is_heavy after.stream ≡ true)
-  passed entry ready =
-      let after : Entry (BufferedStream T) = record entry { state = Idle; stream = passed_over entry.stream } in
-      (after, ap (λ s. Some (in_turn s None entry)) ready, refl, refl, grind (arith, nat_tests))
+  passed writes entry ready =
+      let after : Entry (BufferedStream T) = record entry { state = Idle; stream = passed_over writes entry.stream } in
+      (after, ap (λ s. Some (in_turn writes s None entry)) ready, refl, refl, grind (arith, nat_tests))
 
-  driven : (bytes : ℕ) (entry : Entry (BufferedStream T)) → entry.state ≡ Ready → is_ready_slot (after_turn (Some bytes) (Some entry)) ≡ true
-  driven bytes entry ready = ap (λ s. is_ready (in_turn s (Some bytes) entry).state) ready ∙ ap is_ready ready
+  driven : (writes : Bool) (bytes : ℕ) (entry : Entry (BufferedStream T)) → entry.state ≡ Ready
+      → is_ready_slot (after_turn writes (Some bytes) (Some entry)) ≡ true
+  driven writes bytes entry ready = ap (λ s. is_ready (in_turn writes s (Some bytes) entry).state) ready ∙ ap is_ready ready
 
 module _ {D : Type 0} {g : Ghosts D} (reports : Type 0) (traffic : Socket
     → Traffic) (old new : EventLoop D g) (turn : IsTurn reports traffic old new) (key : ℕ) where
@@ -442,15 +453,18 @@ module _ {D : Type 0} {g : Ghosts D} (reports : Type 0) (traffic : Socket
     abbrev share : Option ℕ
     share = share_in_turn old.hub turn.driven.turns light late key entry
 
-    turned : slot_at turn.drives.ready key ≡ after_turn share (Some entry)
-    turned = turn.drives.turned key ∙ ap (λ slot. after_turn (share_of_slot old.hub turn.driven.turns light late key slot) slot) is
+    turned : slot_at turn.drives.ready key ≡ after_turn (is_writer old.hub entry) share (Some entry)
+    turned =
+        turn.drives.turned key
+        ∙ ap (λ slot. after_turn (writes_in old.hub slot) (share_of_slot old.hub turn.driven.turns light late key slot) slot) is
 
     by_share : (given : Option ℕ) → share ≡ given → Soon
     by_share (Some bytes) is_so =
-        inl (ap is_ready_slot (turned ∙ ap (λ o. after_turn o (Some entry)) is_so) ∙ driven reports traffic 0 bytes entry ready)
+        inl (ap is_ready_slot (turned ∙ ap (λ o. after_turn (is_writer old.hub entry) o (Some entry)) is_so)
+        ∙ driven reports traffic 0 (is_writer old.hub entry) bytes entry ready)
     by_share None is_so =
-        let after = passed reports traffic 0 entry ready in
-        let ends = still_ready after.0 (turned ∙ ap (λ o. after_turn o (Some entry)) is_so ∙ after.1) after.2 after.3 after.4 in
+        let after = passed reports traffic 0 (is_writer old.hub entry) entry ready in
+        let ends = still_ready after.0 (turned ∙ ap (λ o. after_turn (is_writer old.hub entry) o (Some entry)) is_so ∙ after.1) after.2 after.3 after.4 in
         elim (none_shared (is_of_kind old.hub Any entry) (has_turn old.hub turn.driven.turns key entry) (is_late_entry old.hub entry && late) light is_so) [
           | inl parts ↦
               let waits : waits_as old.hub Any polled ≡ true =

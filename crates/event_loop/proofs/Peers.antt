@@ -169,18 +169,20 @@ module _ {T : Type 0} where
       (poll_idle events key (after_event event key slot) entry e idle) idle
 
   -- one that is idle was so, or is passed over
-  in_turn_idle : (state : EntryState) (share : Option ℕ) (x entry : Entry (BufferedStream T)) → x.state ≡ state → in_turn state share x ≡ entry
+  in_turn_idle : (writes : Bool) (state : EntryState) (share : Option ℕ) (x entry : Entry (BufferedStream T)) → x.state ≡ state
+      → in_turn writes state share x ≡ entry
       → entry.state ≡ Idle → (x ≡ entry) ⊎ (entry.stream.share ≡ zero)
-  in_turn_idle Ready None x entry is e idle = inr (ap (λ (y : Entry (BufferedStream T)). y.stream.share) (sym e))
-  in_turn_idle Ready (Some bytes) x entry is e idle =
+  in_turn_idle writes Ready None x entry is e idle = inr (ap (λ (y : Entry (BufferedStream T)). y.stream.share) (sym e))
+  in_turn_idle writes Ready (Some bytes) x entry is e idle =
       absurd (let bad : Ready ≡ Idle = sym is ∙ ap (λ (y : Entry (BufferedStream T)). y.state) e ∙ idle in cc)
-  in_turn_idle Idle share x entry is e idle = inl e
-  in_turn_idle Gone share x entry is e idle = inl e
+  in_turn_idle writes Idle share x entry is e idle = inl e
+  in_turn_idle writes Gone share x entry is e idle = inl e
 
-  turn_idle : (share : Option ℕ) (slot : Option (Entry (BufferedStream T))) (entry : Entry (BufferedStream T)) → after_turn share slot ≡ Some entry
+  turn_idle : (writes : Bool) (share : Option ℕ) (slot : Option (Entry (BufferedStream T))) (entry : Entry (BufferedStream T))
+      → after_turn writes share slot ≡ Some entry
       → entry.state ≡ Idle → (slot ≡ Some entry) ⊎ (entry.stream.share ≡ zero)
-  turn_idle share None entry e idle = absurd (let bad : None ≡ Some entry = e in cc)
-  turn_idle share (Some x) entry e idle = elim (in_turn_idle x.state share x entry refl (some_same e) idle) [
+  turn_idle writes share None entry e idle = absurd (let bad : None ≡ Some entry = e in cc)
+  turn_idle writes share (Some x) entry e idle = elim (in_turn_idle writes x.state share x entry refl (some_same e) idle) [
     | inl same ↦ inl (ap (λ (y : Entry (BufferedStream T)). Some y) same)
     | inr none ↦ inr none
   ]
@@ -201,15 +203,16 @@ module _ {T : Type 0} where
       poll_rests events key (after_event event key slot)
       (event_rests ((event_token event).0 == key) (is_priority event || is_read_closed event) slot rests)
 
-  in_turn_rests : (state : EntryState) (share : Option ℕ) (x : Entry (BufferedStream T)) → RestsIn (Some x) → RestsIn (Some (in_turn state share x))
-  in_turn_rests Ready None x rests = rests
-  in_turn_rests Ready (Some bytes) x rests = rests
-  in_turn_rests Idle share x rests = rests
-  in_turn_rests Gone share x rests = rests
+  in_turn_rests : (writes : Bool) (state : EntryState) (share : Option ℕ) (x : Entry (BufferedStream T)) → RestsIn (Some x)
+      → RestsIn (Some (in_turn writes state share x))
+  in_turn_rests writes Ready None x rests = rests
+  in_turn_rests writes Ready (Some bytes) x rests = rests
+  in_turn_rests writes Idle share x rests = rests
+  in_turn_rests writes Gone share x rests = rests
 
-  turn_rests : (share : Option ℕ) (slot : Option (Entry (BufferedStream T))) → RestsIn slot → RestsIn (after_turn share slot)
-  turn_rests share None rests = tt
-  turn_rests share (Some x) rests = in_turn_rests x.state share x rests
+  turn_rests : (writes : Bool) (share : Option ℕ) (slot : Option (Entry (BufferedStream T))) → RestsIn slot → RestsIn (after_turn writes share slot)
+  turn_rests writes share None rests = tt
+  turn_rests writes share (Some x) rests = in_turn_rests writes x.state share x rests
 
   slot_rests : (slots : Slots (BufferedStream T)) (key : ℕ) → AreRested slots → (slot : Option (Entry (BufferedStream T))) → slot_at slots key ≡ slot
       → RestsIn slot
@@ -217,31 +220,33 @@ module _ {T : Type 0} where
   slot_rests slots key rested (Some entry) is = let r = rested key entry is in (r.short, r.drained)
 
   -- who is ready has a share of the turn, a light one at least
-  in_turn_some : (state : EntryState) (share : Option ℕ) (x entry : Entry (BufferedStream T)) → x.state ≡ state → in_turn state share x ≡ entry
+  in_turn_some : (writes : Bool) (state : EntryState) (share : Option ℕ) (x entry : Entry (BufferedStream T)) → x.state ≡ state
+      → in_turn writes state share x ≡ entry
       → entry.state ≡ Ready → IsSome share → 32768 ≤ entry.stream.share
-  in_turn_some Ready None x entry is e ready some =
+  in_turn_some writes Ready None x entry is e ready some =
       absurd (let bad : Idle ≡ Ready = ap (λ (y : Entry (BufferedStream T)). y.state) e ∙ ready in cc)
-  in_turn_some Ready (Some bytes) x entry is e ready some = subst (λ (y : Entry (BufferedStream T)). 32768 ≤ y.stream.share) e some
-  in_turn_some Idle share x entry is e ready some =
+  in_turn_some writes Ready (Some bytes) x entry is e ready some = subst (λ (y : Entry (BufferedStream T)). 32768 ≤ y.stream.share) e some
+  in_turn_some writes Idle share x entry is e ready some =
       absurd (let bad : Idle ≡ Ready = sym is ∙ ap (λ (y : Entry (BufferedStream T)). y.state) e ∙ ready in cc)
-  in_turn_some Gone share x entry is e ready some =
+  in_turn_some writes Gone share x entry is e ready some =
       absurd (let bad : Gone ≡ Ready = sym is ∙ ap (λ (y : Entry (BufferedStream T)). y.state) e ∙ ready in cc)
 
-  turn_some : (share : Option ℕ) (slot : Option (Entry (BufferedStream T))) (entry : Entry (BufferedStream T)) → after_turn share slot ≡ Some entry
+  turn_some : (writes : Bool) (share : Option ℕ) (slot : Option (Entry (BufferedStream T))) (entry : Entry (BufferedStream T))
+      → after_turn writes share slot ≡ Some entry
       → entry.state ≡ Ready → IsSome share → 32768 ≤ entry.stream.share
-  turn_some share None entry e ready some = absurd (let bad : None ≡ Some entry = e in cc)
-  turn_some share (Some x) entry e ready some = in_turn_some x.state share x entry refl (some_same e) ready some
+  turn_some writes share None entry e ready some = absurd (let bad : None ≡ Some entry = e in cc)
+  turn_some writes share (Some x) entry e ready some = in_turn_some writes x.state share x entry refl (some_same e) ready some
 
   polled_some : (slots ready : Slots (BufferedStream T)) (events : List Event) → TakesTurns slots ready events → (key : ℕ)
       → (entry : Entry (BufferedStream T)) → slot_at ready key ≡ Some entry → entry.state ≡ Ready → 32768 ≤ entry.stream.share
   polled_some slots ready events polled key entry e is =
-      let turn = polled key in turn_some turn.0 (after_poll events key (slot_at slots key)) entry (sym turn.1 ∙ e) is turn.2
+      let turn = polled key in turn_some turn.0 turn.1 (after_poll events key (slot_at slots key)) entry (sym turn.2 ∙ e) is turn.3
 
   polled_rested : (slots ready : Slots (BufferedStream T)) (events : List Event) → TakesTurns slots ready events → AreRested slots → (key : ℕ)
       → (entry : Entry (BufferedStream T)) → slot_at ready key ≡ Some entry → (entry.stream.is_short ≡ false) × (entry.stream.is_drained ≡ false)
   polled_rested slots ready events polled rested key entry e =
-      subst RestsIn (sym (polled key).1 ∙ e)
-      (turn_rests (polled key).0 (after_poll events key (slot_at slots key))
+      subst RestsIn (sym (polled key).2 ∙ e)
+      (turn_rests (polled key).0 (polled key).1 (after_poll events key (slot_at slots key))
       (poll_rests events key (slot_at slots key) (slot_rests slots key rested (slot_at slots key) refl)))
 
   rested_as : (old new : BufferedStream T) → new ≡ old → IsRested old → IsRested new
@@ -323,8 +328,8 @@ module _ {T : Type 0} (traffic : T → Traffic) (short : T → Type 0) where
         let sound = sound_rested short was.stream rests in
         let waits : WaitsForPeer traffic short k.hub x.session x.stream = elim stays [
           | inl why ↦ waits_driven k.hub x.session x.stream left why.1 (since key was x w.1 b.1 why.0 at.0 sound)
-          | inr same ↦ elim (turn_idle (polled key).0 (after_poll events key (slot_at slots key)) x
-              (sym (polled key).1 ∙ w.1 ∙ ap (λ (y : Entry (BufferedStream T)). Some y) (sym same.0)) at.0) [
+          | inr same ↦ elim (turn_idle (polled key).0 (polled key).1 (after_poll events key (slot_at slots key)) x
+              (sym (polled key).2 ∙ w.1 ∙ ap (λ (y : Entry (BufferedStream T)). Some y) (sym same.0)) at.0) [
                 | inl there ↦
                     waits_same h.hub k.hub x.session x.stream
                     (subst (λ (y : Entry (BufferedStream T)). stream_of k.hub y.session ≡ stream_of h.hub y.session) (sym same.0) same.1)

@@ -53,7 +53,8 @@ IsSome (Some bytes) = 32768 ≤ bytes
 -- each slot is as the poll reported, with a share of the turn, or passed over
 abbrev pub TakesTurns : {T : Type 0} → (old new : Slots (BufferedStream T)) → List Event → Type 0
 TakesTurns old new events =
-    (key : ℕ) → (share : Option ℕ) × (slot_at new key ≡ after_turn share (after_poll events key (slot_at old key))) × IsSome share
+    (key : ℕ) → (writes : Bool) × (share : Option ℕ) × (slot_at new key ≡ after_turn writes share (after_poll events key (slot_at old key)))
+    × IsSome share
 
 module _ {T : Type 0} where
   poll_more : {R : Type 0} (now : R → Event) (yielded : List R) (event : R) (key : ℕ) (slot : Option (Entry (BufferedStream T)))
@@ -107,12 +108,13 @@ module _ {T : Type 0} where
     poll_left (event ∷ events) key slot =
         poll_left events key (after_event event key slot) ∙ reported_left ((event_token event).0 == key) (is_priority event || is_read_closed event) slot
 
-    turn_left : (share : Option ℕ) (slot : Option (Entry (BufferedStream T))) → option_map left (after_turn share slot) ≡ option_map left slot
-    turn_left share slot = grind arith
+    turn_left : (writes : Bool) (share : Option ℕ) (slot : Option (Entry (BufferedStream T)))
+        → option_map left (after_turn writes share slot) ≡ option_map left slot
+    turn_left writes share slot = grind arith
 
-    sent_left : (events : List Event) (key : ℕ) (share : Option ℕ) (slot new : Option (Entry (BufferedStream T)))
-        → new ≡ after_turn share (after_poll events key slot) → option_map left new ≡ option_map left slot
-    sent_left events key share slot new e = ap (option_map left) e ∙ turn_left share (after_poll events key slot) ∙ poll_left events key slot
+    sent_left : (events : List Event) (key : ℕ) (writes : Bool) (share : Option ℕ) (slot new : Option (Entry (BufferedStream T)))
+        → new ≡ after_turn writes share (after_poll events key slot) → option_map left new ≡ option_map left slot
+    sent_left events key writes share slot new e = ap (option_map left) e ∙ turn_left writes share (after_poll events key slot) ∙ poll_left events key slot
 
     -- so one entry is as the other was, or will be
     pub record IsLeft (entry other : Entry (BufferedStream T)) : Type 0 where
@@ -141,12 +143,14 @@ module _ {T : Type 0} where
       pub was_polled : (key : ℕ) (entry : Entry (BufferedStream T)) → slot_at new key ≡ Some entry
           → (before : Entry (BufferedStream T)) × (slot_at old key ≡ Some before) × IsLeft entry before
       was_polled key entry e =
-          is_left (slot_at old key) (slot_at new key) entry (sent_left events key (polled key).0 (slot_at old key) (slot_at new key) (polled key).1) e
+          is_left (slot_at old key) (slot_at new key) entry
+          (sent_left events key (polled key).0 (polled key).1 (slot_at old key) (slot_at new key) (polled key).2) e
 
       pub then_polled : (key : ℕ) (entry : Entry (BufferedStream T)) → slot_at old key ≡ Some entry
           → (after : Entry (BufferedStream T)) × (slot_at new key ≡ Some after) × IsLeft entry after
       then_polled key entry e =
-          is_left (slot_at new key) (slot_at old key) entry (sym (sent_left events key (polled key).0 (slot_at old key) (slot_at new key) (polled key).1)) e
+          is_left (slot_at new key) (slot_at old key) entry
+          (sym (sent_left events key (polled key).0 (polled key).1 (slot_at old key) (slot_at new key) (polled key).2)) e
 
   -- ---- the end of a turn
 

@@ -41,7 +41,7 @@ vacant None never = refl
 vacant (Some entry) never = absurd (never entry refl)
 
 -- beyond the places of the table nothing stands
-beyond_places : {T : Type 0} (slots : Slots T) → HaveTablePlaces slots → (key : ℕ) → SESSIONS_MAX ≤ key → slot_at slots key ≡ None
+pub beyond_places : {T : Type 0} (slots : Slots T) → HaveTablePlaces slots → (key : ℕ) → SESSIONS_MAX ≤ key → slot_at slots key ≡ None
 beyond_places slots places key beyond = vacant (slot_at slots key) (λ entry e. omega (arith, beyond, (places key entry e).place))
 
 -- ---- counts

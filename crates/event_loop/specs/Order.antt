@@ -2,6 +2,7 @@
 -- others one that writes, and one that reads.
 use Rattle.std.specs.Prelude.{◌≡◌, ◌⊎◌, ℕ, zero, suc, ◌+◌, ◌-◌, ◌*◌, ◌/◌, ◌<◌, ◌≤◌, ◌==◌, ◌&&◌, ◌||◌, nat_le, nat_lt}
 use Rattle.std.specs.Prelude.{max, min, not, Bool, true, false, cond, length, List, Option, Some, None}
+use Rattle.std.specs.Prelude.{slice_index_or}
 use Rattle.sector.specs.declared.device.Sectors.{Ghosts}
 use Rattle.sessions.specs.StandsFor.{has_written}
 use Rattle.sessions.specs.declared.events.TheConstants.{SESSIONS_MAX}
@@ -13,6 +14,8 @@ use Rattle.stream_driver.specs.declared.entries.Entry.{Entry}
 use Rattle.stream_driver.specs.declared.entries.EntryState.{EntryState}
 use Rattle.stream_driver.specs.declared.entries.EntryState.TheVariants.{Idle, Ready, Gone}
 use Rattle.event_loop.specs.Tables.{is_ready, slot_at}
+use Rattle.event_loop.specs.declared.order.Class.{Class}
+use Rattle.event_loop.specs.declared.order.Class.TheVariants.{Heavy, Late, Light, Writing}
 use Rattle.event_loop.specs.declared.order.Kind.{Kind}
 use Rattle.event_loop.specs.declared.order.Kind.TheVariants.{Any, Reader, Writer}
 use Rattle.event_loop.specs.declared.order.TheConstants.{WIDENED_BY, WIDTH_MIN, WIDTH_PARTS}
@@ -47,8 +50,30 @@ abbrev pub count_below : (ℕ → Bool) → ℕ → ℕ
 count_below passes zero = 0
 count_below passes (suc key) = count_below passes key + is_one (passes key)
 
+-- is one of this class of that kind, and is it late?
+abbrev pub is_class_of : Kind → Class → Bool
+is_class_of Any Light = false
+is_class_of Any Writing = true
+is_class_of Any Heavy = true
+is_class_of Any Late = true
+is_class_of Writer Light = false
+is_class_of Writer Writing = true
+is_class_of Writer Heavy = false
+is_class_of Writer Late = false
+is_class_of Reader Light = false
+is_class_of Reader Writing = false
+is_class_of Reader Heavy = true
+is_class_of Reader Late = true
+
+abbrev pub is_late_class : Class → Bool
+is_late_class Light = false
+is_late_class Writing = false
+is_late_class Heavy = false
+is_late_class Late = true
+
 module _ {T D : Type 0} {g : Ghosts D} (hub : Hub D g) where
-  -- has the session's open transaction written, or did the last drive that answered it append a record?
+  -- has the session's open transaction written, or did the last drive that answered it append a record behind another
+  -- reply?
   abbrev pub is_writer : Entry (BufferedStream T) → Bool
   is_writer entry = has_written hub entry.session || entry.stream.is_writer
 
@@ -57,6 +82,20 @@ module _ {T D : Type 0} {g : Ghosts D} (hub : Hub D g) where
   is_of_kind Any entry = is_writer entry || is_heavy entry.stream
   is_of_kind Writer entry = is_writer entry
   is_of_kind Reader entry = not (is_writer entry) && is_heavy entry.stream
+
+  -- what it is to a turn in which it is to be driven
+  abbrev pub class_of : Entry (BufferedStream T) → Class
+  class_of entry =
+      cond (is_writer entry) Writing (cond (is_late entry.stream) Late (cond (is_heavy entry.stream) Heavy Light))
+
+  -- light where there is none, or it isn't to be driven
+  abbrev pub class_in : Option (Entry (BufferedStream T)) → Class
+  class_in None = Light
+  class_in (Some entry) = cond (is_ready entry.state) (class_of entry) Light
+
+  -- these are the classes of the entries at these keys
+  abbrev pub AreClasses : (ℕ → Option (Entry (BufferedStream T))) → List Class → Type 0
+  AreClasses slots classes = (key : ℕ) → slice_index_or classes key Light ≡ class_in (slots key)
 
   -- is it of this kind, and is it to be driven?
   abbrev pub waits_as : Kind → Option (Entry (BufferedStream T)) → Bool
@@ -165,13 +204,13 @@ module _ {T : Type 0} where
   abbrev pub heavy_streams : List (Option (Entry (BufferedStream T))) → ℕ
   heavy_streams slots = count_below (λ key. takes_turns (slot_at slots key)) (length slots)
 
-  -- an entry that is ready has its share of the turn; or it is passed over, and waits with none
-  abbrev pub in_turn : EntryState → Option ℕ → Entry (BufferedStream T) → Entry (BufferedStream T)
-  in_turn Ready (Some bytes) entry = record entry { stream = in_turn_of bytes entry.stream }
-  in_turn Ready None entry = record entry { state = Idle; stream = passed_over entry.stream }
-  in_turn Idle share entry = entry
-  in_turn Gone share entry = entry
+  -- an entry that is ready, and writes or doesn't, has its share of the turn; or it is passed over, and waits with none
+  abbrev pub in_turn : Bool → EntryState → Option ℕ → Entry (BufferedStream T) → Entry (BufferedStream T)
+  in_turn writes Ready (Some bytes) entry = record entry { stream = in_turn_of bytes entry.stream }
+  in_turn writes Ready None entry = record entry { state = Idle; stream = passed_over writes entry.stream }
+  in_turn writes Idle share entry = entry
+  in_turn writes Gone share entry = entry
 
-  abbrev pub after_turn : Option ℕ → Option (Entry (BufferedStream T)) → Option (Entry (BufferedStream T))
-  after_turn share None = None
-  after_turn share (Some entry) = Some (in_turn entry.state share entry)
+  abbrev pub after_turn : Bool → Option ℕ → Option (Entry (BufferedStream T)) → Option (Entry (BufferedStream T))
+  after_turn writes share None = None
+  after_turn writes share (Some entry) = Some (in_turn writes entry.state share entry)

@@ -32,7 +32,7 @@ use Rattle.event_loop.specs.Accepts.{Accepts, AsksOnce}
 use Rattle.event_loop.specs.Leavings.{EndAll, LingerOn}
 use Rattle.event_loop.specs.Lingerings.{lingers_in, unless_failed}
 use Rattle.event_loop.specs.Order.{AreNext, after_turn, behind, heavy_streams, is_ready_slot, share_at, takes_none}
-use Rattle.event_loop.specs.Order.{takes_turns, unused_in, width_after, writer_of}
+use Rattle.event_loop.specs.Order.{takes_turns, unused_in, width_after, writer_of, writes_in}
 use Rattle.event_loop.specs.Progress.{GetsOn, UsesTurn}
 use Rattle.event_loop.specs.Polls.{WasAskedOnce, after_wait, polls_of}
 use Rattle.event_loop.specs.Sockets.{IsNewSocket, SocketsReport, all_interests}
@@ -53,7 +53,8 @@ use Rattle.event_loop.specs.declared.socket.Socket.{Socket}
 -- takes none and as many others do as the turn is wide
 abbrev pub IsTurnOf : {T D : Type 0} {g : Ghosts D} → Hub D g → Turns → (polled : ℕ
     → Option (Entry (BufferedStream T))) → ℕ → (ready : Option (Entry (BufferedStream T))) → Type 0
-IsTurnOf hub turns polled key ready = ready ≡ after_turn (share_at hub turns polled key) (polled key)
+IsTurnOf hub turns polled key ready =
+    ready ≡ after_turn (writes_in hub (polled key)) (share_at hub turns polled key) (polled key)
 
 -- The drives of a turn in which the poll reported these events. The entries that waited and that it reported became
 -- ready. Of those that are ready and take turns, one that writes and one that reads at most have this one. Of those

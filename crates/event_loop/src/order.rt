@@ -13,15 +13,18 @@
 //! are passed over and late until they have had a turn: who becomes ready later doesn't wait for them. Of those that are late it drives one
 //! less than it is wide, besides those that have a turn. The width grows while none of them turns out heavy, as the window of TCP does
 //! (Jacobson, Congestion Avoidance and Control, 1988), and falls where several do.
-ghost use Rattle.std.specs.Prelude.{◌≡◌, ◌-◌, ◌*◌, ◌<◌, ◌≤◌, length, nat_lt, not, ℕ, Bool, Some};
+ghost use Rattle.std.specs.Prelude.{◌≡◌, ◌-◌, ◌*◌, ◌<◌, ◌≤◌, length, nat_lt, not, slice_index_or, ℕ, Bool, Some};
+ghost use Rattle.event_loop.specs.declared.order.Class.TheVariants.{Light};
 ghost use Rattle.event_loop.specs.declared.order.Kind.TheVariants.{Any};
-ghost use Rattle.event_loop.specs.Order.{AreNext, ComesNearer, HasNextTurn, after_turn, behind, has_turn};
-ghost use Rattle.event_loop.specs.Order.{heavy_streams, in_turn, is_late_entry, is_of_kind, is_one, is_writer};
-ghost use Rattle.event_loop.specs.Order.{late_in, light_in, share_at, share_in_turn, takes_turns, unused_in};
-ghost use Rattle.event_loop.specs.Order.{waits_as, width_after, writer_of, writes_in};
+ghost use Rattle.event_loop.specs.Numbers.{HaveTablePlaces};
+ghost use Rattle.event_loop.specs.Order.{AreClasses, AreNext, ComesNearer, HasNextTurn, after_turn, behind, class_in};
+ghost use Rattle.event_loop.specs.Order.{class_of, has_turn, heavy_streams, in_turn, is_class_of, is_late_class};
+ghost use Rattle.event_loop.specs.Order.{is_late_entry, is_of_kind, is_one, is_writer, late_in, light_in, share_at};
+ghost use Rattle.event_loop.specs.Order.{share_in_turn, takes_turns, unused_in, width_after, writer_of, writes_in};
 ghost use Rattle.event_loop.specs.Tables.{slot_at};
 
 use crate::socket::Socket;
+use arrayvec::ArrayVec;
 use sector::Sectors;
 use sessions::{Hub, SESSIONS_MAX};
 use slab::Slab;
@@ -41,7 +44,8 @@ pub const WIDENED_BY: usize = 4;
 pub enum Kind {
     /// All of them.
     Any,
-    /// Those that write: whose open transaction has written, or who was answered last in a drive that appended a record.
+    /// Those that write: whose open transaction has written, or whose last drive that was answered appended a record behind another
+    /// reply, so that they may come with a whole transaction in one piece again.
     Writer,
     /// The others: whose streams are heavy.
     Reader,
@@ -86,11 +90,49 @@ impl Turns {
     }
 }
 
-// Has the session's open transaction written, or did the last drive that answered it append a record?
+/// What an entry that is to be driven is to a turn.
+#[derive(Clone, Copy, PartialEq, Eq, Debug, Default)]
+pub(crate) enum Class {
+    /// It takes no turns.
+    #[default]
+    Light,
+    /// It takes turns, since it writes.
+    Writing,
+    /// It takes turns, since its stream is heavy.
+    Heavy,
+    /// And that for one more turn of its own alone.
+    Late,
+}
+
+/// The classes of the entries at the places of a table. One that isn't to be driven counts as light.
+pub(crate) type Classes = ArrayVec<Class, SESSIONS_MAX>;
+
+impl Class {
+    // Is one of this class of that kind?
+    fn is_of_kind(self, kind: Kind) -> bool
+        ensures { result ≡ is_class_of kind self }
+    {
+        match kind {
+            Kind::Any => !matches!(self, Class::Light),
+            Kind::Writer => matches!(self, Class::Writing),
+            Kind::Reader => matches!(self, Class::Heavy | Class::Late),
+        }
+    }
+
+    // Is it late?
+    fn is_late(self) -> bool
+        ensures { result ≡ is_late_class self }
+    {
+        matches!(self, Class::Late)
+    }
+}
+
+// Does the entry write: does its stream say so, or has its session's open transaction written? The session is looked up where the stream
+// doesn't.
 fn is_writer<D: Sectors>(hub: &Hub<D>, entry: &Entry<BufferedStream<Socket>>) -> bool
     ensures { result ≡ is_writer hub.now entry.now }
 {
-    hub.has_written(entry.session) || entry.stream.is_writer()
+    entry.stream.is_writer() || hub.has_written(entry.session)
 }
 
 // Is it of this kind?
@@ -105,19 +147,54 @@ fn is_of_kind<D: Sectors>(hub: &Hub<D>, kind: Kind, entry: &Entry<BufferedStream
     }
 }
 
-// Is the entry at a key to be driven, and is it of this kind?
-fn waits_as<D: Sectors>(
+// What an entry is to a turn in which it is to be driven.
+fn class_of<D: Sectors>(hub: &Hub<D>, entry: &Entry<BufferedStream<Socket>>) -> Class
+    ensures { result ≡ class_of hub.now entry.now }
+{
+    if is_writer(hub, entry) {
+        Class::Writing
+    } else if entry.stream.is_late() {
+        Class::Late
+    } else if entry.stream.is_heavy() {
+        Class::Heavy
+    } else {
+        Class::Light
+    }
+}
+
+// The class of the entry at a key, light where there is none.
+fn class_at<D: Sectors>(
     hub: &Hub<D>,
     table: &Slab<Entry<BufferedStream<Socket>>>,
-    kind: Kind,
     key: usize,
-) -> bool
-    ensures { result ≡ waits_as hub.now kind (slot_at table.now.slots key) }
+) -> Class
+    ensures { result ≡ class_in hub.now (slot_at table.now.slots key) }
 {
     match table.get(key) {
-        Some(entry) => entry.state == EntryState::Ready && is_of_kind(hub, kind, entry),
-        None => false,
+        Some(entry) => {
+            if entry.state == EntryState::Ready {
+                class_of(hub, entry)
+            } else {
+                Class::Light
+            }
+        }
+        None => Class::Light,
     }
+}
+
+/// The classes of the entries of a table. They are asked for once in a turn, since each may look a session up. Takes no memory.
+pub(crate) fn classes_of<D: Sectors>(
+    hub: &Hub<D>,
+    table: &Slab<Entry<BufferedStream<Socket>>>,
+) -> Classes
+    requires { HaveTablePlaces table.now.slots }
+    ensures { AreClasses hub.now (slot_at table.now.slots) result.items }
+{
+    let mut classes = ArrayVec::new();
+    for key in 0..table.capacity().min(SESSIONS_MAX) {
+        classes.push(class_at(hub, table, key));
+    }
+    classes
 }
 
 // Does the entry at a key write?
@@ -147,21 +224,25 @@ fn places_behind(last: usize, key: usize) -> usize
     }
 }
 
+// The class at a key, light beyond the last.
+fn class_of_place(classes: &Classes, key: usize) -> Class
+    ensures { result ≡ slice_index_or classes.now.items key Light }
+{
+    match classes.get(key) {
+        Some(class) => *class,
+        None => Class::Light,
+    }
+}
+
 // The key of the next in turn: of those of a kind that wait, the first behind this one, round the table; where none waits, this one still.
-// It looks at the places that the table has room for.
-fn next_in_turn<D: Sectors>(
-    hub: &Hub<D>,
-    table: &Slab<Entry<BufferedStream<Socket>>>,
-    kind: Kind,
-    last: usize,
-) -> usize
+fn next_in_turn(classes: &Classes, kind: Kind, last: usize) -> usize
     requires { last < SESSIONS_MAX }
-    ensures next { HasNextTurn (λ key. waits_as hub.now kind (slot_at table.now.slots key)) last result }
+    ensures next { HasNextTurn (λ key. is_class_of kind (slice_index_or classes.now.items key Light)) last result }
     ensures place { result < SESSIONS_MAX }
 {
     let mut next = last;
-    for key in 0..table.capacity().min(SESSIONS_MAX) {
-        if places_behind(last, key) < places_behind(last, next) && waits_as(hub, table, kind, key) {
+    for key in 0..classes.len() {
+        if classes[key].is_of_kind(kind) && places_behind(last, key) < places_behind(last, next) {
             next = key;
         }
     }
@@ -172,16 +253,18 @@ fn next_in_turn<D: Sectors>(
 pub(crate) fn next_turns<D: Sectors>(
     hub: &Hub<D>,
     table: &Slab<Entry<BufferedStream<Socket>>>,
+    classes: &Classes,
     last: Turns,
     width: usize,
 ) -> Turns
+    requires classes { AreClasses hub.now (slot_at table.now.slots) classes.now.items }
     requires next { last.next < SESSIONS_MAX }
     requires beside { last.beside < SESSIONS_MAX }
     ensures next { AreNext hub.now (slot_at table.now.slots) last result }
     ensures places { (result.next < SESSIONS_MAX) × (result.beside < SESSIONS_MAX) }
     ensures width { result.width ≡ width }
 {
-    let next = next_in_turn(hub, table, Kind::Any, last.next);
+    let next = next_in_turn(classes, Kind::Any, last.next);
     let kind = if writes_at(hub, table, next) {
         Kind::Reader
     } else {
@@ -190,7 +273,7 @@ pub(crate) fn next_turns<D: Sectors>(
     Turns {
         next,
         kind,
-        beside: next_in_turn(hub, table, kind, last.beside),
+        beside: next_in_turn(classes, kind, last.beside),
         width,
     }
 }
@@ -214,25 +297,6 @@ struct Left {
     late: usize,
 }
 
-// Does an entry take turns, and is it late then: not one that writes, and heavy for one more turn alone? It is asked once in a turn, since
-// it looks the session up.
-#[derive(Clone, Copy)]
-struct Class {
-    takes_turns: bool,
-    is_late: bool,
-}
-
-fn class_of<D: Sectors>(hub: &Hub<D>, entry: &Entry<BufferedStream<Socket>>) -> Class
-    ensures takes_turns { result.takes_turns ≡ is_of_kind hub.now Any entry.now }
-    ensures late { result.is_late ≡ is_late_entry hub.now entry.now }
-{
-    let is_writer = is_writer(hub, entry);
-    Class {
-        takes_turns: is_writer || entry.stream.is_heavy(),
-        is_late: !is_writer && entry.stream.is_late(),
-    }
-}
-
 // How many bytes it may be sent in this turn: a whole share where it takes turns and has this. A light one where it takes none, or is late,
 // and more of these may be driven. `None` where it is passed over.
 fn share_in_turn<D: Sectors>(
@@ -243,15 +307,15 @@ fn share_in_turn<D: Sectors>(
     class: Class,
     entry: &Entry<BufferedStream<Socket>>,
 ) -> Option<usize>
-    requires takes_turns { class.takes_turns ≡ is_of_kind hub.now Any entry.now }
-    requires late { class.is_late ≡ is_late_entry hub.now entry.now }
+    requires takes_turns { is_class_of Any class ≡ is_of_kind hub.now Any entry.now }
+    requires late { is_late_class class ≡ is_late_entry hub.now entry.now }
     ensures { result ≡ share_in_turn hub.now turns (nat_lt 0 left.light) (nat_lt 0 left.late) key entry.now }
 {
-    if class.takes_turns {
+    if class.is_of_kind(Kind::Any) {
         if has_turn(hub, turns, key, entry) {
             return Some(SHARE_MAX);
         }
-        if left.late == 0 || !class.is_late {
+        if left.late == 0 || !class.is_late() {
             return None;
         }
     } else if left.light == 0 {
@@ -263,12 +327,13 @@ fn share_in_turn<D: Sectors>(
 impl Left {
     // How many more may be driven behind one that is ready.
     fn behind(self, class: Class) -> Left
-        ensures light { result.light ≡ self.light - is_one (not class.takes_turns) }
-        ensures late { result.late ≡ self.late - is_one class.is_late }
+        ensures light { result.light ≡ self.light - is_one (not (is_class_of Any class)) }
+        ensures late { result.late ≡ self.late - is_one (is_late_class class) }
     {
+        let takes_turns = class.is_of_kind(Kind::Any);
         Left {
-            light: self.light.saturating_sub(usize::from(!class.takes_turns)),
-            late: self.late.saturating_sub(usize::from(class.is_late)),
+            light: self.light.saturating_sub(usize::from(!takes_turns)),
+            late: self.late.saturating_sub(usize::from(class.is_late())),
         }
     }
 }
@@ -279,9 +344,11 @@ fn take_turn<D: Sectors>(
     turns: Turns,
     left: Left,
     key: usize,
+    class: Class,
     entry: &mut Entry<BufferedStream<Socket>>,
 ) -> Left
-    ensures taken { entry.new ≡ in_turn entry.old.state
+    requires { class ≡ class_in hub.now (Some entry.old) }
+    ensures taken { entry.new ≡ in_turn (is_writer hub.now entry.old) entry.old.state
         (share_in_turn hub.now turns (nat_lt 0 left.light) (nat_lt 0 left.late) key entry.old) entry.old }
     ensures light { result.light ≡ left.light - is_one (light_in hub.now (Some entry.old)) }
     ensures late { result.late ≡ left.late - is_one (late_in hub.now (Some entry.old)) }
@@ -289,12 +356,11 @@ fn take_turn<D: Sectors>(
     if entry.state != EntryState::Ready {
         return left;
     }
-    let class = class_of(hub, entry);
     match share_in_turn(hub, turns, left, key, class, entry) {
         Some(bytes) => entry.stream.begin_turn(bytes),
         None => {
             entry.state = EntryState::Idle;
-            entry.stream.pass_over();
+            entry.stream.pass_over(class.is_of_kind(Kind::Writer));
         }
     }
     left.behind(class)
@@ -306,10 +372,13 @@ fn take_turn<D: Sectors>(
 pub(crate) fn take_turns<D: Sectors>(
     hub: &Hub<D>,
     turns: Turns,
+    classes: &Classes,
     table: &mut Slab<Entry<BufferedStream<Socket>>>,
 ) -> usize
+    requires { AreClasses hub.now (slot_at table.old.slots) classes.now.items }
     ensures shares { (key : ℕ) → slot_at table.new.slots key
-        ≡ after_turn (share_at hub.now turns (slot_at table.old.slots) key) (slot_at table.old.slots key) }
+        ≡ after_turn (writes_in hub.now (slot_at table.old.slots key))
+        (share_at hub.now turns (slot_at table.old.slots) key) (slot_at table.old.slots key) }
     ensures unused { result ≡ unused_in hub.now turns (slot_at table.old.slots) (length table.old.slots) }
 {
     let mut left = Left {
@@ -318,7 +387,7 @@ pub(crate) fn take_turns<D: Sectors>(
     };
     for key in 0..table.capacity() {
         if let Some(entry) = table.get_mut(key) {
-            left = take_turn(hub, turns, left, key, entry);
+            left = take_turn(hub, turns, left, key, class_of_place(classes, key), entry);
         }
     }
     left.light.min(left.late)

@@ -18,8 +18,8 @@ use crate::lingering::Lingering;
 use crate::listener::Port;
 use crate::listening::{Listening, Unbound};
 use crate::order::{
-    Turns, WIDTH_MIN, WIDTH_PARTS, heavy_streams, law_each_comes_nearer, next_turns, next_width,
-    take_turns,
+    Turns, WIDTH_MIN, WIDTH_PARTS, classes_of, heavy_streams, law_each_comes_nearer, next_turns,
+    next_width, take_turns,
 };
 use crate::polling::Poller;
 use crate::socket::Socket;
@@ -156,13 +156,14 @@ impl<D: Sectors> EventLoop<D> {
     ///
     /// It is the turn of those that have written nothing and whose last drives were short, of one at most that writes, and of one at most
     /// whose stream is heavy (`BufferedStream`). So nobody waits for more than one of each, and for what the others have of the turn:
-    /// `LIGHT_MAX` bytes each, and `SHARE_MAX` for these two. Those write whose open transaction has written, or who were answered last in
-    /// a drive that appended a record. Of the two kinds together the next by key, round the table, has its turn, and beside it one of the
-    /// other kind; the rest are ready in the next turn, which doesn't wait. So each is driven within as many turns as the table has places,
-    /// and one (`law_each_has_its_turn`). An append ends the share of its stream, so what comes behind it in one piece waits for a turn as
-    /// well. So a turn appends one record at most for the one that writes, and one for each other that comes with a whole transaction in
-    /// one piece: from then on it writes, until a drive answers it and appends nothing. The one that writes is driven behind the others,
-    /// so that none of them waits for its syncs.
+    /// `LIGHT_MAX` bytes each, and `SHARE_MAX` for these two. Those write whose open transaction has written, or whose last drive that was
+    /// answered appended a record behind another reply. Of the two kinds together the next by key, round the table, has its turn, and
+    /// beside it one of the other kind; the rest are ready in the next turn, which doesn't wait. So each is driven within as many turns as
+    /// the table has places, and one (`law_each_has_its_turn`). An append ends the share of its stream, so what comes behind it in one
+    /// piece waits for a later turn. So a turn appends one record at most for the one that writes, and one for each other that comes with
+    /// a write and its COMMIT in one piece. That one takes turns from then on, until a drive answers it that appends nothing, or appends
+    /// with its first reply, for a transaction that had written before. The one that writes is driven behind the others, so that none of
+    /// them waits for its syncs.
     ///
     /// A request that looks at `LOOKED_MAX` pages of keys ends the share of its stream, too, however short its reply is, and the stream is
     /// heavy from then on. The next reply of it waits for a later drive.
@@ -350,8 +351,9 @@ impl<D: Sectors> EventLoop<D> {
     {
         make_polled_ready(self.poller.events(), &mut self.table);
         let width = self.next_width / WIDTH_PARTS;
-        self.turns = next_turns(&self.hub, &self.table, self.turns, width);
-        let unused = take_turns(&self.hub, self.turns, &mut self.table);
+        let classes = classes_of(&self.hub, &self.table);
+        self.turns = next_turns(&self.hub, &self.table, &classes, self.turns, width);
+        let unused = take_turns(&self.hub, self.turns, &classes, &mut self.table);
         let heavy_before = heavy_streams(&self.table);
         drive_ready_then(&mut self.hub, &mut self.table, self.turns.writer());
         let heavy_after = heavy_streams(&self.table);

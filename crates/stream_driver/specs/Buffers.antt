@@ -61,9 +61,9 @@ module _ {T : Type 0} where
   in_turn_of bytes b =
       record b { share = bytes; whole = bytes; is_ended = false; appended = false; heavy_for = b.heavy_for - 1 }
 
-  -- it is passed over in this turn, and heavy until a turn of its own has begun
-  abbrev pub passed_over : BufferedStream T → BufferedStream T
-  passed_over b = record b { share = 0; heavy_for = max b.heavy_for 1 }
+  -- it is passed over in this turn, and heavy until a turn of its own has begun; whether its session writes is noted
+  abbrev pub passed_over : Bool → BufferedStream T → BufferedStream T
+  passed_over writes b = record b { share = 0; heavy_for = max b.heavy_for 1; is_writer = writes }
 
   -- So many bytes of its share make a drive heavy, and the stream for some turns of its own; unless a request has ended
   -- the share.
@@ -78,11 +78,11 @@ module _ {T : Type 0} where
   abbrev pub has_had_share : BufferedStream T → Bool
   has_had_share b = b.share == 0
 
-  -- With a reply of so many bytes its share ends: it is a writer's, where that reports an append, and heavy, where much
-  -- was looked at.
+  -- With a reply of so many bytes its share ends: it is a writer's, where that reports an append and some of the share
+  -- was used before, and heavy, where much was looked at.
   abbrev pub share_ended : ShareEnd → ℕ → BufferedStream T → BufferedStream T
   share_ended Appended reply b =
-      record b { share = min b.share reply; is_ended = true; appended = true; is_writer = true }
+      record b { share = min b.share reply; is_ended = true; appended = true; is_writer = nat_lt b.share b.whole }
   share_ended Looked reply b = record b { share = min b.share reply; is_ended = true; heavy_for = HEAVY_TURNS }
 
   -- what is left of its share, which a drive may end
@@ -150,9 +150,9 @@ module _ {T : Type 0} where
   heavy_after WriteBlocked b = b.heavy_for
   heavy_after WriteFailed b = b.heavy_for
 
-  -- a reply in a turn in which no record was appended is none of a writer
+  -- it is a writer's no longer, once it was answered in a turn in which no record was appended
   abbrev pub is_writer_after : WriteAnswer → BufferedStream T → Bool
-  is_writer_after (Wrote n) b = b.appended
+  is_writer_after (Wrote n) b = b.is_writer && b.appended
   is_writer_after WriteBlocked b = b.is_writer
   is_writer_after WriteFailed b = b.is_writer
 

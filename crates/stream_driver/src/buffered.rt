@@ -45,9 +45,12 @@ pub enum Flushed {
 /// several turns.
 ///
 /// A drive that appends a record, or serves a request that looks at many pages of keys, ends the share with the reply to it (`end_share`).
-/// After an append the stream is a writer's (`is_writer`), until it takes bytes in a turn of its own in which none was appended. A drive is
-/// heavy that takes `LIGHT_MAX` bytes, or serves a request that looks at many pages. The stream is heavy (`is_heavy`) until `HEAVY_TURNS`
-/// turns of its own have begun since; and, where it was passed over, until one has.
+/// Where another reply of the drive came before it, the session may have come with a whole transaction in one piece, and the stream is a
+/// writer's (`is_writer`) until it takes bytes in a turn of its own in which that isn't so; and so where it is passed over and its session
+/// writes. An append with the first reply of a drive is of
+/// a transaction that had written before the drive. A drive is heavy that takes `LIGHT_MAX` bytes, or serves a request that looks at many
+/// pages. The stream is heavy (`is_heavy`) until `HEAVY_TURNS` turns of its own have begun since; and, where it was passed over, until one
+/// has.
 #[derive(Drop)]
 pub struct BufferedStream<S: Stream> {
     inner: S,
@@ -68,7 +71,7 @@ pub struct BufferedStream<S: Stream> {
     is_ended: bool,
     /// And that after a record was appended.
     appended: bool,
-    /// And so did the last in which it took bytes.
+    /// And in the last in which it took bytes so it was, behind another reply; or it was passed over since, and its session writes.
     is_writer: bool,
     /// For how many more turns of its own it is heavy.
     heavy_for: u8,
@@ -143,7 +146,8 @@ impl<S: Stream> BufferedStream<S> {
         self.share == 0
     }
 
-    /// Did the last drive in which it took bytes append a record? One in which nothing is answered changes nothing. Takes no memory.
+    /// Did the last drive in which it took bytes append a record, behind another reply? One in which nothing is answered changes nothing.
+    /// Where it was passed over since, it says whether its session wrote then. Takes no memory.
     pub fn is_writer(&self) -> bool
         ensures { result ≡ self.now.is_writer }
     {
@@ -176,12 +180,14 @@ impl<S: Stream> BufferedStream<S> {
         self.heavy_for = self.heavy_for.saturating_sub(1);
     }
 
-    /// It is passed over in this turn: it has no share of it, and is heavy until a turn of its own has begun. Takes no memory.
-    pub fn pass_over(&mut self)
-        ensures { self.new ≡ passed_over self.old }
+    /// It is passed over in this turn: it has no share of it, and is heavy until a turn of its own has begun. It is a writer's where its
+    /// session writes, so that nobody has to ask that again before it is answered. Takes no memory.
+    pub fn pass_over(&mut self, writes: bool)
+        ensures { self.new ≡ passed_over writes self.old }
     {
         self.share = 0;
         self.heavy_for = self.heavy_for.max(1);
+        self.is_writer = writes;
     }
 
     // It has taken bytes: so many in this turn, perhaps, that the drive is heavy. Where the share was ended, what is gone of it says
@@ -377,7 +383,7 @@ impl<S: Stream> Stream for BufferedStream<S> {
         if let WriteAnswer::Moved(n) = answer {
             self.is_drained = self.is_drained || self.is_short;
             self.share -= n;
-            self.is_writer = self.appended;
+            self.is_writer = self.is_writer && self.appended;
             self.note_taken();
         }
         self.counts.note_write(answer);
@@ -389,14 +395,14 @@ impl<S: Stream> Stream for BufferedStream<S> {
         ensures traffic { traffic_through S.traffic self.new ≡ traffic_through S.traffic self.old }
         ensures share { self.new ≡ share_ended cause reply self.old }
     {
-        self.share = self.share.min(reply);
-        self.is_ended = true;
         match cause {
             ShareEnd::Appended => {
+                self.is_writer = self.share < self.whole;
                 self.appended = true;
-                self.is_writer = true;
             }
             ShareEnd::Looked => self.heavy_for = HEAVY_TURNS,
         }
+        self.share = self.share.min(reply);
+        self.is_ended = true;
     }
 }

@@ -6,7 +6,8 @@ use Rattle.stream_driver.proofs.States.{leads_map, stands_after}
 use Rattle.event_loop.proofs.Departing.{drives_serve}
 use Rattle.event_loop.proofs.Entries.{driven_entries, ended_entries, ended_remain, polled_entries, polled_remain}
 use Rattle.event_loop.proofs.Entries.{polled_sessions, remain_numbers, remain_sessions}
-use Rattle.event_loop.proofs.Ordering.{places_after, polled_next, polled_turned, remain_places, turns_taken}
+use Rattle.event_loop.proofs.Ordering.{places_after, polled_next, polled_places, polled_turned, remain_places}
+use Rattle.event_loop.proofs.Ordering.{turns_taken}
 use Rattle.event_loop.proofs.Ordering.{few_enough, wide_enough}
 use Rattle.event_loop.proofs.Peers.{drives_use, drives_wait, ended_rested, leads_lack}
 use Rattle.event_loop.proofs.TableBytes.{drives_bytes}
@@ -17,6 +18,11 @@ use Rattle.event_loop.specs.Sockets.{CameShort}
 use Rattle.event_loop.specs.Tables.{after_poll, slot_at}
 use Rattle.event_loop.specs.declared.order.TheConstants.{WIDTH_MIN}
 use Rattle.event_loop.specs.contracts.socket.SocketStream.TheImpl.{ghosts}
+
+pub classes_of-classes-requires : goal.classes_of-classes-requires
+classes_of-classes-requires g c =
+    polled_places c.args.self.now.table.slots c.make_polled_ready.new.table.slots (items c.events.result.now) c.make_polled_ready.ensures
+    c.args.self.now.places
 
 pub drive_ready_then-requires : goal.drive_ready_then-requires
 drive_ready_then-requires g c =
