@@ -10,7 +10,7 @@ use Rattle.std.proofs.lemmas.Bool.Decides.{nat_tests}
 use Rattle.std.proofs.lemmas.Cmp.{nat_eq_equiv}
 use Rattle.std.proofs.lemmas.Iterator.Adapters.{position_from-zero}
 use Rattle.std.proofs.lemmas.List.{get_or-replicate, get_or-set_other, get_or-set_same, length-replicate}
-use Rattle.std.proofs.lemmas.List.{length-set, take-append-drop}
+use Rattle.std.proofs.lemmas.List.{length-set, take-append-drop, take_all}
 use Rattle.std.proofs.lemmas.Map.Keys.{IsDistinct-cons, any_passes_from_place}
 use Rattle.std.proofs.lemmas.Map.Made.{length-le_from_is_member}
 use Rattle.std.specs.Set.{is_member}
@@ -23,7 +23,7 @@ use Rattle.std.specs.Int.Bits.{bit_and}
 use Rattle.std.specs.List.{AllByRecursion, IsDistinct, position_from}
 use Rattle.std.specs.Prelude.{position, slice_get, nat_eq, nat_le, nat_lt, ◌&&◌, ◌==◌, ◌||◌, ◌⊎◌}
 use Rattle.sorted_pages.specs.Held.{AreAmong, AreApart, AreBits, AreBounded, AreFreeFrom, AreHeldFrom, AreHeldOf}
-use Rattle.sorted_pages.specs.Held.{IsHeldLate}
+use Rattle.sorted_pages.specs.Held.{AreHeldFor, IsHeldLate}
 use Rattle.sorted_pages.specs.Held.{bit_of, is_among, with_number}
 use Rattle.sorted_pages.specs.declared.held.TheConstants.{FREE}
 
@@ -731,3 +731,27 @@ module _ (ns : List ℕ) where
       by (inr differs) =
           among j n (slice_get-get_or places j 0 within
           ∙ ap (λ m. Some m) (sym (get_or-set_other places k j (get_or ns i d) 0 differs) ∙ is))
+
+-- ---- the numbers that were given last
+
+none_free : (k n : ℕ) → (n == FREE) ≡ false → is_among (replicate k FREE) n ≡ true → ⊥
+none_free zero n f h = both_ways false refl h
+none_free (suc k) n f h = elim (or_cases (FREE == n) (is_among (replicate k FREE) n) h) [
+  | inl e ↦ both_ways (n == FREE) f (eq-eqb n FREE (sym (eqb-true FREE n e)))
+  | inr e ↦ none_free k n f e
+]
+
+pub none_asked : (k : ℕ) → AreHeldFor 0 [] (replicate k FREE)
+none_asked k = record { among = λ n f h. absurd (none_free k n f h); there = λ n h. absurd (both_ways false refl h) }
+
+-- those from a later number on are held, too
+pub asked_later : (since last : ℕ) (asked ns : List ℕ) → since ≤ last → AreHeldFor since asked ns → AreHeldFor last asked ns
+asked_later since last asked ns le h = record { among = h.among; there = λ n m l. h.there n m (omega (arith, le, l)) }
+
+-- once it is done for all
+pub asked_so : (last : ℕ) (numbers : List ℕ) (k : ℕ) (old now : List ℕ) → HoldsSo last numbers k old now → length numbers ≤ k → length numbers ≤ 64
+    → AreHeldFor last numbers now
+asked_so last numbers k old now h all few = record {
+  among = h.within;
+  there = λ n m l. h.added few n (subst (λ ns. is_among ns n ≡ true) (sym (take_all k numbers all)) m) l;
+}

@@ -53,6 +53,11 @@ IsHeldLate last n old new =
 abbrev pub AreBounded : ℕ → List ℕ → Type 0
 AreBounded bound ns = (n : ℕ) → (n == FREE) ≡ false → is_among ns n ≡ true → n < bound
 
+-- the numbers that stand in places that aren't free are among these, and those of them from `since` on are there
+pub record AreHeldFor (since : ℕ) (asked ns : List ℕ) : Type 0 where
+  pub among : (n : ℕ) → (n == FREE) ≡ false → is_among ns n ≡ true → is_among asked n ≡ true
+  pub there : (n : ℕ) → is_among asked n ≡ true → since ≤ n → is_among ns n ≡ true
+
 -- each place from this one on is free
 abbrev pub AreFreeFrom : ℕ → List ℕ → Type 0
 AreFreeFrom used ns = (i n : ℕ) → used ≤ i → slice_get ns i ≡ Some n → n ≡ FREE

@@ -3,7 +3,7 @@
 ghost use Rattle.std.specs.Prelude.{◌≡◌, ◌==◌, ◌&&◌, ◌≤◌, ◌<◌, ℕ, true, nat_le, nat_lt, false, if◌then◌else◌};
 ghost use Rattle.std.specs.Prelude.{IfSome, length, position};
 ghost use Rattle.sorted_pages.specs.Held.{AreApart, AreBits, AreBounded, AreFreeFrom, AreHeldFrom, AreHeldOf};
-ghost use Rattle.sorted_pages.specs.Held.{IsHeldLate, IsReader, is_among, with_number};
+ghost use Rattle.sorted_pages.specs.Held.{AreHeldFor, IsHeldLate, IsReader, is_among, with_number};
 ghost use Rattle.std.specs.Int.{bit_at};
 ghost use Rattle.sorted_pages.specs.Summaries.{BitsHide, are_hidden};
 
@@ -33,11 +33,19 @@ pub(crate) struct Held {
     used: usize,
     // each held number is below it; 0 where none is held
     bound: u64,
+    // the numbers that were given last, so many; more than there are places where the slots have changed since
+    asked: [u64; HELD_MAX],
+    asked_count: usize,
+    // of these the ones from this on are held
+    asked_since: u64,
 }
 
+// More numbers than are noted: the slots have changed since.
+const NOT_NOTED: usize = HELD_MAX + 1;
+
 impl Model for Held {
-    ghost use Rattle.std.specs.Prelude.{ℕ, List, ◌≤◌};
-    ghost use Rattle.sorted_pages.specs.Held.{AreApart, AreBounded, AreFreeFrom};
+    ghost use Rattle.std.specs.Prelude.{ℕ, List, ◌≤◌, take};
+    ghost use Rattle.sorted_pages.specs.Held.{AreApart, AreBounded, AreFreeFrom, AreHeldFor};
     ghost use Rattle.sorted_pages.specs.declared.held.TheConstants.{HELD_MAX};
 
     ghost Value = { List ℕ };
@@ -45,7 +53,8 @@ impl Model for Held {
     ghost view = { λ h. h.slots };
 
     ghost invariant = { λ h.
-        AreApart h.slots × AreBounded h.bound h.slots × AreFreeFrom h.used h.slots × (h.used ≤ HELD_MAX) };
+        AreApart h.slots × AreBounded h.bound h.slots × AreFreeFrom h.used h.slots × (h.used ≤ HELD_MAX)
+        × (h.asked_count ≤ HELD_MAX → AreHeldFor h.asked_since (take h.asked_count h.asked) h.slots) };
 }
 
 impl Held {
@@ -58,6 +67,9 @@ impl Held {
             slots: [FREE; HELD_MAX],
             used: 0,
             bound: 0,
+            asked: [0; HELD_MAX],
+            asked_count: 0,
+            asked_since: 0,
         }
     }
 
@@ -144,6 +156,7 @@ impl Held {
         }
         self.used = used;
         self.bound = bound_of(numbers.numbers());
+        self.asked_count = NOT_NOTED;
     }
 
     // Holds the number, where a slot is free.
@@ -155,6 +168,7 @@ impl Held {
             self.slots[slot] = number;
             self.used = self.used.max(slot + 1);
             self.bound = self.bound.max(number.saturating_add(1));
+            self.asked_count = NOT_NOTED;
         }
     }
 
@@ -171,6 +185,27 @@ impl Held {
         }
     }
 
+    // Were these numbers given last, and are those of them held that aren't below `last`?
+    fn are_noted(&self, numbers: &[u64], last: u64) -> bool
+        ensures { result ≡ true → AreHeldFor last numbers.now self.now }
+    {
+        self.asked_since <= last
+            && self.asked_count <= HELD_MAX
+            && numbers == &self.asked[..self.asked_count]
+    }
+
+    // Notes that these numbers were given, unless they are too many.
+    fn note(&mut self, numbers: &[u64], last: u64)
+        requires { length numbers.now ≤ HELD_MAX → AreHeldFor last numbers.now self.old }
+        ensures { self.new ≡ self.old }
+    {
+        if numbers.len() <= HELD_MAX {
+            self.asked[..numbers.len()].copy_from_slice(numbers);
+            self.asked_count = numbers.len();
+            self.asked_since = last;
+        }
+    }
+
     // Holds these numbers alone: those that were held, and those that aren't below `last`, as many as fit.
     pub(crate) fn hold(&mut self, numbers: &[u64], last: u64)
         ensures slots { AreHeldFrom last self.old self.new }
@@ -180,13 +215,14 @@ impl Held {
         ensures added { length numbers.now ≤ HELD_MAX
             → (n : ℕ) → is_among numbers.now n ≡ true → last ≤ n → is_among self.new n ≡ true }
     {
-        if self.bound == 0 && numbers.is_empty() {
+        if self.are_noted(numbers, last) {
             return;
         }
         self.release_others(&NumberSet::of(numbers));
         for number in numbers {
             self.add_late(*number, last);
         }
+        self.note(numbers, last);
     }
 }
 

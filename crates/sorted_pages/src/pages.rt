@@ -127,8 +127,9 @@ impl<V: Versioned> SortedPages<V> {
     }
 
     /// Holds these numbers alone: those that were held before, and those from the last change on. Where they are more than 64, some are
-    /// left out. What others see isn't known from then on. Its time grows with how many there are times how many places are in use, up to
-    /// the last of them, 64 at most; where none was held and none is given, it does nothing. Takes no memory.
+    /// left out. What others see isn't known from then on. Where the same were given last, it compares them and does nothing. Else its time
+    /// grows with how many there are and with how many places are in use, up to the last of them, 64 at most; and for each that is
+    /// released, or that a `NumberSet` doesn't find at once, with how many there are again. Takes no memory.
     pub fn hold(&mut self, numbers: &[u64])
         ensures pages { self.new.pages ≡ self.old.pages }
         ensures last { self.new.last ≡ self.old.last }

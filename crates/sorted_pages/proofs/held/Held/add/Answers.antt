@@ -24,6 +24,7 @@ invariant_of-self c =
       bounded_with c.args.self.now c.args.number _ _ bounded (omega arith) (omega arith) (omega arith),
       free_with c.args.number c.args.self.now _ _ c.in-Some.slot found old (omega arith) (omega arith),
       omega arith,
+      λ few. absurd (omega arith),
     )
 
 pub returns-in_default : goal.returns-in_default

@@ -37,6 +37,7 @@ invariant_of-self c =
       subst (AreBounded _) (sym all) (bounded_kept ns old _ (subst (AreBounded _) c.numbers.ensures c.bound_of-self-inside.ensures)),
       free_released ns old now c.loop-slot.slot c.loop-slot.used c.loop-slot.invariant free,
       (let small = c.loop-slot.invariant.within in omega arith),
+      (λ few. absurd (omega arith)),
     )
 
 pub returns-clause-kept : goal.returns-clause-kept
