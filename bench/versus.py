@@ -2,13 +2,14 @@
 """Compares two built programs of ssikvd, request by request: has one that was fast become slower?
 
     bench/versus.py OLD NEW                    # CPU time, in alternating slices: five minutes
-    bench/versus.py OLD NEW --instructions     # the instructions that each request takes; needs valgrind, and gives the same on a busy machine
+    bench/versus.py OLD NEW --instructions     # the instructions that each transaction takes: two minutes; needs valgrind, and a busy machine will do
 
 A row is one kind of transaction. Its first form measures the CPU time of both servers under the same load, in rounds of one slice each, and
 gives the median of the rounds' ratios with their interquartile range: above 1, the new program takes more. The data files are in memory, so no disk
 is involved. The second runs each server under callgrind, sends 200 transactions over one connection, and counts what 400 more take: in the program's
-own code, and with the C library's. The system's calls are not in it. Valgrind counts a `rep stosb`, with which that library fills long stretches of
-memory, once for each byte.
+own code, and with the C library's. Then it counts those of a crowd that writes, for what grows with the clients that wait and with the numbers at which
+transactions began, which one client can't show. The system's calls are not in it. Valgrind counts a `rep stosb`, with which that library fills long
+stretches of memory, once for each byte.
 """
 
 import argparse
@@ -32,10 +33,13 @@ from workloads import Load, counted, quartile    # noqa: E402
 KINDS = [("PING", "ping", 1, False), ("PING", "ping", 16, False), ("32 pipelined PINGs", "pings", 1, False),
          ("BEGIN, 4 GET, COMMIT", "read", 16, False), ("BEGIN, 4 GET, COMMIT, pipelined", "read", 16, True),
          ("BEGIN, RANGE of 64, COMMIT, pipelined", "range", 16, True), ("BEGIN, SET, COMMIT", "write", 16, False),
+         ("BEGIN, SET, COMMIT", "write", 64, False),
          ("BEGIN, SET, COMMIT, pipelined", "write", 1, True), ("BEGIN, GET, SET of one of 16 keys, COMMIT", "hot", 16, False)]
 KEYS, VALUE_BYTES, SECTORS = 10_000, 100, 4_194_303
 # Under callgrind: how many transactions are sent before those that count, and how many count.
 WARM, COUNTED = 200, 400
+# How many clients a crowd has, and for how long it sends, in seconds.
+CROWDS, CROWD_SECONDS = (16, 64), 4
 
 
 def chosen(options):
@@ -89,13 +93,15 @@ def costs(figures):
 class Counting(Listening):
     """The server under callgrind."""
 
+    name = "resp"
+
     def __init__(self, program, folder, name):
         self.figures = os.path.join(folder, name)
         data = self.figures + ".data"
         run([program, "create", "--data", data, "--sectors", "65536"])
         words = ["valgrind", "--tool=callgrind", f"--callgrind-out-file={self.figures}", program, "serve", "--data", data, "--listen", "127.0.0.1:0"]
         super().__init__(words, stop_signal=signal.SIGINT, stderr=subprocess.DEVNULL)
-        self.name = "/" + os.path.basename(os.path.realpath(program))
+        self.object = "/" + os.path.basename(os.path.realpath(program))
         self.dumps = 0
 
     def instructions(self):
@@ -104,7 +110,7 @@ class Counting(Listening):
         run(["callgrind_control", "--dump", str(self.process.pid)])
         with open(f"{self.figures}.{self.dumps}") as file:
             by_object = costs(file.read())
-        return sum(cost for name, cost in by_object.items() if name.endswith(self.name)), sum(by_object.values())
+        return sum(cost for name, cost in by_object.items() if name.endswith(self.object)), sum(by_object.values())
 
 
 def requests_of(work, number):
@@ -153,13 +159,34 @@ def counted_instructions(program, folder, name, kinds):
             yield [count / COUNTED for count in server.instructions()]
 
 
+def crowd_instructions(options, program, name):
+    """What a transaction that writes one key takes, where so many clients send their requests one at a time."""
+    with Counting(program, options.folder, name) as server:
+        fill(Client(server.address))
+        for connections in CROWDS:
+            load = Load(options, "write", connections)
+            load.measure(server, 1)
+            server.instructions()
+            committed = load.measure(server, CROWD_SECONDS)["committed"]
+            yield [count / committed for count in server.instructions()]
+
+
+def instruction_row(what, old, new):
+    ratios = [f"**{mine / other:.2f}**" for mine, other in zip(new, old)]
+    return [what, f"{old[0]:,.0f}", f"{new[0]:,.0f}", ratios[0], f"{old[1]:,.0f}", f"{new[1]:,.0f}", ratios[1]]
+
+
 def instruction_rows(options):
+    options.keys, options.value_bytes = KEYS, VALUE_BYTES
+    programs = [(options.old, "old"), (options.new, "new")]
     # (a row for each kind of transaction, however many connections it stands there for)
     kinds = list({kind[0]: kind for kind in chosen(options)}.values())
-    both = [list(counted_instructions(program, options.folder, name, kinds)) for program, name in ((options.old, "old"), (options.new, "new"))]
+    both = [list(counted_instructions(program, options.folder, name, kinds)) for program, name in programs]
     for (what, *_), old, new in zip(kinds, *both):
-        ratios = [f"**{mine / other:.2f}**" for mine, other in zip(new, old)]
-        yield [what, f"{old[0]:,.0f}", f"{new[0]:,.0f}", ratios[0], f"{old[1]:,.0f}", f"{new[1]:,.0f}", ratios[1]]
+        yield instruction_row(what, old, new)
+    crowds = [list(crowd_instructions(options, program, name + "-crowd")) for program, name in programs]
+    for connections, old, new in zip(CROWDS, *crowds):
+        yield instruction_row(f"BEGIN, SET, COMMIT, {connections} clients", old, new)
 
 
 def main():
@@ -175,10 +202,10 @@ def main():
     options.old, options.new = map(os.path.abspath, (options.old, options.new))
     with tempfile.TemporaryDirectory(prefix="ssikvd-versus-", dir="/dev/shm") as options.folder:
         print(f"Load before: {os.getloadavg()[0]:.1f}.\n")
+        run(["make", "-s", "-C", HERE, "all"])
         if options.instructions:
             print_table(["What", "Old: own code", "New: own code", "Ratio", "Old: all", "New: all", "Ratio"], instruction_rows(options))
         else:
-            run(["make", "-s", "-C", HERE, "all"])
             print_table(["What", "Old: us", "New: us", "Ratio", "Interquartile range"], timed_rows(options))
 
 
