@@ -27,8 +27,8 @@ impl<'a> Model for NumberSet<'a> {
     ghost invariant = { λ s. AreAmong s.numbers.now s.places };
 }
 
-// The place of a number.
-fn place_of(number: u64) -> usize
+// Where a number stands, unless a later one that shares the place has taken it.
+fn home_of(number: u64) -> usize
     ensures { result < PLACES }
 {
     (number % PLACES as u64) as usize
@@ -41,7 +41,7 @@ impl<'a> NumberSet<'a> {
     {
         let mut places = [FREE; PLACES];
         for number in numbers {
-            places[place_of(*number)] = *number;
+            places[home_of(*number)] = *number;
         }
         NumberSet { numbers, places }
     }
@@ -57,7 +57,7 @@ impl<'a> NumberSet<'a> {
     pub fn contains(&self, number: u64) -> bool
         ensures { result ≡ is_among self.now number }
     {
-        let is_placed = number < FREE && self.places[place_of(number)] == number;
+        let is_placed = number < FREE && self.places[home_of(number)] == number;
         is_placed || self.numbers.contains(&number)
     }
 }

@@ -8,7 +8,7 @@ loop-number-init c = (none-placed c.args.numbers.now 128, refl)
 
 pub loop-number-preserved : goal.loop-number-preserved
 loop-number-preserved c = (
-  one-placed c.args.numbers.now c.loop-number.places c.place_of.result _ c.loop-number.number-index c.loop-number.invariant.0 (omega arith),
+  one-placed c.args.numbers.now c.loop-number.places c.home_of.result _ c.loop-number.number-index c.loop-number.invariant.0 (omega arith),
   length-set _ _ _ ∙ c.loop-number.invariant.1,
 )
 
