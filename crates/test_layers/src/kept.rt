@@ -149,6 +149,24 @@ fn all_lists_go_at_once(rt: HostRuntime) {
     assert!(rt; versions.at(10, key(&[4])) == Some(b"new".as_slice()));
 }
 
+/// A step with the numbers of the last, which left nothing, has nothing to do; behind a commit it has, and so has one with fewer numbers.
+#[test]
+fn steps_with_the_same_numbers_see_new_commits(rt: HostRuntime) {
+    let mut versions = after_commits(&rt, 2);
+    let (first, second) = (key(&[0]), key(&[1]));
+    assert!(rt; !versions.reclaim_step(&[1]));
+    assert!(rt; versions.kept(first) == 1 && versions.kept(second) == 2);
+    assert!(rt; !versions.reclaim_step(&[1]));
+    assert!(rt; versions.kept(first) == 1 && versions.kept(second) == 2);
+    commit(&rt, &mut versions, 3, first, Some(b"newer"));
+    assert!(rt; versions.kept(first) == 2);
+    assert!(rt; !versions.reclaim_step(&[1]));
+    assert!(rt; versions.kept(first) == 2 && versions.kept(second) == 2);
+    assert!(rt; !versions.reclaim_step(&[3]));
+    assert!(rt; versions.kept(first) == 1 && versions.kept(second) == 1);
+    assert!(rt; versions.at(3, first) == Some(b"newer".as_slice()));
+}
+
 // Commits a value of the key with this number, and takes a step to reclaim what none of two numbers sees.
 fn commit_and_reclaim<R: Abort + AllocGlobal>(
     rt: &R,

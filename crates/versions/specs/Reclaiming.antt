@@ -95,6 +95,16 @@ pub record AreLookedAt (bs : List ℕ) (chains : Chains) (gs hs : List GroupValu
   pub unclassified : AreUnclassifiedCollected bs chains hs
   pub each : MoveUnderPins bs gs hs
 
+-- No list is garbage where these numbers are active, and each chain has what is needed alone. Each pin is one of the
+-- numbers or 0, and that of no other group; what is unclassified is truly unclassified and collected.
+pub record AreCollected (bs : List ℕ) (chains : Chains) (gs : List GroupValue) : Type 0 where
+  pub none : garbage_in bs gs ≡ 0
+  pub reclaimed : IsAllReclaimed bs chains chains
+  pub few : length gs ≤ length bs + 1
+  pub active : AreAmong (0 ∷ bs) (pins gs)
+  pub truly : AllByRecursion (IsTrulyUnclassified bs) gs
+  pub unclassified : AreUnclassifiedCollected bs chains gs
+
 -- the groups list what they listed, under pins that they had: as many lists are garbage, and what held of each group
 -- holds of each still
 pub record KeepsListed (gs hs : List GroupValue) : Type 0 where

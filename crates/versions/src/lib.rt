@@ -6,6 +6,7 @@
 
 mod boxed;
 mod chain;
+mod collected;
 mod installing;
 mod laws;
 mod listing;

@@ -253,12 +253,18 @@ impl Group {
 }
 
 // Takes in which numbers are active, and looks at the first garbage lists, from the last group on: what none of the numbers sees goes. So
-// the list of a commit is looked at before those that others left, and no chain grows while these are many.
-fn reclaim_groups(chains: &mut SortedPages<Chain>, groups: &mut [Group], begins: &NumberSet<'_>)
+// the list of a commit is looked at before those that others left, and no chain grows while these are many. Answers how many fewer it
+// looked at than a step may: where that is more than 0, no list is garbage any more.
+fn reclaim_groups(
+    chains: &mut SortedPages<Chain>,
+    groups: &mut [Group],
+    begins: &NumberSet<'_>,
+) -> usize
     requires kept { IsReclaimable begins.now chains.old }
     requires listed { IsListed (entries chains.old.pages) groups.old }
     ensures step { ReclaimsStep begins.now chains.old chains.new groups.old groups.new }
     ensures groups { AreLookedAt begins.now (entries chains.new.pages) groups.old groups.new }
+    ensures none_left { 0 < result → garbage_in begins.now groups.new ≡ 0 }
 {
     let mut most = LISTS_A_STEP;
     let mut left = groups.len();
@@ -266,6 +272,7 @@ fn reclaim_groups(chains: &mut SortedPages<Chain>, groups: &mut [Group], begins:
         left -= 1;
         most = groups[left].reclaim(chains, begins, most);
     }
+    most
 }
 
 // The first of the groups with this pin.
@@ -325,6 +332,14 @@ fn are_garbage(groups: &[Group], begins: &NumberSet<'_>) -> bool
     groups.iter().any(|group| group.is_garbage(begins))
 }
 
+// Is a list still garbage after a step that might have looked at so many lists more? None is where it might.
+fn is_garbage_left(spare: usize, groups: &[Group], begins: &NumberSet<'_>) -> bool
+    requires { 0 < spare → garbage_in begins.now groups.now ≡ 0 }
+    ensures { result ≡ nat_lt 0 (garbage_in begins.now groups.now) }
+{
+    spare == 0 && are_garbage(groups, begins)
+}
+
 // Looks at the first of the lists that are garbage where these numbers are active, and drops the versions that none of them sees. Is any
 // list still garbage? Takes no memory.
 pub(crate) fn reclaim_versions(
@@ -341,7 +356,7 @@ pub(crate) fn reclaim_versions(
     ensures few { length groups.new.items ≤ length begins.now + 1 }
 {
     let begins = NumberSet::of(begins);
-    reclaim_groups(chains, groups, &begins);
+    let spare = reclaim_groups(chains, groups, &begins);
     join_groups(groups);
-    are_garbage(groups, &begins)
+    is_garbage_left(spare, groups, &begins)
 }

@@ -15,6 +15,7 @@ ghost use Rattle.sorted_pages.specs.Pages.{places_in};
 ghost use Rattle.std.specs.List.{AllByRecursion};
 ghost use Rattle.versions.specs.Listings.{IsTrulyUnclassified};
 ghost use Rattle.versions.specs.Installing.{HasMoreRoom};
+ghost use Rattle.versions.specs.Reclaiming.{AreCollected};
 ghost use Rattle.versions.specs.Lent.{pages_ahead, pages_looked_at, range_pairs};
 ghost use Rattle.versions.specs.StandsFor.{StandForSame, StandWithCommit, StandWhereAmong, StandsFor};
 ghost use Rattle.versions.specs.StandsFor.{AreHeldWhereKnown, ClassifiedWhereActive};
@@ -22,6 +23,7 @@ ghost use Rattle.sorted_pages.specs.Summaries.{AreSeen, HoldsAmong, HoldsKnown};
 ghost use Rattle.sorted_pages.specs.declared.held.TheConstants.{HELD_MAX};
 
 use crate::chain::Chain;
+use crate::collected::CollectedFor;
 use crate::installing::{add_all, make_room};
 use crate::listing::{Group, OldVersion, reserve_list};
 use crate::pairs::Pairs;
@@ -46,6 +48,8 @@ pub struct Versions {
     groups: Vec<Group>,
     // at most one list, empty, with room for the versions that the next commit supersedes
     listed: LinkedList<Vec<OldVersion>>,
+    // the numbers for which no list is garbage, if a step has found so since the last change
+    collected: CollectedFor,
     // the greatest number that was installed
     last: u64,
 }
@@ -61,11 +65,12 @@ fn hold(chains: &mut SortedPages<Chain>, begins: &[u64])
 }
 
 impl Model for Versions {
-    ghost use Rattle.std.specs.Prelude.{◌≡◌, ◌≤◌, ◌-◌, []};
+    ghost use Rattle.std.specs.Prelude.{◌≡◌, ◌≤◌, ◌-◌, [], IfSome};
     ghost use Rattle.std.specs.Vec.{vec_len, vec_capacity};
     ghost use Rattle.sorted_pages.specs.Pages.{entries};
     ghost use Rattle.versions.specs.Chains.{ChainsValue, IsKept};
     ghost use Rattle.versions.specs.Listings.{HasFewLists, IsListed, spare_in, versions_in};
+    ghost use Rattle.versions.specs.Reclaiming.{AreCollected};
 
     ghost Value = { ChainsValue };
 
@@ -81,7 +86,8 @@ impl Model for Versions {
 
     ghost invariant = { λ v.
         IsKept (entries v.chains.pages) v.last × IsListed (entries v.chains.pages) v.groups.items
-        × (versions_in v.listed ≡ []) × HasFewLists v.groups.items v.listed v.last × (v.chains.last ≤ v.last) };
+        × (versions_in v.listed ≡ []) × HasFewLists v.groups.items v.listed v.last × (v.chains.last ≤ v.last)
+        × IfSome v.collected (λ bs. AreCollected bs (entries v.chains.pages) v.groups.items) };
 }
 
 impl Versions {
@@ -102,6 +108,7 @@ impl Versions {
             chains,
             groups: Vec::new(alloc),
             listed: LinkedList::new(alloc),
+            collected: CollectedFor::none(),
             last: 0,
         })
     }
@@ -181,6 +188,7 @@ impl Versions {
         ensures known { WhereRoom (count_together key.entry.bytes.now self.old.pages writes.now)
             key.entry.bytes.now self.old.pages self.old.chains (IsOk result) }
     {
+        self.collected.clear();
         make_room(&mut self.chains, key, writes)
     }
 
@@ -223,6 +231,7 @@ impl Versions {
         ensures installed { IsInstalled self.old self.new n writes.items }
         ensures stands { StandWithCommit self.old self.new n writes.items }
     {
+        self.collected.clear();
         self.last = n;
         let alloc = *self.listed.allocator();
         let mut listed = mem::replace(&mut self.listed, LinkedList::new(alloc));
@@ -236,6 +245,13 @@ impl Versions {
         }
     }
 
+    // Is it known that nothing is left to collect where these numbers are active?
+    fn are_collected(&self, begins: &[u64]) -> bool
+        ensures { result ≡ true → AreCollected begins.now self.now.chains self.now.groups }
+    {
+        self.groups.is_empty() || self.collected.is_for(begins)
+    }
+
     /// A step of what `reclaim` does. Answers whether it has to be called again until all is done. Each key keeps all of its versions, or
     /// those that `reclaim` leaves it.
     ///
@@ -247,8 +263,9 @@ impl Versions {
     /// though their pin isn't active, or doesn't see all of them, are unclassified, and each call looks at them; no others are
     /// unclassified. Where each of the numbers was active at the calls before, or is at least that of the last commit, there are none.
     ///
-    /// Where there is no group, a call does nothing, in constant time. Any other call holds what these numbers see of each page, as
-    /// `keep_active` does. Either way, of the active numbers these alone stay so.
+    /// Where there is no group, a call does nothing, in constant time. Nor does it where the last call had these numbers and left nothing,
+    /// and nothing was prepared or installed since: that takes a look at each of them, where they are `HELD_MAX` at most. Any other call
+    /// holds what these numbers see of each page, as `keep_active` does. Either way, of the active numbers these alone stay so.
     pub fn reclaim_step(&mut self, begins: &[u64]) -> bool
         ensures reclaimed { IsReclaimedInPart self.old self.new begins.now }
         ensures still { result ≡ nat_lt 0 (garbage_of begins.now self.new) }
@@ -257,11 +274,13 @@ impl Versions {
         ensures classified { ClassifiedWhereActive begins.now self.old self.new }
         ensures stands { length begins.now ≤ HELD_MAX → StandWhereAmong begins.now self.old self.new }
     {
-        if self.groups.is_empty() {
+        if self.are_collected(begins) {
             return false;
         }
         hold(&mut self.chains, begins);
-        reclaim_versions(&mut self.chains, &mut self.groups, begins)
+        let is_garbage = reclaim_versions(&mut self.chains, &mut self.groups, begins);
+        self.collected.note(begins, !is_garbage);
+        is_garbage
     }
 
     /// Drops the versions that are neither the newest of their keys nor seen from one of the numbers; there may be no number. A deletion

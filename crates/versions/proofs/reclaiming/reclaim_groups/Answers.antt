@@ -51,4 +51,5 @@ returns c =
     record {
       step = collecting-step bs c.args.chains.now c.loop-left.chains c.args.groups.now gs most c.loop-left.invariant.held all;
       groups = collecting-all bs old now c.args.groups.now gs most all;
+      none_left = all.none_behind;
     }

@@ -5,6 +5,7 @@ use Rattle.model.proofs.Entries.{IsSorted}
 use Rattle.model.specs.Map.{Bytes, KeyMap}
 use Rattle.sorted_pages.specs.Pages.{entries}
 use Rattle.versions.proofs.Calls.{base-next, stands-opened}
+use Rattle.versions.proofs.NothingLeft.{for-none}
 use Rattle.versions.proofs.Listings.{listed-base}
 use Rattle.versions.proofs.Stores.{kept-base}
 use Rattle.versions.specs.Chains.{ChainValue, Chains, IsKept, base_chains, fresh_chain, stamped}
@@ -23,6 +24,7 @@ invariant_of-result c =
       ap versions_in c.new-3.ensures,
       record { lists = omega (arith, ap lists_in c.new-2.ensures.items); ready = omega (arith, ap length c.new-3.ensures); fits = omega arith },
       c.loop-pair.invariant.early,
+      for-none _ _ c.none.ensures,
     )
 
 pub returns : goal.returns

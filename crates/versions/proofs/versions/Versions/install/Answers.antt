@@ -3,6 +3,7 @@ use Rattle.std.proofs.Common.{ℕ, ◌≡◌, List, [], ◌∷◌, ◌++◌, len
 use Rattle.std.proofs.lemmas.List.{length-set}
 use Rattle.model.specs.Map.{KeyWrite, Bytes}
 use Rattle.sorted_pages.specs.Pages.{entries}
+use Rattle.versions.proofs.NothingLeft.{for-none}
 use Rattle.versions.proofs.Histories.{stands-installed}
 use Rattle.versions.proofs.Listings.{groups-found, found-last}
 use Rattle.versions.proofs.Lists.{in-first, in-filled, spare-first}
@@ -76,6 +77,7 @@ invariant_of-self c =
         fits = c.requires.fits;
       },
       c.add_all.ensures.held.last,
+      for-none _ _ c.clear.ensures,
     )
 
 pub returns-clause-installed : goal.returns-clause-installed

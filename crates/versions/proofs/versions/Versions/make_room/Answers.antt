@@ -1,6 +1,7 @@
 use Rattle.versions.proofs.versions.Versions.make_room.Goals as goal
 use Rattle.std.proofs.Common.{arith}
 use Rattle.sorted_pages.specs.Pages.{entries}
+use Rattle.versions.proofs.NothingLeft.{for-none}
 use Rattle.versions.proofs.Listings.{listed-roomier}
 use Rattle.versions.proofs.Stores.{kept-roomier}
 
@@ -14,4 +15,5 @@ invariant_of-self c =
       c.self.invariant.2,
       c.self.invariant.3,
       omega (arith, more.held.last, c.self.invariant.4),
+      for-none _ _ c.clear.ensures,
     )
