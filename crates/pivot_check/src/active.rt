@@ -31,10 +31,10 @@ impl ActiveBegins {
         ensures { reach_of result ≡ record { begins = numbers.now; since = since } }
     {
         let mut begins = ArrayVec::new();
-        for number in numbers {
-            begins.push(*number);
+        match begins.try_extend_from_slice(numbers) {
+            Ok(()) => ActiveBegins { begins, since },
+            Err(_) => unreachable!(),
         }
-        ActiveBegins { begins, since }
     }
 
     // Has whoever may ask begun before both numbers, or before neither?
