@@ -201,6 +201,7 @@ impl<S: Stream> BufferedStream<S> {
     }
 
     // One write of what is buffered.
+    #[inline(never)]
     fn write_buffered<D: Sectors>(&mut self, device: &D) -> WriteAnswer
         requires { buffered_in self.old.buffered ≢ [] }
         ensures wrote { WritesBuffered S.reports S.traffic (D.moment device.now) self.old result self.new }
@@ -219,6 +220,7 @@ impl<S: Stream> BufferedStream<S> {
     }
 
     /// Writes what is buffered, as far as the inner stream takes it. Takes no memory that a caller sees.
+    #[inline(always)]
     pub fn flush<D: Sectors>(&mut self, device: &D) -> Flushed
         ensures flushed { Flushes S.reports S.traffic (D.moment device.now) self.old result self.new }
         ensures some { result ≡ Flushed.Blocked → buffered_in self.new.buffered ≢ [] }

@@ -181,6 +181,7 @@ fn disconnect<D: Sectors>(hub: &mut Hub<D>, s: u64) -> Progress
 }
 
 // As `drive`, with a buffer for what is read.
+#[inline(never)]
 pub(crate) fn drive_over<D: Sectors, S: Stream>(
     hub: &mut Hub<D>,
     s: u64,

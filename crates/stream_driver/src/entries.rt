@@ -34,7 +34,8 @@ pub struct Entry<S: Stream> {
     pub state: EntryState,
 }
 
-// Drives an entry, if it is ready.
+// Drives an entry, if it is ready. Most of a large table aren't, so the question is asked where the table is walked.
+#[inline(always)]
 fn drive_entry<D: Sectors, S: Stream>(
     hub: &mut Hub<D>,
     entry: &mut Entry<S>,
