@@ -6,6 +6,6 @@ use Rattle.event_loop.specs.declared.spare.TheConstants.{SPARE_MAX, SPARE_MIN, S
 abbrev pub size_behind : ℕ → ℕ
 size_behind size = cond (nat_lt size SPARE_MAX) (size + SPARE_STEP) SPARE_MIN
 
--- where garbage is freed, or no more turns may pass
+-- where garbage is left, or no more turns may pass
 abbrev pub asks_again : Bool → ℕ → Bool
-asks_again frees_garbage rests = frees_garbage || (rests == 0)
+asks_again garbage_left rests = garbage_left || (rests == 0)

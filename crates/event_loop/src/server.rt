@@ -177,8 +177,8 @@ impl<D: Sectors> EventLoop<D> {
     /// and the places of those that left are free for those that come.
     ///
     /// At its end it frees what no open transaction needs, a step of it (`Hub::reclaim_step`). So turns go on with that, also where no
-    /// session sends anything, until no garbage is left. In those turns, and in one of `SPARE_TURNS` others, it then asks for a block in
-    /// place of the last such (`Spare`); a refusal of that changes nothing.
+    /// session sends anything, until no garbage is left. Where the turn before it left garbage, or it does, and in one of `SPARE_TURNS`
+    /// other turns, it then asks for a block in place of the last such (`Spare`); a refusal of that changes nothing.
     ///
     /// It waits for no more than `timeout`, without end where none is given. It doesn't wait at all where a session is still ready, where
     /// 128 connections were accepted last time, or where the turn before it has left garbage, or more input to drop. After an accept that

@@ -1,9 +1,9 @@
 //! A block of memory that is asked for again at the end of turns.
 //!
 //! The C library (glibc) joins its small free blocks where it is asked for 1,024 bytes or more (`malloc_consolidate`), and then sorts what
-//! it has joined, until it meets a block of just the size that is asked for. So each turn in which garbage is freed has it join what its
-//! own step freed, and one of a few others what their requests did; and no request pays for many. A block of the size of one that was
-//! freed before would be met at once, and all else left for a request to sort. So each is of another size than the last two.
+//! it has joined, until it meets a block of just the size that is asked for. So each turn before or after which garbage is left has it
+//! join what its own step freed, and one of a few others what their requests did; and no request pays for many. A block of the size of
+//! one that was freed before would be met at once, and all else left for a request to sort. So each is of another size than the last two.
 ghost use Rattle.std.specs.Prelude.{◌≡◌, ◌-◌, ◌≤◌, IfSome, cond, true, vec_capacity};
 ghost use Rattle.event_loop.specs.Spares.{asks_again, size_behind};
 ghost use Rattle.event_loop.specs.declared.spare.TheConstants.{SPARE_MIN, SPARE_TURNS};
@@ -19,7 +19,7 @@ pub(crate) const SPARE_MAX: usize = 4_088;
 /// How far the sizes are apart.
 pub(crate) const SPARE_STEP: usize = 1_024;
 
-/// Of so many turns in which no garbage is freed one asks for a block.
+/// Of so many turns before and after which no garbage is left one asks for a block.
 pub(crate) const SPARE_TURNS: u8 = 8;
 
 /// The block that was asked for last, if it was given, and its size.
@@ -54,17 +54,17 @@ impl Spare {
         }
     }
 
-    /// A turn ends. Where garbage is freed, or `SPARE_TURNS` turns have passed, it asks for a block in place of the last, of another size.
-    /// A refusal changes nothing.
-    pub(crate) fn end_turn(&mut self, alloc: Global, frees_garbage: bool)
+    /// A turn ends. Where garbage was left before it or is after it, or none was asked for in `SPARE_TURNS - 1` turns, it asks for a block
+    /// in place of the last, of another size. A refusal changes nothing.
+    pub(crate) fn end_turn(&mut self, alloc: Global, garbage_left: bool)
         ensures size { self.new.size
-            ≡ cond (asks_again frees_garbage self.old.rests) (size_behind self.old.size) self.old.size }
+            ≡ cond (asks_again garbage_left self.old.rests) (size_behind self.old.size) self.old.size }
         ensures rests { self.new.rests
-            ≡ cond (asks_again frees_garbage self.old.rests) (SPARE_TURNS - 1) (self.old.rests - 1) }
-        ensures block { asks_again frees_garbage self.old.rests ≡ true
+            ≡ cond (asks_again garbage_left self.old.rests) (SPARE_TURNS - 1) (self.old.rests - 1) }
+        ensures block { asks_again garbage_left self.old.rests ≡ true
             → IfSome self.new.block (λ b. self.new.size ≤ vec_capacity b) }
     {
-        if !frees_garbage && self.rests > 0 {
+        if !garbage_left && self.rests > 0 {
             self.rests -= 1;
             return;
         }

@@ -1,5 +1,5 @@
 //! Numbers of which most are found at once.
-ghost use Rattle.std.specs.Prelude.{◌≡◌, ◌<◌};
+ghost use Rattle.std.specs.Prelude.{◌≡◌, ◌<◌, ◌%◌};
 ghost use Rattle.sorted_pages.specs.Held.{is_among};
 
 use crate::held::FREE;
@@ -29,7 +29,8 @@ impl<'a> Model for NumberSet<'a> {
 
 // Where a number stands, unless a later one that shares the place has taken it.
 fn home_of(number: u64) -> usize
-    ensures { result < PLACES }
+    ensures home { result ≡ number % PLACES }
+    ensures place { result < PLACES }
 {
     (number % PLACES as u64) as usize
 }

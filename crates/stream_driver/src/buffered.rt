@@ -200,7 +200,7 @@ impl<S: Stream> BufferedStream<S> {
         }
     }
 
-    // One write of what is buffered.
+    // One write of what is buffered. It stands by itself, so that `flush` is small, and costs no call where nothing is buffered.
     #[inline(never)]
     fn write_buffered<D: Sectors>(&mut self, device: &D) -> WriteAnswer
         requires { buffered_in self.old.buffered ≢ [] }

@@ -180,7 +180,7 @@ fn disconnect<D: Sectors>(hub: &mut Hub<D>, s: u64) -> Progress
     Progress::Gone
 }
 
-// As `drive`, with a buffer for what is read.
+// As `drive`, with a buffer for what is read. It stands by itself, so that what is asked of each entry of a table costs no call.
 #[inline(never)]
 pub(crate) fn drive_over<D: Sectors, S: Stream>(
     hub: &mut Hub<D>,

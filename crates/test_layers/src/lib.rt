@@ -15,6 +15,8 @@ mod log;
 #[cfg(test)]
 mod long_use;
 #[cfg(test)]
+mod numbers;
+#[cfg(test)]
 mod page_counts;
 #[cfg(test)]
 mod pages;

@@ -1,5 +1,5 @@
 //! For which active numbers all garbage is collected.
-ghost use Rattle.std.specs.Prelude.{◌≡◌, ◌&&◌, true, nat_le, if◌then◌else◌, length, Some, None};
+ghost use Rattle.std.specs.Prelude.{◌≡◌, ◌↔◌, ◌&&◌, true, nat_le, if◌then◌else◌, length, Some, None};
 ghost use Rattle.sorted_pages.specs.declared.held.TheConstants.{HELD_MAX};
 
 use sorted_pages::HELD_MAX;
@@ -38,7 +38,7 @@ impl CollectedFor {
 
     // Is it for these?
     pub(crate) fn is_for(&self, begins: &[u64]) -> bool
-        ensures { result ≡ true → self.now ≡ Some begins.now }
+        ensures { (result ≡ true) ↔ (self.now ≡ Some begins.now) }
     {
         self.count <= HELD_MAX && begins == &self.numbers[..self.count]
     }
