@@ -1,6 +1,6 @@
 -- What each kind of call does to the states that an engine stands for.
 use Rattle.std.proofs.Common.{◌≡◌, ◌<◌, ◌≤◌, ◌↔◌, ℕ, Bool, true, false, T, List, [], ◌∷◌, ◌++◌, Option, Some, None}
-use Rattle.std.proofs.Common.{refl, sym, ap, subst, ◌∙◌, length, arith, ◌||◌}
+use Rattle.std.proofs.Common.{refl, sym, ap, subst, ◌∙◌, length, arith, ◌||◌, ◌⊎◌, inl, inr}
 use Rattle.std.proofs.lemmas.Bool.{le-leb, lt-ltb, le-ltb, or_left, iff_false, false_from_ne_true}
 use Rattle.std.proofs.lemmas.Bool.Decides.{nat_tests}
 use Rattle.std.proofs.lemmas.Cmp.{nat_cmp_total}
@@ -9,7 +9,7 @@ use Rattle.std.proofs.lemmas.Map.Steps.{set_value_same}
 use Rattle.std.proofs.lemmas.Slice.Zip.{AllZip-long}
 use Rattle.std.specs.BTreeMap.{insert_entry, is_at}
 use Rattle.std.specs.FinMap.Entries.{put, where_key, is_sorted, is_sorted-put, is_sorted-where_key}
-use Rattle.std.specs.Map.{set_value}
+use Rattle.std.specs.Map.{lookup, set_value}
 use Rattle.std.specs.Ordering.{nat_cmp}
 use Rattle.std.specs.Prelude.{nat_le, not, ◌==◌, IsTrue, IsFalse, is_some}
 use Rattle.model.proofs.Steps.{copy_after-push}
@@ -34,6 +34,7 @@ use Rattle.pivot_check.specs.FewKept.{KeepsLittle}
 use Rattle.engine.proofs.Sessions.{IsFound, beside_none, beside_some, beside_insert, beside_remove, beside_set}
 use Rattle.engine.proofs.Sessions.{beside_weaker}
 use Rattle.engine.proofs.Steps.{step_is, reached_by, reached_next, reached_map}
+use Rattle.engine.specs.Begins.{AreGathered, begins_of}
 use Rattle.engine.specs.Changes.{entry_of, IsSameStore, EndsTransaction}
 use Rattle.engine.specs.HistoryValue.{HistoryValue, HistoryStandsFor}
 use Rattle.engine.specs.Meaning.{StandsForSame, IsNotRefused, Leads}
@@ -60,7 +61,35 @@ first_run m = record { begin = last m; requests = []; replies = [] }
 pub running_if : (b c : Bool) → (IsTrue b ↔ (c ≡ true)) → b ≡ false → c ≡ false
 running_if b c h e = false_from_ne_true c (iff_false h e)
 
+-- ---- the begin numbers that were gathered
+
+pub gathered_none : (bs : Option (List ℕ)) (es : List (ℕ × View)) → bs ≡ None → AreGathered bs es
+gathered_none bs es none = rw none tt
+
+pub gathered_same : (bs bs' : Option (List ℕ)) (es es' : List (ℕ × View)) → bs' ≡ bs → es' ≡ es → AreGathered bs es → AreGathered bs' es'
+gathered_same bs bs' es es' begins entries h = rw (begins, entries) h
+
+-- a transaction of which another is made with the same begin number
+begins_set : (s : ℕ) (es : List (ℕ × View)) (t t' : View) → lookup (is_at (nat_cmp s)) es ≡ Some t → t'.begin ≡ t.begin
+    → begins_of (set_value (is_at (nat_cmp s)) es t') ≡ begins_of es
+begins_set s [] t t' some same = refl
+begins_set s (e ∷ es) t t' some same = grind (arith, common_steps, begins_set s es t t')
+
+gathered_set : (bs bs' : Option (List ℕ)) (es es' : List (ℕ × View)) (s : ℕ) (t t' : View) → bs' ≡ bs → es' ≡ set_value (is_at (nat_cmp s)) es t'
+    → lookup (is_at (nat_cmp s)) es ≡ Some t → t'.begin ≡ t.begin → AreGathered bs es → AreGathered bs' es'
+gathered_set None bs' es es' s t t' begins entries some same h = rw begins tt
+gathered_set (Some ns) bs' es es' s t t' begins entries some same h = rw (begins, entries) (h ∙ sym (begins_set s es t t' some same))
+
 module _ {D : Type 0} {g : Ghosts D} where
+  -- the begin numbers that were gathered stay, or are forgotten
+  abbrev pub KeepsBegins : Engine D g → Engine D g → Type 0
+  KeepsBegins e e' = (e'.begins ≡ e.begins) ⊎ (e'.begins ≡ None)
+
+  gathered_kept : (e e' : Engine D g) → e'.running.entries ≡ e.running.entries → KeepsBegins e e' → AreGathered e.begins e.running.entries
+      → AreGathered e'.begins e'.running.entries
+  gathered_kept e e' entries (inl same) h = gathered_same _ _ _ _ same entries h
+  gathered_kept e e' entries (inr none) h = gathered_none _ _ none
+
   abbrev pub Active : (e : Engine D g) (m : State) → StandsFor e m → View → Running → Type 0
   Active e m h t r = IsRunning e.history.committed.facts h.active m.base m.history t r
 
@@ -68,17 +97,21 @@ module _ {D : Type 0} {g : Ghosts D} where
   stands_with : (e e' : Engine D g) (m : State) (es : List (ℕ × View)) (rs : List (ℕ × Running)) (active : ℕ → Bool) → IsSameStore e e' → StandsFor e m
       → IsReached (record m { running = rs })
       → HistoryStandsFor e.history active m.base m.history → e'.running.entries ≡ es → AreRunning e.history.committed.facts active m.base m.history es rs
-      → T (is_sorted nat_cmp rs)
-      → length e'.running.entries ≤ 64 → StandsFor e' (record m { running = rs })
-  stands_with e e' m es rs active same h reached history entries running sorted few = grind (arith, common_steps)
+      → T (is_sorted nat_cmp rs) → length e'.running.entries ≤ 64 → AreGathered e'.begins e'.running.entries → StandsFor e' (record m { running = rs })
+  stands_with e e' m es rs active same h reached history entries running sorted few gathered = grind (arith, common_steps)
 
   -- the same open transactions
-  represents_same : (e e' : Engine D g) (m : State) → IsSameStore e e' → e'.running.entries ≡ e.running.entries → Represents e m → Represents e' m
-  represents_same e e' m same entries h = grind (arith, common_steps)
+  represents_same : (e e' : Engine D g) (m : State) → IsSameStore e e' → e'.running.entries ≡ e.running.entries → AreGathered e'.begins e'.running.entries
+      → Represents e m → Represents e' m
+  represents_same e e' m same entries gathered h = grind (arith, common_steps)
 
-  pub same_states : (e e' : Engine D g) → IsSameStore e e' → e'.running.entries ≡ e.running.entries → StandsForSame e e'
-  same_states e e' same entries = (
-    λ m. (represents_same e e' m same entries, represents_same e' e m (record { log = sym same.log; history = sym same.history }) (sym entries)),
+  pub same_states : (e e' : Engine D g) → IsSameStore e e' → e'.running.entries ≡ e.running.entries → e'.begins ≡ e.begins → StandsForSame e e'
+  same_states e e' same entries begins = (
+    λ m. (
+      (λ h. represents_same e e' m same entries (gathered_same _ _ _ _ begins entries h.gathered) h),
+      (λ h. represents_same e' e m (record { log = sym same.log; history = sym same.history }) (sym entries)
+          (gathered_same _ _ _ _ (sym begins) (sym entries) h.gathered) h),
+    ),
     subst (λ (v : HistoryValue). KeepsLittle v.committed) (sym same.history),
   )
 
@@ -86,8 +119,11 @@ module _ {D : Type 0} {g : Ghosts D} where
   pub stands_still : (e e' : Engine D g) → StandsForSame e e' → (m : State) → StandsFor e m → StandsFor e' m
   stands_still e e' same m h = record { state = (same.0 m).0 h.state; little = same.1 h.little }
 
-  stands_same : (e e' : Engine D g) (m : State) → IsSameStore e e' → e'.running.entries ≡ e.running.entries → StandsFor e m → StandsFor e' m
-  stands_same e e' m same entries = stands_still e e' (same_states e e' same entries) m
+  stands_same : (e e' : Engine D g) (m : State) → IsSameStore e e' → e'.running.entries ≡ e.running.entries → KeepsBegins e e' → StandsFor e m → StandsFor e' m
+  stands_same e e' m same entries begins h = record {
+    state = represents_same e e' m same entries (gathered_kept e e' entries begins h.gathered) h.state;
+    little = subst (λ (v : HistoryValue). KeepsLittle v.committed) (sym same.history) h.little;
+  }
 
   pub not_open : (e : Engine D g) (m : State) (s : ℕ) → StandsFor e m → entry_of s e ≡ None → running_of m s ≡ None
   not_open e m s h none = beside_none (Active e m h) s e.running.entries m.running h.running none
@@ -99,20 +135,20 @@ module _ {D : Type 0} {g : Ghosts D} where
 
   -- a request that is refused, and changes nothing
   pub refused_outside : (e e' : Engine D g) (s : ℕ) (q : Operation) (failed : Bool) (refusal : Refusal) → IsSameStore e e'
-      → e'.running.entries ≡ e.running.entries → entry_of s e ≡ None
+      → e'.running.entries ≡ e.running.entries → KeepsBegins e e' → entry_of s e ≡ None
       → ((m : State) → StandsFor e m → step_outside m s q ≡ (m, Refused refusal)) → Leads e e' s q failed (Some (Refused refusal))
-  refused_outside e e' s q failed refusal same entries none says m h =
+  refused_outside e e' s q failed refusal same entries begins none says m h =
       let is : step m s q failed ≡ (m, Refused refusal) = step_is m s q failed None (not_open e m s h none) ∙ says m h in
-      (m, stands_same e e' m same entries h, is)
+      (m, stands_same e e' m same entries begins h, is)
 
   pub begin_stopped : (e : Engine D g) (s : ℕ) → entry_of s e ≡ None → is_log_stopped e.log ≡ true → Leads e e s Begin false (Some (Refused StoreStopped))
   begin_stopped e s none stopped =
-      refused_outside e e s Begin false StoreStopped (record { log = refl; history = refl }) refl none (λ m h. rw (h.stopped ∙ stopped) refl)
+      refused_outside e e s Begin false StoreStopped (record { log = refl; history = refl }) refl (inl refl) none (λ m h. rw (h.stopped ∙ stopped) refl)
 
   pub begin_full : (e : Engine D g) (s : ℕ) → entry_of s e ≡ None → is_log_stopped e.log ≡ false → 64 ≤ length e.running.entries
       → Leads e e s Begin false (Some (Refused FullTransactions))
   begin_full e s none stopped full =
-      refused_outside e e s Begin false FullTransactions (record { log = refl; history = refl }) refl none
+      refused_outside e e s Begin false FullTransactions (record { log = refl; history = refl }) refl (inl refl) none
       (λ m h. let many : length m.running
       ≡ length e.running.entries = AllZip-long _ _ _ h.running in rw (h.stopped ∙ stopped, le-ltb (length m.running) 64 (omega arith)) refl)
 
@@ -128,8 +164,8 @@ module _ {D : Type 0} {g : Ghosts D} where
   pub begin_call : (e e' : Engine D g) (s : ℕ) → HoldingLaw → ((m : KeyMap) → IsMap m → HasMade (new_view e.history.committed.facts.last) m [])
       → IsSameStore e e' → entry_of s e ≡ None → is_log_stopped e.log ≡ false → length e.running.entries < 64
       → e'.running.entries ≡ insert_entry nat_cmp e.running.entries s (new_view e.history.committed.facts.last) → length e'.running.entries ≤ 64
-      → Leads e e' s Begin false (Some Done)
-  begin_call e e' s holding fresh same none stopped few entries few_after m h =
+      → e'.begins ≡ None → Leads e e' s Begin false (Some Done)
+  begin_call e e' s holding fresh same none stopped few entries few_after forgets m h =
       let run = first_run m in
       let facts = e.history.committed.facts in
       let is = begins e m s h none stopped few in
@@ -148,14 +184,18 @@ module _ {D : Type 0} {g : Ghosts D} where
       let others = beside_weaker (Active e m h) (λ t r. IsRunning facts active m.base m.history t r) wider e.running.entries m.running h.running in
       let running = beside_insert (λ t r. IsRunning facts active m.base m.history t r) s (new_view facts.last) run e.running.entries m.running others new in
       let sorted = is_sorted-put nat_cmp nat_cmp_total s run m.running h.sorted in
-      let reached = reached_by m s Begin false _ is h.reached in
-      (with_running m s run, stands_with e e' m _ (put nat_cmp s run m.running) active same h reached history entries running sorted few_after, is)
+      let reached = reached_by m s Begin false _ is h.reached in (
+        with_running m s run,
+        stands_with e e' m _ (put nat_cmp s run m.running) active same h reached history entries running sorted few_after
+            (gathered_none _ _ forgets),
+        is,
+      )
 
   -- memory was refused where there is room
-  pub begin_memory : (e e' : Engine D g) (s : ℕ) → IsSameStore e e' → e'.running.entries ≡ e.running.entries → entry_of s e ≡ None
+  pub begin_memory : (e e' : Engine D g) (s : ℕ) → IsSameStore e e' → e'.running.entries ≡ e.running.entries → e'.begins ≡ e.begins → entry_of s e ≡ None
       → is_log_stopped e.log ≡ false → length e.running.entries < 64 → StandsForSame e e' × IsNotRefused e s Begin
-  begin_memory e e' s same entries none stopped few =
-      (same_states e e' same entries, λ m h. ap (λ (p : State × Response). is_refused p.1) (begins e m s h none stopped few))
+  begin_memory e e' s same entries numbers none stopped few =
+      (same_states e e' same entries numbers, λ m h. ap (λ (p : State × Response). is_refused p.1) (begins e m s h none stopped few))
 
   -- ---- own requests
 
@@ -173,9 +213,9 @@ module _ {D : Type 0} {g : Ghosts D} where
   own_answered : (e e' : Engine D g) (s : ℕ) (q : Operation) (failed : Bool) (t t' : View) (response : Response)
       → ((m : State) (r : Running) → step_inside m s r q failed ≡ own_step m s r q)
       → IsSameStore e e' → entry_of s e ≡ Some t → e'.running.entries ≡ set_value (is_at (nat_cmp s)) e.running.entries t'
-      → length e'.running.entries ≡ length e.running.entries
+      → length e'.running.entries ≡ length e.running.entries → e'.begins ≡ e.begins
       → t'.begin ≡ t.begin → Answered e t t' q (Some response) → Leads e e' s q failed (Some response)
-  own_answered e e' s q failed t t' response own same some entries long begin answered m h =
+  own_answered e e' s q failed t t' response own same some entries long begins begin answered m h =
       let f = found_open e m s t h some in
       let is : step m s q failed ≡ own_step m s f.run q = step_is m s q failed _ f.is ∙ own m f.run in
       let run : Running = record { begin = f.run.begin; requests = f.run.requests ++ q ∷ []; replies = f.run.replies ++ (own_step m s f.run q).1 ∷ [] } in
@@ -185,24 +225,24 @@ module _ {D : Type 0} {g : Ghosts D} where
       let sorted = is_sorted-put nat_cmp nat_cmp_total s run m.running h.sorted in
       let reached = reached_by m s q failed _ is h.reached in
       let stands = stands_with e e' m _ (put nat_cmp s run m.running) h.active same h reached h.history entries running sorted
-      (subst (λ n. n ≤ 64) (sym long) h.few_open) in
+      (subst (λ n. n ≤ 64) (sym long) h.few_open) (gathered_set e.begins _ e.running.entries _ s t t' begins entries some begin h.gathered) in
       (with_running m s run, stands, is ∙ ap (λ x. (with_running m s run, x)) made.0)
 
   -- a request of the session's own transaction
   pub own_call : (e e' : Engine D g) (s : ℕ) (q : Operation) (failed : Bool) (t t' : View) (o : Option Response)
       → ((b : Bool) (m : State) (r : Running) → step_inside m s r q b ≡ own_step m s r q)
       → IsSameStore e e' → entry_of s e ≡ Some t → e'.running.entries ≡ set_value (is_at (nat_cmp s)) e.running.entries t'
-      → length e'.running.entries ≡ length e.running.entries
+      → length e'.running.entries ≡ length e.running.entries → e'.begins ≡ e.begins
       → t'.begin ≡ t.begin → Answered e t t' q o → Leads e e' s q failed o
-  own_call e e' s q failed t t' None own same some entries long begin answered = (
-    same_states e e' same (entries ∙ set_value_same (is_at (nat_cmp s)) e.running.entries t' (some ∙ ap Some (sym answered.0))),
+  own_call e e' s q failed t t' None own same some entries long begins begin answered = (
+    same_states e e' same (entries ∙ set_value_same (is_at (nat_cmp s)) e.running.entries t' (some ∙ ap Some (sym answered.0))) begins,
     λ m h.
         let f = found_open e m s t h some in
         ap (λ (p : State × Response). is_refused p.1) (step_is m s q false _ f.is ∙ own false m f.run)
         ∙ answered.1 (snapshot m f.run) f.run.requests (map_is e m t f.run h f.same) f.same.made,
   )
-  own_call e e' s q failed t t' (Some response) own same some entries long begin answered =
-      own_answered e e' s q failed t t' response (own failed) same some entries long begin answered
+  own_call e e' s q failed t t' (Some response) own same some entries long begins begin answered =
+      own_answered e e' s q failed t t' response (own failed) same some entries long begins begin answered
 
   -- one that changes nothing, in an engine that stays
   pub own_same : (e : Engine D g) (s : ℕ) (q : Operation) (failed : Bool) (t : View) (response : Response)
@@ -210,7 +250,7 @@ module _ {D : Type 0} {g : Ghosts D} where
       → entry_of s e ≡ Some t → WhereMade t (λ m qs. (answer m qs q ≡ response) × HasMade t m (qs ++ q ∷ [])) → Leads e e s q failed (Some response)
   own_same e s q failed t response own some answered =
       own_answered e e s q failed t t response own (record { log = refl; history = refl }) some
-      (sym (set_value_same (is_at (nat_cmp s)) e.running.entries t some)) refl refl (λ m qs seen made. answered m qs made)
+      (sym (set_value_same (is_at (nat_cmp s)) e.running.entries t some)) refl refl refl (λ m qs seen made. answered m qs made)
 
   -- BEGIN inside a transaction
   pub begin_inside : (e : Engine D g) (s : ℕ) (t : View) → entry_of s e ≡ Some t → Leads e e s Begin false (Some (Refused AlreadyOpen))
@@ -233,8 +273,7 @@ module _ {D : Type 0} {g : Ghosts D} where
       let sorted = is_sorted-where_key nat_cmp (λ x. not (x == s)) m.running h.sorted in
       let few = h.few_open in let fewer = leaves.fewer in
       stands_with e e' m _ (where_key nat_cmp (λ x. not (x == s)) m.running) h.active leaves.store h (reached_next m (Quits s) h.reached) h.history
-      leaves.entries
-      running sorted (omega (arith, few, fewer))
+      leaves.entries running sorted (omega (arith, few, fewer)) (gathered_none _ _ leaves.forgets)
 
   pub abort_call : (e e' : Engine D g) (s : ℕ) (t : View) → entry_of s e ≡ Some t → EndsTransaction e e' s → Leads e e' s Abort false (Some Done)
   abort_call e e' s t some leaves m h =

@@ -5,7 +5,7 @@ use Rattle.std.proofs.Common.{Some, None, refl, sym, ap, subst, ◌∙◌, lengt
 use Rattle.std.proofs.lemmas.Bool.{lt-ltb, le-ltb, eq-eqb, ne_eqb, and_parts, or_left, or_right, both_ways}
 use Rattle.std.proofs.lemmas.Grind.{common_steps}
 use Rattle.std.proofs.lemmas.Option.{get_or_from_slice_get}
-use Rattle.std.specs.Prelude.{◌&&◌, slice_index_or, Err, nat_le}
+use Rattle.std.specs.Prelude.{◌&&◌, slice_index_or, Err, nat_le, IfSome}
 use Rattle.model.proofs.Lookups.{some_same}
 use Rattle.model.proofs.Machines.{map_at-append}
 use Rattle.model.specs.History.{Record}
@@ -35,10 +35,11 @@ use Rattle.pivot_check.specs.Kept.{Facts, CommittedValue, IsInReach, may_ask}
 use Rattle.pivot_check.specs.StandsFor.{IsRecordOf, IsVerdict, IsClear, IsCleared, StandForSame}
 use Rattle.pivot_check.specs.StandsFor.{StandsFor as CommittedStandsFor}
 use Rattle.pivot_check.specs.declared.verdict.Cleared.{Cleared}
-use Rattle.engine.proofs.Calls.{Active, found_open, leave_call}
+use Rattle.engine.proofs.Calls.{Active, found_open, gathered_same, leave_call}
 use Rattle.engine.proofs.Sessions.{IsFound, beside_weaker}
-use Rattle.engine.proofs.Reclaims.{begins_ask, begins_of, running_among}
+use Rattle.engine.proofs.Reclaims.{begins_ask, running_among}
 use Rattle.engine.proofs.Steps.{step_is, reached_by, store_full, store_fault, store_joined, map_at_next}
+use Rattle.engine.specs.Begins.{AreGathered, begins_of}
 use Rattle.engine.specs.Changes.{entry_of, EndsTransaction, WritesSomething, HasLogRoom, IsLogged, IsLogStopped}
 use Rattle.engine.specs.Changes.{sectors_taken, AddsOneAtMost}
 use Rattle.engine.specs.HistoryValue.{HistoryValue, IsSameHistory, Joins}
@@ -118,11 +119,11 @@ runs_beside old new active base history same t r is =
 
 module _ {D : Type 0} {g : Ghosts D} where
   -- only memory was made ready
-  same_with : (e e' : Engine D g) (m : State) → e'.log ≡ e.log → e'.running.entries ≡ e.running.entries
+  same_with : (e e' : Engine D g) (m : State) → e'.log ≡ e.log → e'.running.entries ≡ e.running.entries → e'.begins ≡ e.begins
       → StandForSame e.history.committed.facts e'.history.committed.facts
       → ((active : ℕ → Bool) (base : KeyMap) (history : List Record) → VersionsStandFor e.history.versions active base history
       → VersionsStandFor e'.history.versions active base history) → Represents e m → Represents e' m
-  same_with e e' m log entries same stands h =
+  same_with e e' m log entries begins same stands h =
       let stopped : is_log_stopped e'.log ≡ is_log_stopped e.log = ap (λ (l : Log D g). is_log_stopped l) log in
       let used : used_sectors e'.log ≡ used_sectors e.log = ap (λ (l : Log D g). used_sectors l) log in
       let count : sector_count e'.log ≡ sector_count e.log = ap (λ (l : Log D g). sector_count l) log in
@@ -145,6 +146,7 @@ module _ {D : Type 0} {g : Ghosts D} where
         running = subst (λ (es : List (ℕ × View)). AreRunning e'.history.committed.facts h.active m.base m.history es m.running) (sym entries) running;
         sorted = h.sorted;
         few_open = subst (λ (es : List (ℕ × View)). length es ≤ 64) (sym entries) h.few_open;
+        gathered = gathered_same _ _ _ _ begins entries h.gathered;
       }
 
   -- ---- a commit that is refused, and ends the transaction
@@ -243,9 +245,10 @@ module _ {D : Type 0} {g : Ghosts D} where
       → (m : State) → StandsFor e m → StandsFor (record e' { log = e.log }) (leave m s)
   left_by e e' log history s same leaves m h =
       leave_call (record e { history = history }) (record e' { log = e.log }) s
-      (record { store = record { log = refl; history = leaves.store.history }; entries = leaves.entries; fewer = leaves.fewer }) m
+      (record { store = record { log = refl; history = leaves.store.history }; entries = leaves.entries; fewer = leaves.fewer; forgets = leaves.forgets }) m
       (record {
-        state = same_with e (record e { history = history }) m refl refl same.committed (λ active base history. (same.stands active base history).0) h.state;
+        state = same_with e (record e { history = history }) m refl refl refl same.committed
+            (λ active base history. (same.stands active base history).0) h.state;
         little = same.little h.little;
       })
 
@@ -280,10 +283,11 @@ module _ {D : Type 0} {g : Ghosts D} where
 
   -- memory was refused where nothing else was
   pub commit_memory : (e e' : Engine D g) (s : ℕ) (t : View) → IsToCommit e s t
-      → e'.log ≡ e.log → e'.running.entries ≡ e.running.entries → IsSameHistory e.history e'.history → StandsForSame e e' × IsNotRefused e s Commit
-  commit_memory e e' s t j log entries same =
-      let there = λ (m : State). same_with e e' m log entries same.committed (λ active base history. (same.stands active base history).0) in
-      let back = λ (m : State). same_with e' e m (sym log) (sym entries) (stand_back _ _ same.committed)
+      → e'.log ≡ e.log → e'.running.entries ≡ e.running.entries → e'.begins ≡ e.begins → IsSameHistory e.history e'.history
+      → StandsForSame e e' × IsNotRefused e s Commit
+  commit_memory e e' s t j log entries begins same =
+      let there = λ (m : State). same_with e e' m log entries begins same.committed (λ active base history. (same.stands active base history).0) in
+      let back = λ (m : State). same_with e' e m (sym log) (sym entries) (sym begins) (stand_back _ _ same.committed)
       (λ active base history. (same.stands active base history).1) in (
         (λ m. (there m, back m), same.little),
         λ m h. ap (λ (p : State × Response). is_refused p.1) (step_joined e s t false j (λ _. refl) m h (found_open e m s t h j.asked.entry)),
@@ -296,15 +300,16 @@ module _ {D : Type 0} {g : Ghosts D} where
       map_at_next m.base m.history (record_to_commit m at.run) h.history.committed.numbered refl
       ∙ ap (after_writes (committed_map m)) (own_record e m t at.run h j.made at.same).writes
 
-  pub joined : (e e' : Engine D g) (log : Log D g) (history new : HistoryValue) (s : ℕ) (t u : View) (failed : Bool) (n : ℕ) → IsToCommit e s t
+  pub joined : (e e' : Engine D g) (log : Log D g) (history new : HistoryValue) (now : Option (List ℕ)) (bs : List ℕ) (s : ℕ)
+      (t u : View) (failed : Bool) (n : ℕ) → IsToCommit e s t
       → IsLogged e.log log t.writes
       → (g.keeps_model → WhereStored e.log (λ map. IsStored log (after_writes map t.writes))) → IsSameHistory e.history history
       → EndsTransaction (record e { log = log; history = history }) e' s
       → Some u ≡ entry_of s e → new.committed.facts.last ≡ e'.history.committed.facts.last + 1
-      → (length e'.running.entries ≤ 64 → Joins (begins_of e'.running.entries) e'.history new u)
+      → (length e'.running.entries ≤ 64 → now ≡ Some (begins_of e'.running.entries)) → IfSome now (λ ns. bs ≡ ns) → Joins bs e'.history new u
       → (WritesSomething t.writes → failed ≡ false) → n ≡ e'.history.committed.facts.last + 1
-      → Leads e (record e' { history = new }) s Commit failed (Some (Number n))
-  joined e e' log history new s t u failed n j logged stored same leaves taken last' joins quiet number m h =
+      → Leads e (record e' { history = new; begins = now }) s Commit failed (Some (Number n))
+  joined e e' log history new now bs s t u failed n j logged stored same leaves taken last' gathers numbers joins quiet number m h =
       let at = found_open e m s t h j.asked.entry in
       let r : Record = record_to_commit m at.run in
       let join : State × Response = join_history m s r (sectors_taken t.writes) in
@@ -321,7 +326,9 @@ module _ {D : Type 0} {g : Ghosts D} where
       let long : length (m.history ++ r ∷ []) ≡ length m.history + 1 = length-append m.history (r ∷ []) in
       let counted : suc (length m.history) ≡ n = omega arith in
       let begins = begins_of e'.running.entries in
-      let join' = joins left.few_open in
+      let gathered : AreGathered now e'.running.entries = rw (gathers left.few_open) refl in
+      let are : bs ≡ begins = subst (λ (o : Option (List ℕ)). IfSome o (λ ns. bs ≡ ns)) (gathers left.few_open) numbers in
+      let join' = subst (λ ns. Joins ns e'.history new u) are joins in
       let active : ℕ → Bool = λ k. left.active k && is_among begins k in
       let later : (v : View) (x : Running) → IsRunning e'.history.committed.facts active m.base m.history v x
       → IsRunning new.committed.facts active m.base (m.history ++ r ∷ []) v x =

@@ -1,15 +1,12 @@
 -- What a reclaim leaves of an engine: what it stands for, and what it keeps.
 use Rattle.std.proofs.Common.{◌≡◌, ◌≤◌, ◌&&◌, ℕ, Bool, true, List, [], ◌∷◌, refl, ap, sym, subst, ◌∙◌, length}
-use Rattle.std.proofs.Common.{arith, map}
+use Rattle.std.proofs.Common.{arith, map, Option, Some}
 use Rattle.std.proofs.lemmas.Bool.{or_left, or_right, and_from, eq-eqb}
 use Rattle.std.proofs.lemmas.Bool.Decides.{nat_tests}
 use Rattle.std.proofs.lemmas.Grind.{common_steps}
-use Rattle.std.proofs.lemmas.List.{nil_from_length}
 use Rattle.std.proofs.lemmas.List.Elements.{All-from_recursion, recursion_from_All}
-use Rattle.std.specs.BTreeMap.{values}
 use Rattle.std.specs.List.{AllByRecursion}
-use Rattle.std.specs.Map.{values_of}
-use Rattle.std.specs.Prelude.{max, nat_le, ◌==◌, IsTrue}
+use Rattle.std.specs.Prelude.{max, nat_le, ◌==◌, IsTrue, IfSome}
 use Rattle.model.specs.History.{Record}
 use Rattle.model.specs.Machine.{State, Running}
 use Rattle.model.specs.Map.{KeyMap}
@@ -18,19 +15,17 @@ use Rattle.versions.specs.Chains.{ChainsValue}
 use Rattle.versions.specs.Meaning.{is_among, is_known}
 use Rattle.snapshot.specs.View.{View}
 use Rattle.pivot_check.specs.Kept.{Facts, HasForgotten, may_ask}
+use Rattle.engine.specs.Begins.{AreGathered, begins_of}
 use Rattle.engine.specs.HistoryValue.{HistoryValue, KeepsActive, LeavesLittle}
 use Rattle.engine.specs.Least.{IsLeast}
 use Rattle.engine.specs.Meaning.{open_begins, HasForgottenOld}
 use Rattle.engine.specs.StandsFor.{StandsFor, AreRunning}
 use Rattle.engine.specs.declared.engine.Engine.{Engine}
 
-abbrev pub begins_of : List (ℕ × View) → List ℕ
-begins_of es = map (λ t. t.begin) (values_of es)
-
 module _ (facts : Facts) (active : ℕ → Bool) (base : KeyMap) (history : List Record) where
   still_running : (facts' : Facts) (bs : List ℕ) (oldest : ℕ) → facts'.last ≡ facts.last → facts'.oldest ≡ max facts.oldest oldest
       → facts'.reach ≡ record { begins = bs; since = facts.last } → (es : List (ℕ × View)) (rs : List (ℕ × Running))
-      → AllByRecursion (λ t. oldest ≤ t.begin) (values_of es)
+      → AllByRecursion (λ n. oldest ≤ n) (begins_of es)
       → ((n : ℕ) → is_among (begins_of es) n ≡ true → is_among bs n ≡ true) → AreRunning facts active base history es rs
       → AreRunning facts' (λ n. active n && is_among bs n) base history es rs
   still_running facts' bs oldest l o a [] [] low among h = tt
@@ -79,48 +74,51 @@ module _ (facts : Facts) (active : ℕ → Bool) (base : KeyMap) (history : List
   begins_known v known (e ∷ es) (r ∷ rs) h = (known r.1.begin h.0.1.is_active, begins_known v known es rs h.1)
 
   begins_low : (n : ℕ) (es : List (ℕ × View)) (rs : List (ℕ × Running)) → AreRunning facts active base history es rs → AllByRecursion (λ r. n ≤ r.1.begin) rs
-      → AllByRecursion (λ t. n ≤ t.begin) (values_of es)
+      → AllByRecursion (λ k. n ≤ k) (begins_of es)
   begins_low n [] [] h low = tt
   begins_low n (e ∷ es) (r ∷ rs) h low = (subst (λ k. n ≤ k) (sym h.0.1.begin) low.0, begins_low n es rs h.1 low.1)
   begins_low n es rs h low = absurd h
 
-module _ {D : Type 0} {g : Ghosts D} (e : Engine D g) (new : HistoryValue) (oldest : ℕ) (bs : List ℕ)
-    (least : IsLeast (λ t. t.begin) e.history.committed.facts.last (values e.running) oldest)
-    (numbers : length e.running.entries ≤ 64 → bs ≡ begins_of e.running.entries) where
+-- the numbers that were gathered, before or now, are those of the open transactions
+pub gathered_now : (bs : List ℕ) (old now : Option (List ℕ)) (es : List (ℕ × View)) → (AreGathered old es → length es ≤ 64 → now ≡ Some (begins_of es))
+    → IfSome now (λ ns. bs ≡ ns) → AreGathered old es → length es ≤ 64 → bs ≡ begins_of es
+gathered_now bs old now es gathers numbers gathered few = subst (λ (o : Option (List ℕ)). IfSome o (λ ns. bs ≡ ns)) (gathers gathered few) numbers
+
+module _ {D : Type 0} {g : Ghosts D} (e : Engine D g) (new : HistoryValue) (now : Option (List ℕ)) (bs : List ℕ) (oldest : ℕ)
+    (gathers : AreGathered e.begins e.running.entries → length e.running.entries ≤ 64 → now ≡ Some (begins_of e.running.entries))
+    (numbers : IfSome now (λ ns. bs ≡ ns)) (least : IsLeast (λ n. n) e.history.committed.facts.last bs oldest) where
+  begins_are : (m : State) → StandsFor e m → bs ≡ begins_of e.running.entries
+  begins_are m h = gathered_now bs e.begins now e.running.entries gathers numbers h.gathered h.few_open
+
   pub reclaimed_stands : KeepsActive e.history new bs → new.committed.facts.last ≡ e.history.committed.facts.last
       → new.committed.facts.oldest ≡ max e.history.committed.facts.oldest oldest
       → new.committed.facts.reach ≡ record { begins = bs; since = e.history.committed.facts.last } → LeavesLittle e.history new bs → (m : State) → StandsFor e m
-      → StandsFor (record e { history = new }) m
+      → StandsFor (record e { history = new; begins = now }) m
   reclaimed_stands stands l o a few m h =
       let is = h.history.committed.last in let kept = h.kept in let below = least.below_last in
-      let ask = subst (λ ns. AllByRecursion (λ b. may_ask e.history.committed.facts.reach b ≡ true) ns) (sym (numbers h.few_open))
+      let same = begins_are m h in
+      let ask = subst (λ ns. AllByRecursion (λ b. may_ask e.history.committed.facts.reach b ≡ true) ns) (sym same)
       (begins_ask e.history.committed.facts h.active m.base m.history e.running.entries m.running h.running) in
       let after = stands h.active m.base m.history h.history ask in
       let little = few ask h.little in
+      let low = subst (AllByRecursion (λ n. oldest ≤ n)) same (recursion_from_All (λ n. oldest ≤ n) bs least.below) in
       let running = still_running e.history.committed.facts h.active m.base m.history new.committed.facts bs oldest l o a e.running.entries m.running
-      (recursion_from_All (λ t. oldest ≤ t.begin) (values e.running) least.below) (λ n t. subst (λ ns. is_among ns n ≡ true) (sym (numbers h.few_open)) t)
-      h.running in
+      low (λ n t. subst (λ ns. is_among ns n ≡ true) (sym same) t) h.running in
+      let gathered : AreGathered now e.running.entries = rw (gathers h.gathered h.few_open) refl in
       grind (arith, common_steps)
 
   pub numbers_are : (m : State) → StandsFor e m → bs ≡ open_begins m
-  numbers_are m h = numbers h.few_open ∙ begins_same e.history.committed.facts h.active m.base m.history e.running.entries m.running h.running
+  numbers_are m h = begins_are m h ∙ begins_same e.history.committed.facts h.active m.base m.history e.running.entries m.running h.running
 
   pub are_active : (m : State) → (h : StandsFor e m) → (n : ℕ) → is_among bs n ≡ true → h.active n ≡ true
   are_active m h n t = begins_active e.history.committed.facts h.active m.base m.history e.running.entries m.running h.running n
-      (subst (λ ns. is_among ns n ≡ true) (numbers h.few_open) t)
+      (subst (λ ns. is_among ns n ≡ true) (begins_are m h) t)
 
   pub none_below : (m : State) → StandsFor e m → (facts : Facts) → HasForgotten oldest facts → HasForgottenOld m facts
   none_below m h facts forgotten n low each =
       let is = h.history.committed.last in
-      let below : n ≤ oldest =
-      least.greatest n (omega (arith, is))
-      (All-from_recursion (λ t. n
-      ≤ t.begin) (values e.running) (begins_low e.history.committed.facts h.active m.base m.history n e.running.entries m.running h.running each)) in
+      let each_begin = begins_low e.history.committed.facts h.active m.base m.history n e.running.entries m.running h.running each in
+      let below : n ≤ oldest = least.greatest n (omega (arith, is))
+      (All-from_recursion (λ k. n ≤ k) bs (subst (AllByRecursion (λ k. n ≤ k)) (sym (begins_are m h)) each_begin)) in
       let upto = forgotten.upto in
       record { upto = omega arith; readers = λ k some. (let above = forgotten.readers k some in omega arith) }
-
--- where none is open, the last commit is the oldest that is needed
-pub none_open : {D : Type 0} {g : Ghosts D} (e : Engine D g) → length e.running.entries ≡ 0
-    → IsLeast (λ t. t.begin) e.history.committed.facts.last (values e.running) e.history.committed.facts.last × ([] ≡ begins_of e.running.entries)
-none_open e none =
-    rw (nil_from_length e.running.entries none) (record { below_last = omega arith; below = λ k d lt. absurd (omega (arith, lt)); greatest = λ k l a. l }, refl)

@@ -2,7 +2,7 @@
 use Rattle.std.specs.BTreeMap.{is_at}
 use Rattle.std.specs.Map.{lookup, remove_entry}
 use Rattle.std.specs.Ordering.{nat_cmp}
-use Rattle.std.specs.Prelude.{◌≡◌, ℕ, ◌+◌, ◌<◌, ◌≤◌, true, false, List, [], ◌∷◌, length, Option}
+use Rattle.std.specs.Prelude.{◌≡◌, ℕ, ◌+◌, ◌<◌, ◌≤◌, true, false, List, [], ◌∷◌, length, Option, None}
 use Rattle.model.specs.Machine.{body_sectors}
 use Rattle.model.specs.Map.{KeyWrite}
 use Rattle.sector.specs.Counts.{Rose, Stayed}
@@ -27,6 +27,7 @@ pub record EndsTransaction {D : Type 0} {g : Ghosts D} (e e' : Engine D g) (s : 
   pub store : IsSameStore e e'
   pub entries : e'.running.entries ≡ remove_entry (is_at (nat_cmp s)) e.running.entries
   pub fewer : length e'.running.entries ≤ length e.running.entries
+  pub forgets : e'.begins ≡ None
 
 -- how many sectors a commit of these writes takes in the log: none where nothing was written
 abbrev pub sectors_taken : List KeyWrite → ℕ

@@ -1,6 +1,7 @@
 -- The definitions of the engine.
 pub mod Faults
 pub mod Least
+pub mod Begins
 pub mod HistoryValue
 pub mod Recovery
 pub mod StandsFor

@@ -12,6 +12,7 @@ use Rattle.snapshot.specs.Made.{HasMade}
 use Rattle.snapshot.specs.View.{View}
 use Rattle.pivot_check.specs.FewKept.{KeepsLittle}
 use Rattle.pivot_check.specs.Kept.{Facts, IsInReach}
+use Rattle.engine.specs.Begins.{AreGathered}
 use Rattle.engine.specs.HistoryValue.{HistoryStandsFor}
 use Rattle.engine.specs.Recovery.{IsStored, IsInDoubt, committed_map}
 use Rattle.engine.specs.declared.engine.Engine.{Engine}
@@ -47,6 +48,7 @@ pub record Represents {D : Type 0} {g : Ghosts D} (e : Engine D g) (m : State) :
   pub running : AreRunning e.history.committed.facts active m.base m.history e.running.entries m.running
   pub sorted : T (is_sorted nat_cmp m.running)
   pub few_open : length e.running.entries ≤ 64
+  pub gathered : AreGathered e.begins e.running.entries
 
 -- it stands for the state where it also keeps little
 pub record StandsFor {D : Type 0} {g : Ghosts D} (e : Engine D g) (m : State) : Type 0 where

@@ -66,7 +66,8 @@ impl<D: Sectors> Engine<D> {
             Err(AppendFault::Device) => return Err(self.refuse(s, Refusal::StoreFault)),
         }
         let ended = self.end(s);
-        Ok(self.history.join(ended, cleared, &self.running))
+        self.begins.gather(&self.running);
+        Ok(self.history.join(ended, cleared, self.begins.numbers()))
     }
 
     // Ends the session's transaction.
@@ -75,6 +76,7 @@ impl<D: Sectors> Engine<D> {
         ensures taken { Some result ≡ entry_of s self.old }
         ensures leaves { EndsTransaction self.old self.new s }
     {
+        self.begins.forget();
         let Some(transaction) = self.running.remove(&s) else {
             unreachable!()
         };
@@ -86,6 +88,7 @@ impl<D: Sectors> Engine<D> {
         ensures refusal { result ≡ EngineFault.Refused refusal }
         ensures leaves { EndsTransaction self.old self.new s }
     {
+        self.begins.forget();
         self.running.remove(&s);
         EngineFault::Refused(refusal)
     }

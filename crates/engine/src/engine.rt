@@ -1,9 +1,9 @@
 //! The engine: all its calls but opening, GET, RANGE and COMMIT, which have files of their own.
 ghost use Rattle.model.specs.Bounds.{value_max};
 
+use crate::begins::{Begins, least_of};
 use crate::faults::EngineFault;
 use crate::history::History;
-use crate::reclaiming::{Gathered, gather_begins};
 use commit_log::Log;
 use model::{KeyRef, Refusal, law_machine_is_serializable};
 use pivot_check::law_few_kept;
@@ -28,6 +28,7 @@ pub struct Engine<D: Sectors> {
     pub(crate) log: Log<D>,
     pub(crate) history: History,
     pub(crate) running: BTreeMap<u64, Transaction>,
+    pub(crate) begins: Begins,
     pub(crate) alloc: Global,
     /// How many pages its ranges have looked at.
     pub(crate) pages_looked_at: u64,
@@ -72,6 +73,7 @@ impl<D: Sectors> Engine<D> {
         law_numbers_change();
         let last = self.history.committed().last();
         self.running.insert(s, Transaction::new(self.alloc, last))?;
+        self.begins.forget();
         Ok(())
     }
 
@@ -119,6 +121,7 @@ impl<D: Sectors> Engine<D> {
         ensures leaves { (m : State) → StandsFor self.old m → StandsFor self.new (leave m s) }
         ensures log { log_of self.new ≡ log_of self.old }
     {
+        self.begins.forget();
         match self.running.remove(&s) {
             Some(_transaction) => Ok(()),
             None => Err(EngineFault::Refused(Refusal::NotOpen)),
@@ -184,13 +187,10 @@ impl<D: Sectors> Engine<D> {
         ensures forgotten { (m : State) → StandsFor self.old m → HasForgottenOld m (facts_of self.new) }
         ensures kept { result ≡ false → KeepsNoneUpto (facts_of self.new).oldest (facts_of self.new) }
     {
-        let last = self.history.committed().last();
-        if self.running.is_empty() {
-            return self.history.reclaim_step(&[], last);
-        }
-        let mut numbers = [0; OPEN_MAX];
-        let Gathered { count, oldest } = gather_begins(&self.running, last, &mut numbers);
-        self.history.reclaim_step(&numbers[..count], oldest)
+        self.begins.gather(&self.running);
+        let begins = self.begins.numbers();
+        let oldest = least_of(begins, self.history.committed().last());
+        self.history.reclaim_step(begins, oldest)
     }
 
     /// Drops what no open transaction needs: what was kept of transactions that were committed when each open one began, and the versions
@@ -206,10 +206,10 @@ impl<D: Sectors> Engine<D> {
         ensures forgotten { (m : State) → StandsFor self.old m → HasForgottenOld m (facts_of self.new) }
         ensures kept { KeepsNoneUpto (facts_of self.new).oldest (facts_of self.new) }
     {
-        let last = self.history.committed().last();
-        let mut numbers = [0; OPEN_MAX];
-        let Gathered { count, oldest } = gather_begins(&self.running, last, &mut numbers);
-        self.history.reclaim(&numbers[..count], oldest);
+        self.begins.gather(&self.running);
+        let begins = self.begins.numbers();
+        let oldest = least_of(begins, self.history.committed().last());
+        self.history.reclaim(begins, oldest);
     }
 
     /// Has the device failed in a commit? Nothing can begin or commit any more.
@@ -285,6 +285,7 @@ impl<D: Sectors> Engine<D> {
             log,
             history: _,
             running: _,
+            begins: _,
             alloc: _,
             pages_looked_at: _,
         } = self;

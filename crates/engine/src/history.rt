@@ -1,6 +1,5 @@
 //! What has committed: the versions of each key, and what later commits are checked against.
-ghost use Rattle.std.specs.Prelude.{◌≡◌, ◌+◌, ◌<◌, ◌≤◌, false, true, [], length, map, IfOk, OnOk};
-ghost use Rattle.std.specs.BTreeMap.{values};
+ghost use Rattle.std.specs.Prelude.{◌≡◌, ◌+◌, ◌<◌, ◌≤◌, false, true, [], length, IfOk, OnOk};
 ghost use Rattle.model.specs.Map.{IsInBounds};
 ghost use Rattle.versions.specs.Meaning.{IsReclaimed, IsReclaimedInPart};
 ghost use Rattle.pivot_check.specs.FewKept.{KeepsLittle};
@@ -11,13 +10,10 @@ ghost use Rattle.engine.specs.declared.validating.TheConstants.{LAST_MAX};
 ghost use Rattle.engine.specs.HistoryValue.{HistoryStandsFor, IsNumbered, IsSameHistory, IsReady, Joins, Reclaims};
 ghost use Rattle.engine.specs.HistoryValue.{is_garbage};
 
-use crate::engine::OPEN_MAX;
-use crate::reclaiming::{Gathered, gather_begins};
 use model::{Map, Memory};
 use pivot_check::{Cleared, Committed};
 use snapshot::Transaction;
 use std::alloc::Global;
-use std::collections::BTreeMap;
 use std::marker::Model;
 use versions::{Versions, law_numbers_change, law_read_only_record_follows};
 
@@ -75,31 +71,24 @@ impl History {
         self.committed.reserve(transaction)
     }
 
-    /// Takes the transaction, which was cleared, in as the next commit, in the memory that was made for it, and answers its number. From
-    /// then on merges drop what none of the others, which are open, asks for. Takes no memory.
-    pub(crate) fn join(
-        &mut self,
-        transaction: Transaction,
-        cleared: Cleared,
-        others: &BTreeMap<u64, Transaction>,
-    ) -> u64
+    /// Takes the transaction, which was cleared, in as the next commit, in the memory that was made for it, and answers its number. The
+    /// others are the numbers at which those that are open began: from then on merges drop what none of them asks for. Takes no memory.
+    pub(crate) fn join(&mut self, transaction: Transaction, cleared: Cleared, others: &[u64]) -> u64
         requires ready { IsReady self.old transaction }
         requires cleared { IsCleared self.old.committed.facts transaction cleared }
         requires last { self.old.committed.facts.last < LAST_MAX }
+        requires few { length others.now ≤ OPEN_MAX }
         ensures numbered { IsNumbered result self.old self.new }
-        ensures joins { length others.now.entries ≤ OPEN_MAX
-            → Joins (map (λ t. t.begin) (values others.now)) self.old self.new transaction }
+        ensures joins { Joins others.now self.old self.new transaction }
     {
         let number = self.committed.last() + 1;
         self.committed.note(&transaction, number, cleared);
-        let mut numbers = [0; OPEN_MAX];
-        let Gathered { count, oldest: _ } = gather_begins(others, number, &mut numbers);
-        self.committed.keep_active(&numbers[..count]);
+        self.committed.keep_active(others);
         let writes = transaction.into_writes();
         law_numbers_change();
         law_read_only_record_follows();
         if !writes.is_empty() {
-            self.versions.keep_active(&numbers[..count]);
+            self.versions.keep_active(others);
             self.versions.install(number, writes);
         }
         number

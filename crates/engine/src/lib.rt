@@ -1,13 +1,13 @@
 //! The storage engine: open transactions over one store. Each call is a step of the machine in `model`.
 #![tactic(auto)]
 
+mod begins;
 mod commits;
 mod engine;
 mod faults;
 mod history;
 mod opening;
 mod reads;
-mod reclaiming;
 mod records;
 mod validating;
 

@@ -1,4 +1,5 @@
 //! Opens a store: recovers its map from the log on a device.
+use crate::begins::Begins;
 use crate::engine::Engine;
 use crate::history::History;
 use commit_log::{Log, LogFault, Unopened};
@@ -40,6 +41,7 @@ impl<D: Sectors> Engine<D> {
                 log,
                 history,
                 running: BTreeMap::new(alloc),
+                begins: Begins::none(),
                 alloc,
                 pages_looked_at: 0,
             }),

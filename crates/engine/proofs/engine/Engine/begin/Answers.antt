@@ -33,12 +33,12 @@ returns-clause-step g c =
     (is_some_absent _ (sym c.contains_key.ensures ∙ c.if-contains_key.false)) (running_if _ _ c.is_stopped.ensures c.if-is_stopped.false)
     (omega (arith, c.len.ensures.len))
     (c.in_ok-insert.ensures.entries
-    ∙ ap (insert_entry nat_cmp c.args.self.now.running.entries c.args.s) is) (grind (arith, c.in_ok-insert.ensures.len, c.len.ensures.len))
+    ∙ ap (insert_entry nat_cmp c.args.self.now.running.entries c.args.s) is) (grind (arith, c.in_ok-insert.ensures.len, c.len.ensures.len)) c.forget.ensures
 
 pub returns-in_err-insert-clause-step : goal.returns-in_err-insert-clause-step
 returns-in_err-insert-clause-step g c =
     let p = err_from_is_err_and c.from_residual.result c.from_residual.ensures.1 in
     rw (p.1, p.2)
-    (begin_memory c.args.self.now _ c.args.s (record { log = refl; history = refl }) c.in_err-insert.ensures.err
+    (begin_memory c.args.self.now _ c.args.s (record { log = refl; history = refl }) c.in_err-insert.ensures.err refl
     (is_some_absent _ (sym c.contains_key.ensures ∙ c.if-contains_key.false))
     (running_if _ _ c.is_stopped.ensures c.if-is_stopped.false) (omega (arith, c.len.ensures.len)))

@@ -1,17 +1,18 @@
 use Rattle.engine.proofs.engine.Engine.commit.Goals as goal
-use Rattle.std.proofs.Common.{refl, sym, ap, ◌∙◌, Err}
+use Rattle.std.proofs.Common.{inl, refl, sym, ap, ◌∙◌, Err}
 use Rattle.model.specs.Operations.Operation.{Commit}
 use Rattle.model.specs.Operations.Response.{Number}
 use Rattle.model.specs.declared.refusals.Refusal.TheVariants.{NotOpen}
 use Rattle.commit_log.specs.LogState.{log_device}
-use Rattle.engine.proofs.Calls.{refused_outside}
+use Rattle.engine.proofs.Calls.{gathered_none, refused_outside}
 use Rattle.engine.proofs.Committing.{cleared_still, ended_refused, ended_overwritten, ended_fault, joined, risen}
 use Rattle.engine.proofs.Committing.{not_risen, commit_memory, unwritten, crash_stored, added_faulty, added_once}
 use Rattle.engine.specs.Meaning.{device_of}
 
 pub returns-in_default-clause-step : goal.returns-in_default-clause-step
 returns-in_default-clause-step g c =
-    refused_outside c.args.self.now _ c.args.s Commit _ NotOpen (record { log = refl; history = refl }) refl (sym c.in_default.ensures.value) (λ m h. refl)
+    refused_outside c.args.self.now _ c.args.s Commit _ NotOpen (record { log = refl; history = refl }) refl (inl refl)
+    (sym c.in_default.ensures.value) (λ m h. refl)
 
 pub returns-in-Refused-clause-step : goal.returns-in-Refused-clause-step
 returns-in-Refused-clause-step g c =
@@ -28,7 +29,7 @@ returns-in-Overwritten-clause-step g c =
 pub returns-in-Err-Memory-clause-step : goal.returns-in-Err-Memory-clause-step
 returns-in-Err-Memory-clause-step g c =
     let j = (c.in-Clear.ensures c.args.self.now c.args.s refl refl (sym c.in-Some.ensures.value)).0 in
-    commit_memory c.args.self.now _ c.args.s c.in-Some.transaction.now j (c.in-Err-Memory.ensures.fails.unchanged (ap Err c.in-Err-Memory.field-0-is)) refl
+    commit_memory c.args.self.now _ c.args.s c.in-Some.transaction.now j (c.in-Err-Memory.ensures.fails.unchanged (ap Err c.in-Err-Memory.field-0-is)) refl refl
     c.reserve_and_append.ensures.same
 
 pub returns-in-Err-Device-clause-step : goal.returns-in-Err-Device-clause-step
@@ -67,10 +68,11 @@ pub returns-clause-step : goal.returns-clause-step
 returns-clause-step g c =
     let j = (c.in-Clear.ensures c.args.self.now c.args.s refl refl (sym c.in-Some.ensures.value)).0 in
     let leaves = c.end-ended.ensures.leaves in
-    joined c.args.self.now c.end-ended.new.self c.reserve_and_append.new.log c.reserve_and_append.new.history c.join.new.self c.args.s _ c.end-ended.result _ _
-    j
+    joined c.args.self.now c.end-ended.new.self c.reserve_and_append.new.log c.reserve_and_append.new.history c.join.new.self c.gather.new.self
+    c.numbers.result.now c.args.s _ c.end-ended.result _ _ j
     c.in-Ok.ensures.logged c.in-Ok.ensures.stored c.reserve_and_append.ensures.same leaves
-    c.end-ended.ensures.taken c.join.ensures.numbered.last c.join.ensures.joins
+    c.end-ended.ensures.taken c.join.ensures.numbered.last (c.gather.ensures (gathered_none _ _ leaves.forgets)) c.numbers.ensures.gathered
+    c.join.ensures.joins
     (λ some. rw leaves.store.log (not_risen _ _ (c.in-Ok.ensures.logged.no_fault some))) c.join.ensures.numbered.number
 
 pub returns-clause-appends : goal.returns-clause-appends

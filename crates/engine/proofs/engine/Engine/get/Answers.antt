@@ -1,5 +1,5 @@
 use Rattle.engine.proofs.engine.Engine.get.Goals as goal
-use Rattle.std.proofs.Common.{refl, sym, ap, Some}
+use Rattle.std.proofs.Common.{inl, refl, sym, ap, Some}
 use Rattle.std.specs.Prelude.{option_copied}
 use Rattle.model.specs.Operations.Operation.{Get}
 use Rattle.model.specs.Operations.Response.{Value}
@@ -22,7 +22,7 @@ returns-in-Ok g c =
         λ _. tt,
         (
           own_call e _ c.args.s (Get c.args.key.bytes.now) _ t _ (Some (Value (option_copied c.in-Ok.value))) (λ b m r. refl)
-              (record { log = refl; history = refl }) (sym c.in-Some.ensures.value) active.0 active.2 begin answered,
+              (record { log = refl; history = refl }) (sym c.in-Some.ensures.value) active.0 active.2 refl begin answered,
           refl,
         ),
       ),
@@ -42,7 +42,7 @@ returns-in-Err g c =
         λ _. tt,
         (
           own_call e _ c.args.s (Get c.args.key.bytes.now) _ t _ _ (λ b m r. refl) (record { log = refl; history = refl })
-              (sym c.in-Some.ensures.value) active.0 active.2 (ap (λ (u : View). u.begin) is) answered,
+              (sym c.in-Some.ensures.value) active.0 active.2 refl (ap (λ (u : View). u.begin) is) answered,
           refl,
         ),
       ),
@@ -60,7 +60,7 @@ returns-in-None g c = (
     λ _. tt,
     (
       refused_outside c.args.self.now _ c.args.s (Get c.args.key.bytes.now) _ NotOpen (record { log = refl; history = refl })
-          (ap (λ n. n.entries) c.get_mut.follows.holds-at-none) (sym c.in-None.ensures.value) (λ m h. refl),
+          (ap (λ n. n.entries) c.get_mut.follows.holds-at-none) (inl refl) (sym c.in-None.ensures.value) (λ m h. refl),
       refl,
     ),
   ),

@@ -1,5 +1,5 @@
 use Rattle.engine.proofs.engine.Engine.range.Goals as goal
-use Rattle.std.proofs.Common.{refl, sym, ap, Some}
+use Rattle.std.proofs.Common.{inl, refl, sym, ap, Some}
 use Rattle.model.specs.Operations.Response.{Pairs}
 use Rattle.model.specs.declared.refusals.Refusal.TheVariants.{NotOpen}
 use Rattle.snapshot.specs.Made.{range_read}
@@ -24,7 +24,7 @@ returns-in-Ok g c =
         λ _. tt,
         (
           own_call e _ c.args.s q _ t _ (Some (Pairs (row_pairs c.in-Ok.rows))) (λ b m r. refl) (record { log = refl; history = refl })
-              (sym c.in-Some.ensures.value) active.0 active.2 begin answered,
+              (sym c.in-Some.ensures.value) active.0 active.2 refl begin answered,
           refl,
           refl,
         ),
@@ -47,7 +47,7 @@ returns-in-Err g c =
         λ _. tt,
         (
           own_call e _ c.args.s q _ t _ _ (λ b m r. refl) (record { log = refl; history = refl }) (sym c.in-Some.ensures.value) active.0 active.2
-              (ap (λ (u : View). u.begin) is) answered,
+              refl (ap (λ (u : View). u.begin) is) answered,
           refl,
           refl,
         ),
@@ -68,7 +68,7 @@ returns-in-None g c = (
     λ _. tt,
     (
       refused_outside c.args.self.now _ c.args.s (range_read c.args.range c.args.limit) _ NotOpen (record { log = refl; history = refl })
-          (ap (λ n. n.entries) c.get_mut.follows.holds-at-none) (sym c.in-None.ensures.value) (λ m h. refl),
+          (ap (λ n. n.entries) c.get_mut.follows.holds-at-none) (inl refl) (sym c.in-None.ensures.value) (λ m h. refl),
       refl,
       refl,
     ),

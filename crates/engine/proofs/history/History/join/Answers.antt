@@ -1,17 +1,15 @@
 use Rattle.engine.proofs.history.History.join.Goals as goal
-use Rattle.std.proofs.Common.{◌≡◌, ℕ, ◌+◌, ◌≤◌, Bool, true, List, [], ◌∷◌, ◌++◌, ap, sym, subst, ◌∙◌, length, arith}
-use Rattle.std.proofs.Common.{take}
+use Rattle.std.proofs.Common.{◌≡◌, ℕ, ◌+◌, Bool, true, List, [], ◌∷◌, ◌++◌, ap, sym, subst, ◌∙◌, length, arith}
 use Rattle.std.proofs.lemmas.Bool.{and_parts, or_left}
 use Rattle.std.proofs.lemmas.Bool.Decides.{nat_tests}
-use Rattle.std.proofs.lemmas.List.{length-take, nil_from_length}
-use Rattle.std.specs.BTreeMap.{values}
+use Rattle.std.proofs.lemmas.List.{nil_from_length}
 use Rattle.std.specs.List.{AllByRecursion}
-use Rattle.std.specs.Prelude.{◌==◌, ◌&&◌, ◌||◌, map, nat_le, IsTrue}
+use Rattle.std.specs.Prelude.{◌==◌, ◌&&◌, ◌||◌, nat_le, IsTrue}
 use Rattle.model.specs.History.{Record}
 use Rattle.model.specs.Map.{KeyMap, KeyWrite}
 use Rattle.versions.specs.Chains.{ChainsValue, IsPrepared}
 use Rattle.versions.specs.Meaning.{is_among}
-use Rattle.versions.specs.StandsFor.{AreHeldWhereKnown, StandWhereAmong, StandsFor as VersionsStandFor}
+use Rattle.versions.specs.StandsFor.{AreHeldWhereKnown, StandsFor as VersionsStandFor}
 use Rattle.snapshot.specs.View.{View}
 use Rattle.pivot_check.specs.FewKept.{KeepsLittle}
 use Rattle.pivot_check.specs.Kept.{CommittedValue, Facts, IsInReach, KeepsReach, asked_from, may_ask}
@@ -72,17 +70,13 @@ empty_is : (xs : List KeyWrite) (n : ℕ) (b : Bool) → b ≡ (n == 0) → n �
 empty_is xs n b e long t = nil_from_length xs (grind (arith, nat_tests))
 
 pub returns-then-not-is_empty-clause-joins : goal.returns-then-not-is_empty-clause-joins
-returns-then-not-is_empty-clause-joins c = λ few.
-    let bs = map (λ (t : View). t.begin) (values c.args.others.now) in
-    let begins = c.gather_begins-count.ensures.numbers few in
-    let taken = c.gather_begins-count.result.count in
-    let short : length (take taken c.gather_begins-count.new.numbers) ≤ 64 =
-    omega (arith, length-take taken c.gather_begins-count.new.numbers, c.gather_begins-count.ensures.count) in
+returns-then-not-is_empty-clause-joins c =
+    let bs = c.args.others.now in
     let held_now = c.keep_active-then-not-is_empty.new.self in
     let calls = c.keep_active-then-not-is_empty.ensures in
-    let kept = subst (λ ns. StandWhereAmong ns c.self.inside.versions held_now) begins (calls.stands short) in
-    let held = subst (λ ns. AreHeldWhereKnown ns c.self.inside.versions held_now) begins (calls.held short) in
-    let asked = ap (λ (v : CommittedValue). v.facts) c.keep_active.ensures.asked ∙ ap (λ ns. asked_from ns c.note.new.self.facts) begins in
+    let kept = calls.stands c.requires.few in
+    let held = calls.held c.requires.few in
+    let asked = ap (λ (v : CommittedValue). v.facts) c.keep_active.ensures.asked in
     let new : HistoryValue = record { versions = c.install.new.self; committed = c.keep_active.new.self } in
     subst (λ (v : HistoryValue). Joins bs v new c.args.transaction) c.self.view_is
     (next_joined bs _ _ c.args.transaction c.into_writes-writes.result.items (c.last-number.result + 1) c.note.new.self.facts
@@ -90,19 +84,16 @@ returns-then-not-is_empty-clause-joins c = λ few.
     (λ active base history r s long commit is. c.install.ensures.stands (λ n. active n && is_among bs n) base history r
     (kept active base history s) (held_still bs c.self.inside.versions held_now active base history held s) long commit is)
     c.note.ensures.stands_for
-    (subst (λ ns. AllByRecursion (λ b. may_ask c.note.new.self.facts.reach b ≡ true) ns → (h : List Record) → CommittedStandsFor c.note.new.self.facts h
-    → CommittedStandsFor c.keep_active.new.self.facts h) begins c.keep_active.ensures.stands_for)
+    c.keep_active.ensures.stands_for
     (little_joined bs c.self.inside.committed c.note.new.self c.keep_active.new.self c.note.ensures.numbered.reach c.note.ensures.little
-    (subst (λ ns. AllByRecursion (λ b. may_ask c.note.new.self.facts.reach b ≡ true) ns → KeepsLittle c.note.new.self
-    → KeepsLittle c.keep_active.new.self) begins c.keep_active.ensures.little)))
+    c.keep_active.ensures.little))
 
 pub returns-else-not-is_empty-clause-joins : goal.returns-else-not-is_empty-clause-joins
-returns-else-not-is_empty-clause-joins c = λ few.
-    let bs = map (λ (t : View). t.begin) (values c.args.others.now) in
-    let begins = c.gather_begins-count.ensures.numbers few in
+returns-else-not-is_empty-clause-joins c =
+    let bs = c.args.others.now in
     let writes = c.into_writes-writes.result in
     let none = empty_is writes.items writes.len c.is_empty.result c.is_empty.ensures writes.ok.0 c.if-not-is_empty.false in
-    let asked = ap (λ (v : CommittedValue). v.facts) c.keep_active.ensures.asked ∙ ap (λ ns. asked_from ns c.note.new.self.facts) begins in
+    let asked = ap (λ (v : CommittedValue). v.facts) c.keep_active.ensures.asked in
     let new : HistoryValue = record { versions = c.self.inside.versions; committed = c.keep_active.new.self } in
     subst (λ (v : HistoryValue). Joins bs v new c.args.transaction) c.self.view_is
     (next_joined bs _ _ c.args.transaction c.into_writes-writes.result.items (c.last-number.result + 1) c.note.new.self.facts
@@ -110,8 +101,6 @@ returns-else-not-is_empty-clause-joins c = λ few.
     (λ active base history r s long commit is. c.law_read_only_record_follows.ensures c.self.inside.versions (λ n. active n && is_among bs n) base history r
     (is ∙ none) (fewer bs c.self.inside.versions active base history (c.law_numbers_change.ensures c.self.inside.versions) s))
     c.note.ensures.stands_for
-    (subst (λ ns. AllByRecursion (λ b. may_ask c.note.new.self.facts.reach b ≡ true) ns → (h : List Record) → CommittedStandsFor c.note.new.self.facts h
-    → CommittedStandsFor c.keep_active.new.self.facts h) begins c.keep_active.ensures.stands_for)
+    c.keep_active.ensures.stands_for
     (little_joined bs c.self.inside.committed c.note.new.self c.keep_active.new.self c.note.ensures.numbered.reach c.note.ensures.little
-    (subst (λ ns. AllByRecursion (λ b. may_ask c.note.new.self.facts.reach b ≡ true) ns → KeepsLittle c.note.new.self
-    → KeepsLittle c.keep_active.new.self) begins c.keep_active.ensures.little)))
+    c.keep_active.ensures.little))
